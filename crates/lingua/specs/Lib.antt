@@ -1,0 +1,9 @@
+pub mod Numbers
+pub mod Errors
+pub mod Outcome
+pub mod Body
+pub mod Value
+pub mod Operation
+pub mod Compute
+pub mod Expression
+pub mod Evaluation

@@ -1,0 +1,115 @@
+-- The numbers of document 01, each named once. Assumes nothing: these are definitions.
+use Prim.Native.Nat.{ℕ}
+use lib.IntN.{ℤ, pos, negsuc}
+
+-- ---- ranges of simple values
+abbrev pub lowest-number : ℤ
+lowest-number = negsuc 999999
+
+abbrev pub highest-number : ℤ
+highest-number = pos 1000000
+
+abbrev pub word-length : ℕ
+word-length = 8
+
+abbrev pub lowest-character : ℕ
+lowest-character = 32
+
+abbrev pub highest-character : ℕ
+highest-character = 126
+
+abbrev pub list-places : ℕ
+list-places = 8
+
+-- ---- bounds of bodies
+abbrev pub body-cells : ℕ
+body-cells = 64
+
+abbrev pub body-nodes : ℕ
+body-nodes = 32
+
+abbrev pub body-depth : ℕ
+body-depth = 4
+
+abbrev pub record-attributes : ℕ
+record-attributes = 8
+
+-- attributes are numbered below this
+abbrev pub attribute-numbers : ℕ
+attribute-numbers = 64
+
+-- ---- tables and the caller's buffers
+abbrev pub most-variables : ℕ
+most-variables = 16
+
+abbrev pub most-types : ℕ
+most-types = 32
+
+abbrev pub most-expressions : ℕ
+most-expressions = 512
+
+abbrev pub most-instructions : ℕ
+most-instructions = 256
+
+abbrev pub most-limits : ℕ
+most-limits = 16
+
+abbrev pub most-readings : ℕ
+most-readings = 16
+
+-- document 01: cells, marks, sheet
+abbrev pub cells-length : ℕ
+cells-length = 1024
+
+abbrev pub states-length : ℕ
+states-length = 32
+
+abbrev pub layout-length : ℕ
+layout-length = 1024
+
+-- ---- files
+abbrev pub row-bytes : ℕ
+row-bytes = 10
+
+abbrev pub block-bytes : ℕ
+block-bytes = 512
+
+abbrev pub block-rows : ℕ
+block-rows = 50
+
+-- the bytes before a block's rows, and those of its rows
+abbrev pub header-bytes : ℕ
+header-bytes = 8
+
+abbrev pub area-bytes : ℕ
+area-bytes = 500
+
+-- the 32-bit words that a block's check goes over, and where it stands
+abbrev pub checked-words : ℕ
+checked-words = 127
+
+abbrev pub check-place : ℕ
+check-place = 508
+
+abbrev pub most-blocks : ℕ
+most-blocks = 17
+
+-- the reader's buffer: 832 rows
+abbrev pub rows-length : ℕ
+rows-length = 8320
+
+-- ---- places (document 01: place)
+-- a reading's is this and its index
+abbrev pub reading-place : ℕ
+reading-place = 256
+
+-- in the type check: an instruction's, and a declaration's
+abbrev pub instruction-place : ℕ
+instruction-place = 512
+
+abbrev pub declaration-place : ℕ
+declaration-place = 768
+
+-- ---- the report
+abbrev pub report-budget : ℕ
+report-budget = 1000

@@ -1,0 +1,76 @@
+-- The operations of expression kinds 5 to 23 but and, or, if, and their half on bodies: the operands' bodies give the
+-- result's body, or the lowest type error that applies (document 01, Evaluation). Assumes nothing: these are definitions.
+use mathlib.Core.Bool.{Bool, true, false, not, _&&_}
+use Prim.Native.Nat.{ℕ}
+use Rattle.lingua.specs.Errors.{number-expected, boolean-expected, word-expected, list-expected, record-expected, no-such-attribute, attribute-present, no-coherence, not-comparable, body-too-large}
+use Rattle.lingua.specs.Outcome.{Outcome, ok, fail, Result, _>>=_, _>>_, require, orFail, isSome}
+use Rattle.lingua.specs.Body.{Body, boolean, number, word, list-of, record-of, Attributes, end, attribute, sameBody, isBoolean, isNumber, isWord, isSimple, elementBody, attributesOf, attributeBody, insertAttribute, tooLarge}
+
+-- of one operand: kinds 14, 16, 18, 20, 22, 23; a record's operations name an attribute
+pub data Unary : Type 0 where
+  negation : Unary
+  make-record : ℕ → Unary
+  select : ℕ → Unary
+  make-list top pop : Unary
+
+-- of two operands: kinds 5 to 10, 13, 17, 19, 21
+pub data Binary : Type 0 where
+  add subtract multiply divide less equal glue : Binary
+  expand : ℕ → Binary
+  change : ℕ → Binary
+  push : Binary
+
+-- a body within its bounds
+unfoldable pub bounded : Body → Result Body
+bounded b = do
+  require (not (tooLarge b)) body-too-large
+  ok b
+
+unfoldable pub present : ℕ → Attributes → Bool
+present n fs = isSome (attributeBody n fs)
+
+unfoldable pub unaryBody : Unary → Body → Result Body
+unaryBody negation b = do
+  require (isBoolean b) boolean-expected
+  ok boolean
+unaryBody (make-record n) b = bounded (record-of (attribute n b end))
+unaryBody (select n) b = do
+  fs ← orFail (attributesOf b) record-expected
+  orFail (attributeBody n fs) no-such-attribute
+unaryBody make-list b = bounded (list-of b)
+unaryBody top b = orFail (elementBody b) list-expected
+unaryBody pop b = do
+  e ← orFail (elementBody b) list-expected
+  ok b
+
+-- two numbers
+unfoldable pub numbersTo : Body → Body → Body → Result Body
+numbersTo d b c = do
+  require (isNumber b && isNumber c) number-expected
+  ok d
+
+unfoldable pub binaryBody : Binary → Body → Body → Result Body
+binaryBody add b c = numbersTo number b c
+binaryBody subtract b c = numbersTo number b c
+binaryBody multiply b c = numbersTo number b c
+binaryBody divide b c = numbersTo number b c
+binaryBody less b c = numbersTo boolean b c
+binaryBody equal b c = do
+  require (isSimple b && sameBody b c) not-comparable
+  ok boolean
+binaryBody glue b c = do
+  require (isWord b && isWord c) word-expected
+  ok word
+binaryBody (expand n) b c = do
+  fs ← orFail (attributesOf b) record-expected
+  require (not (present n fs)) attribute-present
+  bounded (record-of (insertAttribute n c fs))
+binaryBody (change n) b c = do
+  fs ← orFail (attributesOf b) record-expected
+  d ← orFail (attributeBody n fs) no-such-attribute
+  require (sameBody d c) no-coherence
+  ok b
+binaryBody push b c = do
+  d ← orFail (elementBody b) list-expected
+  require (sameBody d c) no-coherence
+  ok b

@@ -1,0 +1,1 @@
+// The meaning of Lingua profiles and the public data types of the answers.
