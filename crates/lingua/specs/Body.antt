@@ -1,8 +1,7 @@
 -- Bodies: their cells, nodes, depth and bounds (document 01, Bodies and registers). Assumes nothing: these are definitions.
-use mathlib.Core.Bool.{Bool, true, false, _||_, decide}
+use mathlib.Core.Bool.{Bool, true, false, _||_, _&&_}
 use mathlib.Core.Option.{Option, some, none}
 use Prim.Native.Nat.{ℕ, zero, suc, _+_, _*_, max}
-use native.Mathlib.Decide.{ℕ-discrete}
 use lib.Dec.{eqb, ltb}
 use Rattle.lingua.specs.Numbers.{list-places, body-cells, body-nodes, body-depth, record-attributes}
 use Rattle.lingua.specs.Outcome.{if_then_else_}
@@ -12,17 +11,11 @@ mutual
     boolean number word : Body
     list-of : Body → Body
     record-of : Attributes → Body
-    deriving Discrete as Body-discrete
 
   -- attributes with their numbers, which ascend
   pub data Attributes : Type 0 where
     end : Attributes
     attribute : ℕ → Body → Attributes → Attributes
-    deriving Discrete as Attributes-discrete
-
--- whether two bodies are equal (document 01: coherent)
-unfoldable pub sameBody : Body → Body → Bool
-sameBody b c = decide (Body-discrete ℕ-discrete b c)
 
 -- the cells: 1 for a simple body; a list's length and 8 places; the sum of a record's attributes
 unfoldable mutual
@@ -117,6 +110,26 @@ attributesOf number = none
 attributesOf word = none
 attributesOf (list-of b) = none
 attributesOf (record-of fs) = some fs
+
+-- the option holds something with the property
+abbrev pub holds : {A : Type 0} → Option A → (A → Bool) → Bool
+holds none p = false
+holds (some a) p = p a
+
+-- whether two bodies are equal (document 01: coherent)
+unfoldable mutual
+  pub sameBody : Body → Body → Bool
+  sameBody boolean c = isBoolean c
+  sameBody number c = isNumber c
+  sameBody word c = isWord c
+  sameBody (list-of b) c = holds (elementBody c) (λ d. sameBody b d)
+  sameBody (record-of fs) c = holds (attributesOf c) (λ gs. sameAttributes fs gs)
+
+  pub sameAttributes : Attributes → Attributes → Bool
+  sameAttributes end end = true
+  sameAttributes end (attribute m c gs) = false
+  sameAttributes (attribute n b fs) end = false
+  sameAttributes (attribute n b fs) (attribute m c gs) = eqb n m && (sameBody b c && sameAttributes fs gs)
 
 -- ---- a record's attributes
 -- attribute n's body

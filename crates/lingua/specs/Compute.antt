@@ -1,12 +1,12 @@
 -- The operations' half on values: the operands' values give the result's value, or a run error (document 01, Evaluation).
 -- It is asked only where the half on bodies has passed, so it reads each operand as its body says and knows no bodies.
 -- Assumes nothing: these are definitions.
-use mathlib.Core.Bool.{Bool, true, false, not, _&&_, decide, Bool·beq}
+use mathlib.Core.Bool.{Bool, true, false, not, _&&_, Bool·beq}
 use mathlib.Core.List.{List, [], _∷_, _++_}
 use Prim.Native.Nat.{ℕ, zero, suc, _+_}
 use lib.Dec.{eqb, ltb, leb}
 use lib.ListN.{length}
-use lib.IntN.{ℤ, pos, ℤ-discrete, _+ℤ_, _-ℤ_, _*ℤ_}
+use lib.IntN.{ℤ, pos, negsuc, _+ℤ_, _-ℤ_, _*ℤ_}
 use lib.Signed.{ltZ, quotZ}
 use Rattle.lingua.specs.Numbers.{word-length, list-places}
 use Rattle.lingua.specs.Errors.{overflow, division-by-zero, list-empty, list-full, word-too-long}
@@ -21,7 +21,10 @@ ranged z = do
   ok (whole z)
 
 unfoldable pub sameNumber : ℤ → ℤ → Bool
-sameNumber x y = decide (ℤ-discrete x y)
+sameNumber (pos m) (pos n) = eqb m n
+sameNumber (pos m) (negsuc n) = false
+sameNumber (negsuc m) (pos n) = false
+sameNumber (negsuc m) (negsuc n) = eqb m n
 
 -- cut toward zero
 unfoldable pub quotient : ℤ → ℤ → ℤ

@@ -65,8 +65,8 @@ eval (lazy r k e f) vars cur = do
   x ← eval e vars cur
   t ← truthOr boolean-expected x
   if Bool·beq t (settledBy k)
-    then ok (booleanOf t)
-    else (eval f vars cur >>= λ y. truthOr boolean-expected y >>= λ u. ok (booleanOf u))
+      then ok (booleanOf t)
+      else (eval f vars cur >>= λ y. truthOr boolean-expected y >>= λ u. ok (booleanOf u))
 eval (choice r p e f) vars cur = do
   x ← eval p vars cur
   t ← truthOr boolean-expected x

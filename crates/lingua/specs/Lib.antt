@@ -7,3 +7,16 @@ pub mod Operation
 pub mod Compute
 pub mod Expression
 pub mod Evaluation
+pub mod Store
+pub mod Run
+pub mod Typing
+pub mod Meets
+pub mod Rows
+pub mod Trees
+pub mod Format
+pub mod Rules
+pub mod References
+pub mod Refusal
+pub mod Answers
+pub mod Calls
+pub mod Report

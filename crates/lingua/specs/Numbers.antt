@@ -98,6 +98,22 @@ most-blocks = 17
 abbrev pub rows-length : ℕ
 rows-length = 8320
 
+-- ---- sections
+abbrev pub declaration-section : ℕ
+declaration-section = 1
+
+abbrev pub type-section : ℕ
+type-section = 2
+
+abbrev pub expression-section : ℕ
+expression-section = 3
+
+abbrev pub instruction-section : ℕ
+instruction-section = 4
+
+abbrev pub limit-section : ℕ
+limit-section = 5
+
 -- ---- places (document 01: place)
 -- a reading's is this and its index
 abbrev pub reading-place : ℕ

@@ -14,7 +14,6 @@ Result A = Outcome ℕ A
 
 infixl 10 _>>=_
 infixl 10 _>>_
-
 -- what comes next is asked only of an answer
 abbrev pub _>>=_ : {E A B : Type 0} → Outcome E A → (A → Outcome E B) → Outcome E B
 ok a >>= f = f a
@@ -30,7 +29,6 @@ require true e = ok tt
 require false e = fail e
 
 infix 5 if_then_else_
-
 abbrev pub if_then_else_ : {A : Type 0} → Bool → A → A → A
 if true then a else b = a
 if false then a else b = b
@@ -43,6 +41,10 @@ orFail none e = fail e
 abbrev pub isSome : {A : Type 0} → Option A → Bool
 isSome (some a) = true
 isSome none = false
+
+abbrev pub isOk : {E A : Type 0} → Outcome E A → Bool
+isOk (ok a) = true
+isOk (fail e) = false
 
 -- all the answers, or what was wrong first
 unfoldable pub allAnswers : {E A : Type 0} → List (Outcome E A) → Outcome E (List A)

@@ -1,0 +1,110 @@
+-- Each public call as one function from all inputs and the lent memory to the answer and the final lent memory, refused calls
+-- included: under a refusal the lent memory stays as it was. Assumes nothing: these are definitions.
+use mathlib.Core.List.{List, [], _∷_}
+use Prim.Native.Nat.{ℕ, zero, suc}
+use lib.ListN.{replicate}
+use lib.IntN.{ℤ}
+use Rattle.lingua.specs.Numbers.{rows-length, layout-length}
+use Rattle.lingua.specs.Outcome.{Outcome, ok, fail}
+use Rattle.lingua.specs.Value.{pad}
+use Rattle.lingua.specs.Store.{Reading, cellsIn, statesIn}
+use Rattle.lingua.specs.Run.{Progress, State, Profile, run, lastState, endOf, stepsOf}
+use Rattle.lingua.specs.Typing.{TypeError, Entry, checkProfile, layoutOf}
+use Rattle.lingua.specs.Rows.{rowCount}
+use Rattle.lingua.specs.Trees.{profileOf}
+use Rattle.lingua.specs.Format.{File, modelOf, rowsOf, fileOf}
+use Rattle.lingua.specs.Refusal.{readRefusal, writeRefusal, checkRefusal, checkedRefusal, erasedRefusal}
+use Rattle.lingua.specs.Answers.{Answer, refused, answered, Ending, ending, endNumber, Verdict, passed, faulted, RowsRead}
+
+-- ---- the reader: the rows, then zeros
+pub record ReadCall : Type 0 where
+  pub answer : Answer RowsRead
+  pub buffer : List ℕ
+
+unfoldable pub readUnless : ℕ → List ℕ → List ℕ → ReadCall
+readUnless zero file buffer =
+    record { answer = answered (record { model = modelOf file; count = rowCount (rowsOf file) }); buffer = pad rows-length 0 (rowsOf file) }
+readUnless (suc n) file buffer = record { answer = refused (suc n); buffer = buffer }
+
+unfoldable pub readCall : File → List ℕ → List ℕ → ReadCall
+readCall f file buffer = readUnless (readRefusal f file buffer) file buffer
+
+-- ---- the writer: the file's bytes
+pub record WriteCall : Type 0 where
+  pub answer : Answer (Unit {0})
+  pub buffer : List ℕ
+
+unfoldable pub writeUnless : ℕ → File → ℕ → List ℕ → List ℕ → WriteCall
+writeUnless zero f model rows buffer = record { answer = answered tt; buffer = fileOf f model rows }
+writeUnless (suc n) f model rows buffer = record { answer = refused (suc n); buffer = buffer }
+
+unfoldable pub writeCall : File → ℕ → List ℕ → List ℕ → WriteCall
+writeCall f model rows buffer = writeUnless (writeRefusal f rows buffer) f model rows buffer
+
+-- ---- the type check: a pass fills the layout table, a type error zeroes it
+pub record CheckCall : Type 0 where
+  pub answer : Answer Verdict
+  pub layout : List ℕ
+
+unfoldable pub checkVerdict : Outcome TypeError (List Entry) → CheckCall
+checkVerdict (ok es) = record { answer = answered passed; layout = layoutOf es }
+checkVerdict (fail e) = record { answer = answered (faulted (e .error) (e .place)); layout = replicate layout-length 0 }
+
+unfoldable pub checkUnless : ℕ → List ℕ → List ℕ → List ℕ → CheckCall
+checkUnless zero prof lims layout = checkVerdict (checkProfile (profileOf (rowsOf prof) (rowsOf lims)))
+checkUnless (suc n) prof lims layout = record { answer = refused (suc n); layout = layout }
+
+unfoldable pub checkCall : List ℕ → List ℕ → List ℕ → CheckCall
+checkCall prof lims layout = checkUnless (checkRefusal prof lims layout) prof lims layout
+
+-- ---- the checked run (document 01: desk run)
+pub record RunCall : Type 0 where
+  pub answer : Answer Ending
+  pub cells : List ℤ
+  pub states : List ℕ
+
+-- the two slices of equal length, place by place
+unfoldable pub readingsOf : List ℕ → List ℤ → List Reading
+readingsOf [] zs = []
+readingsOf (v ∷ vs) [] = []
+readingsOf (v ∷ vs) (z ∷ zs) = record { variable = v; number = z } ∷ readingsOf vs zs
+
+unfoldable pub endingOf : ℕ → Progress → Ending
+endingOf budget p = ending (endNumber (endOf p)) (lastState p .error) (lastState p .place) (stepsOf budget p)
+
+unfoldable pub ran : ℕ → Progress → RunCall
+ran budget p =
+    record { answer = answered (endingOf budget p); cells = cellsIn (lastState p .store); states = statesIn (lastState p .store) }
+
+-- the run of both files' profile
+unfoldable pub runOf : List ℕ → List ℕ → List ℕ → List ℤ → ℕ → Progress
+runOf prof lims variables numbers budget = run (profileOf (rowsOf prof) (rowsOf lims)) (readingsOf variables numbers) budget
+
+unfoldable pub runUnless : ℕ → List ℕ → List ℕ → List ℕ → List ℤ → ℕ → List ℤ → List ℕ → RunCall
+runUnless zero prof lims variables numbers budget cells states = ran budget (runOf prof lims variables numbers budget)
+runUnless (suc n) prof lims variables numbers budget cells states =
+    record { answer = refused (suc n); cells = cells; states = states }
+
+unfoldable pub checkedCall : List ℕ → List ℕ → List ℕ → List ℤ → ℕ → List ℤ → List ℕ → RunCall
+checkedCall prof lims variables numbers budget cells states =
+    runUnless (checkedRefusal prof lims variables numbers cells states) prof lims variables numbers budget cells states
+
+-- ---- the erased run (document 01: chair run): the checked run's meaning, with rule 17, and the layout table that it fills
+pub record ErasedCall : Type 0 where
+  pub answer : Answer Ending
+  pub cells : List ℤ
+  pub states : List ℕ
+  pub layout : List ℕ
+
+abbrev pub withLayout : RunCall → List ℕ → ErasedCall
+withLayout c layout = record { answer = c .answer; cells = c .cells; states = c .states; layout = layout }
+
+unfoldable pub erasedUnless : ℕ → List ℕ → List ℕ → List ℕ → List ℤ → ℕ → List ℤ → List ℕ → List ℕ → ErasedCall
+erasedUnless zero prof lims variables numbers budget cells states layout =
+    withLayout (ran budget (runOf prof lims variables numbers budget)) (checkCall prof lims layout .layout)
+erasedUnless (suc n) prof lims variables numbers budget cells states layout =
+    record { answer = refused (suc n); cells = cells; states = states; layout = layout }
+
+unfoldable pub erasedCall : List ℕ → List ℕ → List ℕ → List ℤ → ℕ → List ℤ → List ℕ → List ℕ → ErasedCall
+erasedCall prof lims variables numbers budget cells states layout =
+    erasedUnless (erasedRefusal prof lims variables numbers cells states layout) prof lims variables numbers budget cells states layout

@@ -1,0 +1,140 @@
+-- The refusal of each call: the lowest number whose rule applies (document 01, What refuses). Assumes nothing: these are definitions.
+use mathlib.Core.Bool.{Bool, true, false, not, _&&_, _||_}
+use mathlib.Core.List.{List, [], _∷_, _++_, map}
+use mathlib.Core.Option.{Option, some, none}
+use Prim.Native.Nat.{ℕ, zero, suc, _+_, _*_, _%_}
+use lib.Dec.{eqb, ltb, leb}
+use lib.ListN.{length, getD}
+use lib.IntN.{ℤ}
+use lib.Signed.{leZ}
+use Rattle.lingua.specs.Numbers.{row-bytes, rows-length, cells-length, states-length, layout-length, most-readings, declaration-section, limit-section}
+use Rattle.lingua.specs.Errors.{no-error, bad-buffer, bad-length, bad-marker, bad-header, bad-check, bad-form, bad-count, bad-name, bad-constant, bad-reference, bad-use, misplaced, bad-type, models-differ, bad-limit, bad-reading, type-error-found}
+use Rattle.lingua.specs.Outcome.{ok, fail, Result, isOk, if_then_else_}
+use Rattle.lingua.specs.Body.{Body, isNumber}
+use Rattle.lingua.specs.Value.{inRange, allOf}
+use Rattle.lingua.specs.Compute.{sameText}
+use Rattle.lingua.specs.Store.{Limit, Reading}
+use Rattle.lingua.specs.Typing.{checkProfile}
+use Rattle.lingua.specs.Rows.{rowCount, pairCount}
+use Rattle.lingua.specs.Trees.{declaredBody, limitRow, nameAt, profileOf}
+use Rattle.lingua.specs.Format.{File, profile, limits, modelOf, rowsOf, fileLength, everyBelow, lengthWrong, markerWrong, headerWrong, checkWrong}
+use Rattle.lingua.specs.Rules.{formWrong, countWrong, nameWrong, constantWrong}
+use Rattle.lingua.specs.References.{referenceWrong, useWrong, placeWrong, typeWrong}
+
+-- a rule's number and whether it applies
+pub record Rule : Type 0 where
+  pub number : ℕ
+  pub applies : Bool
+
+abbrev pub rule : ℕ → Bool → Rule
+rule n b = record { number = n; applies = b }
+
+abbrev pub lower-of : ℕ → Bool → ℕ → ℕ
+lower-of n true m = if eqb m no-error then n else (if ltb n m then n else m)
+lower-of n false m = m
+
+-- the lowest number that applies, 0 where none does
+unfoldable pub lowest : List Rule → ℕ
+lowest [] = no-error
+lowest (r ∷ rs) = lower-of (r .number) (r .applies) (lowest rs)
+
+-- ---- one file
+-- 2 to 5, of a file's bytes
+unfoldable pub fileRules : File → List ℕ → List Rule
+fileRules f file =
+    rule bad-length (lengthWrong f file)
+    ∷ rule bad-marker (markerWrong f file)
+    ∷ rule bad-header (headerWrong f file)
+    ∷ rule bad-check (checkWrong file)
+    ∷ []
+
+-- 6 to 13, of its rows; a limits file has 6 to 9
+unfoldable pub rowRules : File → List ℕ → List Rule
+rowRules profile rows =
+    rule bad-form (formWrong profile rows)
+    ∷ rule bad-count (countWrong profile rows)
+    ∷ rule bad-name (nameWrong profile rows)
+    ∷ rule bad-constant (constantWrong profile rows)
+    ∷ rule bad-reference (referenceWrong rows)
+    ∷ rule bad-use (useWrong rows)
+    ∷ rule misplaced (placeWrong rows)
+    ∷ rule bad-type (typeWrong rows)
+    ∷ []
+rowRules limits rows =
+    rule bad-form (formWrong limits rows)
+    ∷ rule bad-count (countWrong limits rows)
+    ∷ rule bad-name (nameWrong limits rows)
+    ∷ rule bad-constant (constantWrong limits rows)
+    ∷ []
+
+unfoldable pub wholeFileRules : File → List ℕ → List Rule
+wholeFileRules f file = fileRules f file ++ rowRules f (rowsOf file)
+
+-- ---- both files
+abbrev pub isNumberBody : Result Body → Bool
+isNumberBody (ok b) = isNumber b
+isNumberBody (fail n) = false
+
+-- whether declaration d is a number variable
+unfoldable pub isNumberVariable : List ℕ → ℕ → Bool
+isNumberVariable rows d = ltb d (pairCount rows declaration-section) && isNumberBody (declaredBody rows d)
+
+-- some declaration has the name and is a number variable
+unfoldable pub namesNumber : List ℕ → List ℕ → Bool
+namesNumber rows name =
+    not (everyBelow (pairCount rows declaration-section) (λ d. not (sameText (nameAt rows declaration-section d) name && isNumberVariable rows d)))
+
+unfoldable pub limitFits : List ℕ → List ℕ → ℕ → Bool
+limitFits rows limitRows l =
+    leZ (limitRow limitRows l .low) (limitRow limitRows l .high)
+    && inRange (limitRow limitRows l .low)
+    && inRange (limitRow limitRows l .high)
+    && namesNumber rows (nameAt limitRows limit-section l)
+
+unfoldable pub limitWrong : List ℕ → List ℕ → Bool
+limitWrong rows limitRows = not (everyBelow (pairCount limitRows limit-section) (λ l. limitFits rows limitRows l))
+
+-- 2 to 15, of a profile and a limits file
+unfoldable pub pairRules : List ℕ → List ℕ → List Rule
+pairRules prof lims =
+    wholeFileRules profile prof
+    ++ (wholeFileRules limits lims
+    ++ (rule models-differ (not (eqb (modelOf prof) (modelOf lims)))
+    ∷ rule bad-limit (limitWrong (rowsOf prof) (rowsOf lims))
+    ∷ []))
+
+-- ---- readings
+unfoldable pub readingWrong : List ℕ → List ℕ → Bool
+readingWrong rows variables =
+    ltb most-readings (length variables) || not (allOf (λ v. isNumberVariable rows v) variables)
+
+-- ---- the calls
+unfoldable pub readRefusal : File → List ℕ → List ℕ → ℕ
+readRefusal f file buffer = lowest (rule bad-buffer (not (eqb (length buffer) rows-length)) ∷ wholeFileRules f file)
+
+unfoldable pub writeRefusal : File → List ℕ → List ℕ → ℕ
+writeRefusal f rows buffer =
+    lowest
+    (rule bad-buffer (not (eqb (length rows % row-bytes) 0 && eqb (length buffer) (fileLength f (rowCount rows))))
+    ∷ rowRules f rows)
+
+unfoldable pub checkRefusal : List ℕ → List ℕ → List ℕ → ℕ
+checkRefusal prof lims layout = lowest (rule bad-buffer (not (eqb (length layout) layout-length)) ∷ pairRules prof lims)
+
+-- rules 1 to 16 of a checked run
+unfoldable pub runRules : List ℕ → List ℕ → List ℕ → List ℤ → List ℤ → List ℕ → List Rule
+runRules prof lims variables numbers cells states =
+    rule bad-buffer (not (eqb (length variables) (length numbers) && eqb (length cells) cells-length && eqb (length states) states-length))
+    ∷ rule bad-reading (readingWrong (rowsOf prof) variables)
+    ∷ pairRules prof lims
+
+unfoldable pub checkedRefusal : List ℕ → List ℕ → List ℕ → List ℤ → List ℤ → List ℕ → ℕ
+checkedRefusal prof lims variables numbers cells states = lowest (runRules prof lims variables numbers cells states)
+
+-- an erased run's buffers have the layout table too, and the type check must pass
+unfoldable pub erasedRefusal : List ℕ → List ℕ → List ℕ → List ℤ → List ℤ → List ℕ → List ℕ → ℕ
+erasedRefusal prof lims variables numbers cells states layout =
+    lowest
+    (rule bad-buffer (not (eqb (length layout) layout-length))
+    ∷ rule type-error-found (not (isOk (checkProfile (profileOf (rowsOf prof) (rowsOf lims)))))
+    ∷ runRules prof lims variables numbers cells states)

@@ -1,0 +1,161 @@
+-- Rules 6 to 9: what is wrong with a file's rows, each by itself (document 01, What refuses). Each rule is a test of its own, total on any
+-- bytes; where a lower rule applies, it may say anything. Assumes nothing: these are definitions.
+use mathlib.Core.Bool.{Bool, true, false, not, _&&_}
+use mathlib.Core.List.{List, [], _∷_}
+use mathlib.Core.Option.{Option, some, none}
+use Prim.Native.Nat.{ℕ, _+_, _-_, _%_}
+use lib.Dec.{eqb, ltb, leb}
+use lib.ListN.{getD, drop}
+use Rattle.lingua.specs.Numbers.{attribute-numbers, most-variables, most-types, most-expressions, most-instructions, most-limits, declaration-section, type-section, expression-section, instruction-section, limit-section}
+use Rattle.lingua.specs.Errors.{last-error}
+use Rattle.lingua.specs.Outcome.{if_then_else_}
+use Rattle.lingua.specs.Value.{inRange, isCharacter, allOf}
+use Rattle.lingua.specs.Operation.{Unary, negation, make-record, select, make-list, top, pop, Binary, add, subtract, multiply, divide, less, equal, glue, expand, change, push}
+use Rattle.lingua.specs.Compute.{sameText}
+use Rattle.lingua.specs.Rows.{rowCount, sectionAt, kindAt, wideAt, numberAt, bytesAt, rowIn, tableCount, pairCount, TypeRow, simple-type, list-type, record-type, expand-type, typeRow, ExpressionRow, constant-row, variable-row, current-row, unary-row, binary-row, lazy-row, choice-row, all-list-row, expressionRow, InstructionRow, skip-row, assign-row, set-yoke-row, sequence-row, branch-row, loop-row, handle-row, instructionRow}
+use Rattle.lingua.specs.Trees.{nameAt}
+use Rattle.lingua.specs.Format.{File, profile, limits, allZero, everyBelow}
+
+-- ---- 6: form
+-- by kind, from 0 on: how many of a row's eight bytes are used, and none where there is no such kind
+unfoldable pub usedBytes : ℕ → List (Option ℕ)
+usedBytes section =
+    if eqb section declaration-section then some 8 ∷ some 4 ∷ []
+    else (if eqb section type-section then none ∷ some 0 ∷ some 0 ∷ some 0 ∷ some 2 ∷ some 4 ∷ some 6 ∷ []
+    else (if eqb section expression-section then
+    none ∷ some 8 ∷ some 8 ∷ some 8 ∷ some 2
+    ∷ some 4 ∷ some 4 ∷ some 4 ∷ some 4 ∷ some 4 ∷ some 4 ∷ some 4 ∷ some 4 ∷ some 4
+    ∷ some 2 ∷ some 6 ∷ some 4 ∷ some 6 ∷ some 4 ∷ some 6
+    ∷ some 2 ∷ some 4 ∷ some 2 ∷ some 2 ∷ some 0 ∷ some 2 ∷ []
+    else (if eqb section instruction-section then none ∷ some 0 ∷ some 4 ∷ some 4 ∷ some 4 ∷ some 6 ∷ some 4 ∷ some 4 ∷ []
+    else (if eqb section limit-section then some 8 ∷ some 8 ∷ []
+    else []))))
+
+-- limits stand alone in limits files
+unfoldable pub sectionBelongs : File → ℕ → Bool
+sectionBelongs profile section = leb declaration-section section && leb section instruction-section
+sectionBelongs limits section = eqb section limit-section
+
+-- a kind of the section, and unused bytes 0
+unfoldable pub bytesFit : Option ℕ → List ℕ → Bool
+bytesFit none bytes = false
+bytesFit (some n) bytes = allZero (drop n bytes)
+
+unfoldable pub rowFits : File → List ℕ → ℕ → Bool
+rowFits f rows i =
+    sectionBelongs f (sectionAt rows i) && bytesFit (getD (usedBytes (sectionAt rows i)) (kindAt rows i) none) (bytesAt rows i)
+
+-- sections ascend: each row's is at least that of the row before
+unfoldable pub ascending : List ℕ → Bool
+ascending rows = everyBelow (rowCount rows - 1) (λ i. leb (sectionAt rows i) (sectionAt rows (i + 1)))
+
+-- kinds 0 and 1 in turn, and a whole number of pairs
+unfoldable pub paired : List ℕ → ℕ → Bool
+paired rows s =
+    everyBelow (tableCount rows s) (λ r. eqb (kindAt rows (rowIn rows s r)) (r % 2)) && eqb (tableCount rows s % 2) 0
+
+unfoldable pub formWrong : File → List ℕ → Bool
+formWrong f rows =
+    not (everyBelow (rowCount rows) (λ i. rowFits f rows i) && ascending rows && paired rows declaration-section && paired rows limit-section)
+
+-- ---- 7: counts
+abbrev pub between : ℕ → ℕ → ℕ → Bool
+between low high n = leb low n && leb n high
+
+unfoldable pub countWrong : File → List ℕ → Bool
+countWrong profile rows =
+    not (between 1 most-variables (pairCount rows declaration-section)
+    && between 1 most-types (tableCount rows type-section)
+    && between 0 most-expressions (tableCount rows expression-section)
+    && between 1 most-instructions (tableCount rows instruction-section))
+countWrong limits rows = not (between 0 most-limits (pairCount rows limit-section))
+
+-- ---- 8: names
+-- bytes with the property, then zeros only
+unfoldable pub paddedBy : (ℕ → Bool) → List ℕ → Bool
+paddedBy p [] = true
+paddedBy p (c ∷ cs) = if eqb c 0 then allZero cs else p c && paddedBy p cs
+
+unfoldable pub isCapital : ℕ → Bool
+isCapital c = between 65 90 c
+
+-- 1 to 8 capital letters, zeros after
+unfoldable pub isName : List ℕ → Bool
+isName name = not (eqb (getD name 0 0) 0) && paddedBy isCapital name
+
+-- no lower pair has the name of pair d
+unfoldable pub isNew : List ℕ → ℕ → ℕ → Bool
+isNew rows s d = everyBelow d (λ e. not (sameText (nameAt rows s e) (nameAt rows s d)))
+
+abbrev pub namedSection : File → ℕ
+namedSection profile = declaration-section
+namedSection limits = limit-section
+
+unfoldable pub nameWrong : File → List ℕ → Bool
+nameWrong f rows =
+    not (everyBelow (pairCount rows (namedSection f)) (λ d. isName (nameAt rows (namedSection f) d) && isNew rows (namedSection f) d))
+
+-- ---- 9: constants, attributes, handled errors
+unfoldable pub constantFits : List ℕ → ℕ → Bool
+constantFits rows i =
+    if eqb (kindAt rows i) 1 then leb (wideAt rows i) 1
+    else (if eqb (kindAt rows i) 2 then inRange (numberAt rows i)
+    else (if eqb (kindAt rows i) 3 then paddedBy isCharacter (bytesAt rows i)
+    else true))
+
+unfoldable pub unaryAttribute : Unary → List ℕ
+unaryAttribute negation = []
+unaryAttribute (make-record n) = n ∷ []
+unaryAttribute (select n) = n ∷ []
+unaryAttribute make-list = []
+unaryAttribute top = []
+unaryAttribute pop = []
+
+unfoldable pub binaryAttribute : Binary → List ℕ
+binaryAttribute add = []
+binaryAttribute subtract = []
+binaryAttribute multiply = []
+binaryAttribute divide = []
+binaryAttribute less = []
+binaryAttribute equal = []
+binaryAttribute glue = []
+binaryAttribute (expand n) = n ∷ []
+binaryAttribute (change n) = n ∷ []
+binaryAttribute push = []
+
+-- the attributes that a row names
+unfoldable pub expressionAttributes : ExpressionRow → List ℕ
+expressionAttributes (constant-row c) = []
+expressionAttributes (variable-row n) = []
+expressionAttributes current-row = []
+expressionAttributes (unary-row o a) = unaryAttribute o
+expressionAttributes (binary-row o a b) = binaryAttribute o
+expressionAttributes (lazy-row k a b) = []
+expressionAttributes (choice-row a b c) = []
+expressionAttributes (all-list-row a) = []
+
+unfoldable pub typeAttributes : TypeRow → List ℕ
+typeAttributes (simple-type b) = []
+typeAttributes (list-type a) = []
+typeAttributes (record-type n b) = n ∷ []
+typeAttributes (expand-type a n c) = n ∷ []
+
+unfoldable pub handledErrors : InstructionRow → List ℕ
+handledErrors skip-row = []
+handledErrors (assign-row n e) = []
+handledErrors (set-yoke-row n y) = []
+handledErrors (sequence-row i j) = []
+handledErrors (branch-row e i j) = []
+handledErrors (loop-row e i) = []
+handledErrors (handle-row n i) = n ∷ []
+
+abbrev pub attributesFit : List ℕ → Bool
+attributesFit ns = allOf (λ n. ltb n attribute-numbers) ns
+
+-- a limits file has no such numbers
+unfoldable pub constantWrong : File → List ℕ → Bool
+constantWrong profile rows =
+    not (everyBelow (tableCount rows type-section) (λ r. attributesFit (typeAttributes (typeRow rows r)))
+    && everyBelow (tableCount rows expression-section) (λ r. constantFits rows (rowIn rows expression-section r) && attributesFit (expressionAttributes (expressionRow rows r)))
+    && everyBelow (tableCount rows instruction-section) (λ r. allOf (λ n. between 1 last-error n) (handledErrors (instructionRow rows r))))
+constantWrong limits rows = false

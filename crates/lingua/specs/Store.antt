@@ -1,0 +1,111 @@
+-- Variables, assignment, yoke change and readings (document 01, Evaluation and Runs), and the store as the caller's memory.
+-- Assumes nothing: these are definitions.
+use mathlib.Core.Bool.{Bool, true, false, _&&_}
+use mathlib.Core.List.{List, [], _∷_, _++_, map}
+use mathlib.Core.Option.{Option, some, none}
+use Prim.Native.Nat.{ℕ}
+use lib.ListN.{getD, set}
+use lib.IntN.{ℤ, pos}
+use lib.Signed.{leZ}
+use Rattle.lingua.specs.Numbers.{body-cells, cells-length, states-length}
+use Rattle.lingua.specs.Errors.{overflow, yoke-not-satisfied, no-coherence, yoke-expected}
+use Rattle.lingua.specs.Outcome.{Outcome, ok, fail, Result, _>>=_, _>>_, require}
+use Rattle.lingua.specs.Body.{Body, boolean, number, sameBody}
+use Rattle.lingua.specs.Value.{Value, whole, inRange, asWhole, pad, cellsOf, Composite, composite}
+use Rattle.lingua.specs.Expression.{Yoke, always, yokeNumber}
+use Rattle.lingua.specs.Evaluation.{Variables, truthOr, evalYoke}
+
+-- the motor maker's limit of one variable
+pub record Limit : Type 0 where
+  pub low : ℤ
+  pub high : ℤ
+
+-- a variable: its declared body and its limit stay; its content and its yoke change
+pub record Variable : Type 0 where
+  pub body : Body
+  pub limit : Option Limit
+  pub current : Yoke
+  pub content : Option Composite
+
+abbrev pub no-variable : Variable
+no-variable = record { body = boolean; limit = none; current = always; content = none }
+
+abbrev pub variableAt : List Variable → ℕ → Variable
+variableAt vs n = getD vs n no-variable
+
+-- what evaluation sees of a store
+abbrev pub contents : List Variable → Variables
+contents vs n = variableAt vs n .content
+
+abbrev pub withContent : Variable → Composite → Variable
+withContent v x = record { body = v .body; limit = v .limit; current = v .current; content = some x }
+
+abbrev pub withYoke : Variable → Yoke → Variable
+withYoke v y = record { body = v .body; limit = v .limit; current = y; content = v .content }
+
+unfoldable pub within : Option Limit → ℤ → Bool
+within none z = true
+within (some l) z = leZ (l .low) z && leZ z (l .high)
+
+-- ---- assignment
+-- a new value's checks, in order: the own yoke's error, the body, the yoke's body, the yoke and the limits
+unfoldable pub admitted : List Variable → Variable → Composite → Result (Unit {0})
+admitted vs v x = do
+  y ← evalYoke (v .current) (contents vs) x
+  require (sameBody (v .body) (x .body)) no-coherence
+  t ← truthOr yoke-expected y
+  require (t && within (v .limit) (asWhole (x .value))) yoke-not-satisfied
+
+-- variable n with the new value, stored only once it is admitted
+unfoldable pub assigned : List Variable → ℕ → Composite → Result (List Variable)
+assigned vs n x = do
+  admitted vs (variableAt vs n) x
+  ok (set vs n (withContent (variableAt vs n) x))
+
+-- ---- yoke change
+-- a filled variable's value has to satisfy the new yoke; one that is not filled takes any
+unfoldable pub yokeHolds : List Variable → Yoke → Option Composite → Result (Unit {0})
+yokeHolds vs y none = ok tt
+yokeHolds vs y (some x) = do
+  r ← evalYoke y (contents vs) x
+  t ← truthOr yoke-expected r
+  require t yoke-not-satisfied
+
+unfoldable pub yokeChanged : List Variable → ℕ → Yoke → Result (List Variable)
+yokeChanged vs n y = do
+  yokeHolds vs y (variableAt vs n .content)
+  ok (set vs n (withYoke (variableAt vs n) y))
+
+-- ---- readings
+pub record Reading : Type 0 where
+  pub variable : ℕ
+  pub number : ℤ
+
+unfoldable pub readingTaken : List Variable → Reading → Result (List Variable)
+readingTaken vs r = do
+  require (inRange (r .number)) overflow
+  assigned vs (r .variable) (composite number (whole (r .number)))
+
+-- ---- the store as lent memory: variable v's cells from 64 v on, its filled flag at 2 v, its yoke at 2 v + 1
+unfoldable pub contentCells : Option Composite → List ℤ
+contentCells none = []
+contentCells (some x) = cellsOf (x .body) (x .value)
+
+abbrev pub filledFlag : Option Composite → ℕ
+filledFlag none = 0
+filledFlag (some x) = 1
+
+unfoldable pub storeCells : List Variable → List ℤ
+storeCells [] = []
+storeCells (v ∷ vs) = pad body-cells (pos 0) (contentCells (v .content)) ++ storeCells vs
+
+unfoldable pub storeStates : List Variable → List ℕ
+storeStates [] = []
+storeStates (v ∷ vs) = filledFlag (v .content) ∷ yokeNumber (v .current) ∷ storeStates vs
+
+-- document 01: the 1,024 cells and the 32 marks
+unfoldable pub cellsIn : List Variable → List ℤ
+cellsIn vs = pad cells-length (pos 0) (storeCells vs)
+
+unfoldable pub statesIn : List Variable → List ℕ
+statesIn vs = pad states-length 0 (storeStates vs)

@@ -1,0 +1,78 @@
+// Sizes, counts and places of document 01, as specs/Numbers.antt defines them.
+// ranges of simple values
+pub const LOWEST_NUMBER: i64 = -1000000;
+
+pub const HIGHEST_NUMBER: i64 = 1000000;
+
+pub const WORD_LENGTH: usize = 8;
+
+pub const LOWEST_CHARACTER: u8 = 32;
+
+pub const HIGHEST_CHARACTER: u8 = 126;
+
+pub const LIST_PLACES: usize = 8;
+// bounds of bodies
+pub const BODY_CELLS: usize = 64;
+
+pub const BODY_NODES: usize = 32;
+
+pub const BODY_DEPTH: usize = 4;
+
+pub const RECORD_ATTRIBUTES: usize = 8;
+// attributes are numbered below this
+pub const ATTRIBUTE_NUMBERS: usize = 64;
+// tables and the caller's buffers
+pub const MOST_VARIABLES: usize = 16;
+
+pub const MOST_TYPES: usize = 32;
+
+pub const MOST_EXPRESSIONS: usize = 512;
+
+pub const MOST_INSTRUCTIONS: usize = 256;
+
+pub const MOST_LIMITS: usize = 16;
+
+pub const MOST_READINGS: usize = 16;
+// document 01: cells, marks, sheet
+pub const CELLS_LENGTH: usize = 1024;
+
+pub const STATES_LENGTH: usize = 32;
+
+pub const LAYOUT_LENGTH: usize = 1024;
+// files
+pub const ROW_BYTES: usize = 10;
+
+pub const BLOCK_BYTES: usize = 512;
+
+pub const BLOCK_ROWS: usize = 50;
+// the bytes before a block's rows, and those of its rows
+pub const HEADER_BYTES: usize = 8;
+
+pub const AREA_BYTES: usize = 500;
+// the 32-bit words that a block's check goes over, and where it stands
+pub const CHECKED_WORDS: usize = 127;
+
+pub const CHECK_PLACE: usize = 508;
+
+pub const MOST_BLOCKS: usize = 17;
+// the reader's buffer: 832 rows
+pub const ROWS_LENGTH: usize = 8320;
+// sections
+pub const DECLARATION_SECTION: u8 = 1;
+
+pub const TYPE_SECTION: u8 = 2;
+
+pub const EXPRESSION_SECTION: u8 = 3;
+
+pub const INSTRUCTION_SECTION: u8 = 4;
+
+pub const LIMIT_SECTION: u8 = 5;
+// places (document 01: place)
+// a reading's is this and its index
+pub const READING_PLACE: usize = 256;
+// in the type check: an instruction's, and a declaration's
+pub const INSTRUCTION_PLACE: usize = 512;
+
+pub const DECLARATION_PLACE: usize = 768;
+// the report
+pub const REPORT_BUDGET: usize = 1000;
