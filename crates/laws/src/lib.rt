@@ -1,0 +1,1 @@
+// Theorems about the definitions of `lingua`; they stand in specs/.
