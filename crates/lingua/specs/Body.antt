@@ -1,7 +1,7 @@
 -- Bodies: their cells, nodes, depth and bounds (document 01, Bodies and registers). Assumes nothing: these are definitions.
 use mathlib.Core.Bool.{Bool, true, false, _||_, _&&_}
 use mathlib.Core.Option.{Option, some, none}
-use Prim.Native.Nat.{ℕ, zero, suc, _+_, _*_, max}
+use Prim.Native.Nat.{ℕ, suc, _+_, _*_, max}
 use lib.Dec.{eqb, ltb}
 use Rattle.lingua.specs.Numbers.{list-places, body-cells, body-nodes, body-depth, record-attributes}
 use Rattle.lingua.specs.Outcome.{if_then_else_}

@@ -8,7 +8,7 @@ use Rattle.lingua.specs.Numbers.{rows-length, layout-length}
 use Rattle.lingua.specs.Outcome.{Outcome, ok, fail}
 use Rattle.lingua.specs.Value.{pad}
 use Rattle.lingua.specs.Store.{Reading, cellsIn, statesIn}
-use Rattle.lingua.specs.Run.{Progress, State, Profile, run, lastState, endOf, stepsOf}
+use Rattle.lingua.specs.Run.{Progress, run, lastState, endOf, stepsOf}
 use Rattle.lingua.specs.Typing.{TypeError, Entry, checkProfile, layoutOf}
 use Rattle.lingua.specs.Rows.{rowCount}
 use Rattle.lingua.specs.Trees.{profileOf}

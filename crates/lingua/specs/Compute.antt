@@ -3,14 +3,14 @@
 -- Assumes nothing: these are definitions.
 use mathlib.Core.Bool.{Bool, true, false, not, _&&_, Bool·beq}
 use mathlib.Core.List.{List, [], _∷_, _++_}
-use Prim.Native.Nat.{ℕ, zero, suc, _+_}
+use Prim.Native.Nat.{ℕ, _+_}
 use lib.Dec.{eqb, ltb, leb}
 use lib.ListN.{length}
 use lib.IntN.{ℤ, pos, negsuc, _+ℤ_, _-ℤ_, _*ℤ_}
 use lib.Signed.{ltZ, quotZ}
 use Rattle.lingua.specs.Numbers.{word-length, list-places}
 use Rattle.lingua.specs.Errors.{overflow, division-by-zero, list-empty, list-full, word-too-long}
-use Rattle.lingua.specs.Outcome.{Outcome, ok, fail, Result, _>>=_, _>>_, require, if_then_else_}
+use Rattle.lingua.specs.Outcome.{ok, fail, Result, require, if_then_else_, _>>_}
 use Rattle.lingua.specs.Value.{Value, truth, whole, text, items, fields, Values, no-items, item, Fields, no-fields, field, countValues, inRange, asTruth, asWhole, asText, asItems, asFields}
 use Rattle.lingua.specs.Operation.{Unary, negation, make-record, select, make-list, top, pop, Binary, add, subtract, multiply, divide, less, equal, glue, expand, change, push}
 

@@ -1,15 +1,15 @@
 -- What an expression gives in a store and for a current value (document 01, Evaluation). Assumes nothing: these are definitions.
 use mathlib.Core.Bool.{Bool, true, false, Bool·beq}
-use mathlib.Core.List.{List, [], _∷_, map}
-use mathlib.Core.Option.{Option, some, none}
+use mathlib.Core.List.{List, map}
+use mathlib.Core.Option.{Option}
 use Prim.Native.Nat.{ℕ}
 use Rattle.lingua.specs.Errors.{boolean-expected, list-expected, yoke-expected, not-filled}
-use Rattle.lingua.specs.Outcome.{Outcome, ok, fail, Result, _>>=_, _>>_, require, orFail, if_then_else_, allAnswers}
-use Rattle.lingua.specs.Body.{Body, boolean, isBoolean, elementBody}
-use Rattle.lingua.specs.Value.{Value, truth, asTruth, asItems, valueList, allOf, Composite, composite}
+use Rattle.lingua.specs.Outcome.{ok, Result, _>>=_, require, orFail, if_then_else_, allAnswers, _>>_}
+use Rattle.lingua.specs.Body.{boolean, isBoolean, elementBody}
+use Rattle.lingua.specs.Value.{truth, asTruth, asItems, valueList, allOf, Composite, composite}
 use Rattle.lingua.specs.Operation.{Unary, Binary, unaryBody, binaryBody}
 use Rattle.lingua.specs.Compute.{unaryValue, binaryValue}
-use Rattle.lingua.specs.Expression.{Connective, settledBy, Expression, constant, variable, current, unary, binary, lazy, choice, all-list, Yoke, always, yoke}
+use Rattle.lingua.specs.Expression.{settledBy, Expression, constant, variable, current, unary, binary, lazy, choice, all-list, Yoke, always, yoke}
 
 -- the bodies' half, then the values' half
 unfoldable pub applyUnary : Unary → Composite → Result Composite

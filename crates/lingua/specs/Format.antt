@@ -1,9 +1,9 @@
 -- Files: blocks of 512 bytes, each with its own check, and the rows in them (document 01, Files). Assumes nothing: these are definitions.
-use mathlib.Core.Bool.{Bool, true, false, not, _&&_, _||_}
+use mathlib.Core.Bool.{Bool, true, false, not, _&&_}
 use mathlib.Core.List.{List, [], _∷_, _++_}
 use Prim.Native.Nat.{ℕ, zero, suc, _+_, _-_, _*_, _/_, _%_, _^_, max}
 use lib.Dec.{eqb, leb}
-use lib.ListN.{length, getD, take, drop, replicate}
+use lib.ListN.{length, getD, take, drop}
 use Rattle.lingua.specs.Numbers.{row-bytes, block-bytes, block-rows, header-bytes, area-bytes, checked-words, check-place, most-blocks}
 use Rattle.lingua.specs.Outcome.{if_then_else_}
 use Rattle.lingua.specs.Value.{pad, allOf}

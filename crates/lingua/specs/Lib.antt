@@ -20,3 +20,6 @@ pub mod Refusal
 pub mod Answers
 pub mod Calls
 pub mod Report
+pub mod Computing
+pub mod Edges
+pub mod Examples

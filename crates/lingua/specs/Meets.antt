@@ -1,20 +1,20 @@
 -- Every error that a run meets: what any check gives, also one that an earlier error hides or a handler clears
 -- (document 01, The contract and the cases). An operand in error does not hide the checks of the other operand alone,
 -- and an assignment's checks do not hide each other. What is not evaluated meets nothing. Assumes nothing: these are definitions.
-use mathlib.Core.Bool.{Bool, true, false, not, _&&_, Bool·beq}
+use mathlib.Core.Bool.{Bool, true, false, not, Bool·beq}
 use mathlib.Core.List.{List, [], _∷_, _++_, map}
 use mathlib.Core.Option.{Option, some, none}
 use Prim.Native.Nat.{ℕ, zero, suc}
-use lib.Dec.{eqb, leb, ltb}
+use lib.Dec.{eqb, ltb}
 use lib.IntN.{pos}
 use Rattle.lingua.specs.Numbers.{record-attributes, list-places}
 use Rattle.lingua.specs.Errors.{no-error, overflow, division-by-zero, yoke-not-satisfied, list-full, number-expected, boolean-expected, word-expected, list-expected, record-expected, no-such-attribute, attribute-present, no-coherence, yoke-expected, not-comparable, body-too-large}
-use Rattle.lingua.specs.Outcome.{Outcome, ok, fail, Result, _>>=_, _>>_, require, orFail}
+use Rattle.lingua.specs.Outcome.{ok, fail, Result, require, orFail, _>>=_, _>>_}
 use Rattle.lingua.specs.Body.{Body, number, sameBody, isNumber, isWord, isSimple, elementBody, attributesOf, attributeBody, countAttributes}
-use Rattle.lingua.specs.Value.{Value, whole, asWhole, asItems, countValues, inRange, Composite, composite}
-use Rattle.lingua.specs.Operation.{Unary, Binary, add, subtract, multiply, divide, less, equal, glue, expand, change, push, present}
+use Rattle.lingua.specs.Value.{whole, asWhole, asItems, countValues, inRange, Composite, composite}
+use Rattle.lingua.specs.Operation.{Binary, add, subtract, multiply, divide, less, equal, glue, expand, change, push, present}
 use Rattle.lingua.specs.Compute.{sameNumber}
-use Rattle.lingua.specs.Expression.{Connective, settledBy, Expression, constant, variable, current, unary, binary, lazy, choice, all-list, Yoke, always, yoke, Instruction, skip, assign, set-yoke, sequence, branch, loop, handle}
+use Rattle.lingua.specs.Expression.{settledBy, Expression, constant, variable, current, unary, binary, lazy, choice, all-list, Yoke, always, yoke, Instruction, skip, assign, set-yoke, sequence, branch, loop, handle}
 use Rattle.lingua.specs.Evaluation.{Variables, eval, evalYoke, evalTest, applyUnary, applyBinary, truthOr, elementsOf, no-current}
 use Rattle.lingua.specs.Store.{Variable, variableAt, contents, within, Reading}
 use Rattle.lingua.specs.Run.{State, Progress, going, out, withLeft, withError, exec, Profile, started, takenUnless, takeReadings}
@@ -89,7 +89,9 @@ secondMet push y = []
 -- each operand's own checks, and those of both
 unfoldable pub binaryMet : Binary → Result Composite → Result Composite → List ℕ
 binaryMet o p q =
-    onAnswer p (λ x. firstMet o x) ++ onAnswer q (λ y. secondMet o y) ++ errorIn (p >>= λ x. q >>= λ y. applyBinary o x y)
+    onAnswer p (λ x. firstMet o x)
+    ++ onAnswer q (λ y. secondMet o y)
+    ++ onAnswer p (λ x. onAnswer q (λ y. errorIn (applyBinary o x y)))
 
 -- ---- expressions and yokes
 -- each result that has no Boolean body

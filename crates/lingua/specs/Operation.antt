@@ -1,9 +1,9 @@
 -- The operations of expression kinds 5 to 23 but and, or, if, and their half on bodies: the operands' bodies give the
 -- result's body, or the lowest type error that applies (document 01, Evaluation). Assumes nothing: these are definitions.
-use mathlib.Core.Bool.{Bool, true, false, not, _&&_}
+use mathlib.Core.Bool.{Bool, not, _&&_}
 use Prim.Native.Nat.{ℕ}
 use Rattle.lingua.specs.Errors.{number-expected, boolean-expected, word-expected, list-expected, record-expected, no-such-attribute, attribute-present, no-coherence, not-comparable, body-too-large}
-use Rattle.lingua.specs.Outcome.{Outcome, ok, fail, Result, _>>=_, _>>_, require, orFail, isSome}
+use Rattle.lingua.specs.Outcome.{ok, Result, require, orFail, isSome, _>>=_, _>>_}
 use Rattle.lingua.specs.Body.{Body, boolean, number, word, list-of, record-of, Attributes, end, attribute, sameBody, isBoolean, isNumber, isWord, isSimple, elementBody, attributesOf, attributeBody, insertAttribute, tooLarge}
 
 -- of one operand: kinds 14, 16, 18, 20, 22, 23; a record's operations name an attribute

@@ -1,10 +1,9 @@
 -- The refusal of each call: the lowest number whose rule applies (document 01, What refuses). Assumes nothing: these are definitions.
 use mathlib.Core.Bool.{Bool, true, false, not, _&&_, _||_}
-use mathlib.Core.List.{List, [], _∷_, _++_, map}
-use mathlib.Core.Option.{Option, some, none}
-use Prim.Native.Nat.{ℕ, zero, suc, _+_, _*_, _%_}
-use lib.Dec.{eqb, ltb, leb}
-use lib.ListN.{length, getD}
+use mathlib.Core.List.{List, [], _∷_, _++_}
+use Prim.Native.Nat.{ℕ, _%_}
+use lib.Dec.{eqb, ltb}
+use lib.ListN.{length}
 use lib.IntN.{ℤ}
 use lib.Signed.{leZ}
 use Rattle.lingua.specs.Numbers.{row-bytes, rows-length, cells-length, states-length, layout-length, most-readings, declaration-section, limit-section}
@@ -13,7 +12,6 @@ use Rattle.lingua.specs.Outcome.{ok, fail, Result, isOk, if_then_else_}
 use Rattle.lingua.specs.Body.{Body, isNumber}
 use Rattle.lingua.specs.Value.{inRange, allOf}
 use Rattle.lingua.specs.Compute.{sameText}
-use Rattle.lingua.specs.Store.{Limit, Reading}
 use Rattle.lingua.specs.Typing.{checkProfile}
 use Rattle.lingua.specs.Rows.{rowCount, pairCount}
 use Rattle.lingua.specs.Trees.{declaredBody, limitRow, nameAt, profileOf}

@@ -5,11 +5,11 @@ use Prim.Native.Nat.{ℕ, zero, suc, _+_, _/_, _%_}
 use lib.Dec.{ltb}
 use lib.ListN.{replicate}
 use lib.IntN.{ℤ, pos, negsuc}
-use Rattle.lingua.specs.Numbers.{cells-length, states-length, report-budget, declaration-section}
+use Rattle.lingua.specs.Numbers.{cells-length, states-length, report-budget}
 use Rattle.lingua.specs.Outcome.{if_then_else_}
 use Rattle.lingua.specs.Value.{Composite, cellsOf}
 use Rattle.lingua.specs.Store.{Variable}
-use Rattle.lingua.specs.Run.{Progress, State, lastState, Declaration, Profile}
+use Rattle.lingua.specs.Run.{Progress, lastState, Declaration}
 use Rattle.lingua.specs.Rows.{untilZero}
 use Rattle.lingua.specs.Trees.{profileOf}
 use Rattle.lingua.specs.Format.{rowsOf}

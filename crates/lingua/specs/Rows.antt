@@ -1,8 +1,7 @@
 -- Rows of 10 bytes and what each says: the fields, the tables, and each row read by its kind (document 01, Files).
 -- Total on any bytes; what a malformed row reads as does not matter, since it is refused. Assumes nothing: these are definitions.
-use mathlib.Core.Bool.{Bool, true, false, not}
-use mathlib.Core.List.{List, [], _∷_, _++_}
-use mathlib.Core.Option.{Option, some, none}
+use mathlib.Core.Bool.{Bool, not}
+use mathlib.Core.List.{List, [], _∷_}
 use Prim.Native.Nat.{ℕ, zero, suc, _+_, _*_, _/_}
 use lib.Dec.{eqb, ltb}
 use lib.ListN.{length, getD, take, drop}
@@ -12,7 +11,7 @@ use mir.Val.{toZ}
 use Rattle.lingua.specs.Numbers.{row-bytes, type-section, expression-section, instruction-section}
 use Rattle.lingua.specs.Outcome.{if_then_else_}
 use Rattle.lingua.specs.Body.{Body, boolean, number, word}
-use Rattle.lingua.specs.Value.{Value, truth, whole, text, Composite, composite}
+use Rattle.lingua.specs.Value.{truth, whole, text, Composite, composite}
 use Rattle.lingua.specs.Operation.{Unary, negation, make-record, select, make-list, top, pop, Binary, add, subtract, multiply, divide, less, equal, glue, expand, change, push}
 use Rattle.lingua.specs.Expression.{Connective, conjunction, disjunction}
 

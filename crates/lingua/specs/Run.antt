@@ -6,9 +6,9 @@ use Prim.Native.Nat.{ℕ, zero, suc, _+_, _-_}
 use lib.Dec.{eqb}
 use Rattle.lingua.specs.Numbers.{reading-place}
 use Rattle.lingua.specs.Errors.{no-error}
-use Rattle.lingua.specs.Outcome.{Outcome, ok, fail, Result, _>>=_, if_then_else_}
+use Rattle.lingua.specs.Outcome.{ok, fail, Result, _>>=_, if_then_else_}
 use Rattle.lingua.specs.Body.{Body}
-use Rattle.lingua.specs.Expression.{Expression, Yoke, Instruction, skip, assign, set-yoke, sequence, branch, loop, handle}
+use Rattle.lingua.specs.Expression.{Yoke, Instruction, skip, assign, set-yoke, sequence, branch, loop, handle}
 use Rattle.lingua.specs.Evaluation.{eval, evalTest, no-current}
 use Rattle.lingua.specs.Store.{Limit, Variable, contents, assigned, yokeChanged, Reading, readingTaken}
 

@@ -1,7 +1,7 @@
 -- Variables, assignment, yoke change and readings (document 01, Evaluation and Runs), and the store as the caller's memory.
 -- Assumes nothing: these are definitions.
-use mathlib.Core.Bool.{Bool, true, false, _&&_}
-use mathlib.Core.List.{List, [], _∷_, _++_, map}
+use mathlib.Core.Bool.{Bool, true, _&&_}
+use mathlib.Core.List.{List, [], _∷_, _++_}
 use mathlib.Core.Option.{Option, some, none}
 use Prim.Native.Nat.{ℕ}
 use lib.ListN.{getD, set}
@@ -9,9 +9,9 @@ use lib.IntN.{ℤ, pos}
 use lib.Signed.{leZ}
 use Rattle.lingua.specs.Numbers.{body-cells, cells-length, states-length}
 use Rattle.lingua.specs.Errors.{overflow, yoke-not-satisfied, no-coherence, yoke-expected}
-use Rattle.lingua.specs.Outcome.{Outcome, ok, fail, Result, _>>=_, _>>_, require}
+use Rattle.lingua.specs.Outcome.{ok, Result, require, _>>=_, _>>_}
 use Rattle.lingua.specs.Body.{Body, boolean, number, sameBody}
-use Rattle.lingua.specs.Value.{Value, whole, inRange, asWhole, pad, cellsOf, Composite, composite}
+use Rattle.lingua.specs.Value.{whole, inRange, asWhole, pad, cellsOf, Composite, composite}
 use Rattle.lingua.specs.Expression.{Yoke, always, yokeNumber}
 use Rattle.lingua.specs.Evaluation.{Variables, truthOr, evalYoke}
 

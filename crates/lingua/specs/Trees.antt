@@ -1,12 +1,12 @@
 -- From accepted rows to trees: types to bodies, expressions, instructions, and both files to a profile (document 01, Files).
 -- Assumes nothing: these are definitions.
 use mathlib.Core.Bool.{Bool, true, false}
-use mathlib.Core.List.{List, [], _∷_, map}
+use mathlib.Core.List.{List, [], _∷_}
 use mathlib.Core.Option.{Option, some, none}
 use Prim.Native.Nat.{ℕ, zero, suc, pred}
 use lib.Dec.{ltb}
-use Rattle.lingua.specs.Numbers.{declaration-section, expression-section, instruction-section, limit-section}
-use Rattle.lingua.specs.Outcome.{Outcome, ok, fail, Result, _>>=_, if_then_else_}
+use Rattle.lingua.specs.Numbers.{declaration-section, instruction-section, limit-section}
+use Rattle.lingua.specs.Outcome.{ok, fail, Result, _>>=_}
 use Rattle.lingua.specs.Errors.{record-expected}
 use Rattle.lingua.specs.Body.{Body, boolean}
 use Rattle.lingua.specs.Operation.{make-record, make-list, expand, unaryBody, binaryBody}

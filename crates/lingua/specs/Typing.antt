@@ -1,17 +1,15 @@
 -- The type check (document 01: inspection): the checks of a run on bodies alone, and the layout table (document 01: sheet).
 -- Assumes nothing: these are definitions.
-use mathlib.Core.Bool.{Bool}
 use mathlib.Core.List.{List, [], _∷_, _++_, map}
 use mathlib.Core.Option.{Option, some, none}
-use Prim.Native.Nat.{ℕ, zero, suc, _+_, _*_}
+use Prim.Native.Nat.{ℕ, suc, _+_, _*_}
 use lib.ListN.{getD, set, replicate}
 use Rattle.lingua.specs.Numbers.{layout-length, instruction-place, declaration-place}
 use Rattle.lingua.specs.Errors.{boolean-expected, list-expected, no-coherence, yoke-expected}
-use Rattle.lingua.specs.Outcome.{Outcome, ok, fail, Result, _>>=_, _>>_, require, orFail, allAnswers}
+use Rattle.lingua.specs.Outcome.{Outcome, ok, fail, Result, require, orFail, allAnswers, _>>=_, _>>_}
 use Rattle.lingua.specs.Body.{Body, boolean, Attributes, size, sameBody, isBoolean, elementBody, attributesOf, attributeOffset}
-use Rattle.lingua.specs.Value.{Composite}
 use Rattle.lingua.specs.Operation.{Unary, negation, make-record, select, make-list, top, pop, Binary, add, subtract, multiply, divide, less, equal, glue, expand, change, push, unaryBody, binaryBody}
-use Rattle.lingua.specs.Expression.{Connective, Expression, constant, variable, current, unary, binary, lazy, choice, all-list, Yoke, always, yoke, Instruction, skip, assign, set-yoke, sequence, branch, loop, handle}
+use Rattle.lingua.specs.Expression.{Expression, constant, variable, current, unary, binary, lazy, choice, all-list, Yoke, always, yoke, Instruction, skip, assign, set-yoke, sequence, branch, loop, handle}
 use Rattle.lingua.specs.Evaluation.{no-current}
 use Rattle.lingua.specs.Run.{Declaration, Profile}
 

@@ -8,8 +8,8 @@ use lib.Dec.{leb}
 use lib.ListN.{length, replicate}
 use lib.IntN.{ℤ, pos}
 use lib.Signed.{leZ}
-use Rattle.lingua.specs.Numbers.{lowest-number, highest-number, word-length, lowest-character, highest-character, list-places, body-cells}
-use Rattle.lingua.specs.Body.{Body, boolean, number, word, list-of, record-of, Attributes, end, attribute, size, sizes}
+use Rattle.lingua.specs.Numbers.{lowest-number, highest-number, word-length, lowest-character, highest-character, list-places}
+use Rattle.lingua.specs.Body.{Body, boolean, number, word, list-of, record-of, Attributes, end, attribute, size}
 
 mutual
   pub data Value : Type 0 where

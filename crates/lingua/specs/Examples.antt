@@ -1,0 +1,203 @@
+-- Worked examples beside the edges, where a definition is easiest to get wrong. Each is computed and compared. Assumes nothing.
+use mathlib.Core.Path.{_≡_, refl}
+use mathlib.Core.Bool.{true}
+use mathlib.Core.List.{List, [], _∷_, _++_}
+use mathlib.Core.Option.{none}
+use Prim.Native.Nat.{ℕ}
+use lib.ListN.{take, drop, set, replicate}
+use lib.IntN.{ℤ, pos}
+use Rattle.lingua.specs.Errors.{overflow, division-by-zero, yoke-not-satisfied, number-expected, attribute-present, body-too-large, bad-marker, bad-check, type-error-found}
+use Rattle.lingua.specs.Outcome.{Outcome, ok, fail, Result, _>>=_}
+use Rattle.lingua.specs.Body.{Body, boolean, number, word, list-of, record-of, end, attribute}
+use Rattle.lingua.specs.Value.{whole, text, items, item, no-items, fields, field, no-fields, cellsOf, pad, Composite, composite}
+use Rattle.lingua.specs.Operation.{make-record, select, pop, add, less, expand, unaryBody, binaryBody}
+use Rattle.lingua.specs.Expression.{constant, variable, unary, binary, always, Instruction, skip, assign, set-yoke, sequence, loop, handle}
+use Rattle.lingua.specs.Evaluation.{applyUnary, applyBinary, no-current}
+use Rattle.lingua.specs.Store.{Reading, statesIn}
+use Rattle.lingua.specs.Run.{Profile, run, lastState}
+use Rattle.lingua.specs.Typing.{TypeError, Typed, check, layoutOf}
+use Rattle.lingua.specs.Meets.{met}
+use Rattle.lingua.specs.Format.{profile, limits, blockCheck, fileOf, rowsOf}
+use Rattle.lingua.specs.Answers.{refused, answered, Ending, ending, faulted}
+use Rattle.lingua.specs.Calls.{endingOf, checkCall, erasedCall}
+use Rattle.lingua.specs.Refusal.{checkRefusal}
+use Rattle.lingua.specs.Report.{reportText}
+use Rattle.lingua.specs.Edges.{literal, truth-literal, one-by-zero, speed, program, up-to-600, below-five}
+use Rattle.lingua.specs.Computing.{computing}
+
+-- ---- cells
+-- a word's cell: "AB" is 65 * 256^7 + 66 * 256^6
+pub word-cell : cellsOf word (text (65 ∷ 66 ∷ [])) ≡ pos 4702320960928219136 ∷ []
+unfolding computing
+word-cell = refl
+
+abbrev pub one-and-five : Composite
+one-and-five =
+    composite (record-of (attribute 1 number (attribute 5 number end))) (fields (field 1 (whole (pos 10)) (field 5 (whole (pos 50)) no-fields)))
+
+abbrev pub cellsOfResult : Result Composite → List ℤ
+cellsOfResult (ok x) = cellsOf (x .body) (x .value)
+cellsOfResult (fail n) = []
+
+-- an attribute inserted in the middle
+pub middle-attribute : cellsOfResult (applyBinary (expand 3) one-and-five (composite number (whole (pos 30)))) ≡ pos 10 ∷ pos 30 ∷ pos 50 ∷ []
+unfolding computing
+middle-attribute = refl
+
+abbrev pub seven-and-eight : Composite
+seven-and-eight = composite (list-of number) (items (item (whole (pos 7)) (item (whole (pos 8)) no-items)))
+
+-- a freed place is zero
+pub freed-place : cellsOfResult (applyUnary pop seven-and-eight) ≡ pos 1 ∷ pos 7 ∷ replicate 7 (pos 0)
+unfolding computing
+freed-place = refl
+
+-- ---- bounds
+abbrev pub eight-attributes : Body
+eight-attributes =
+    record-of (attribute 0 number (attribute 1 number (attribute 2 number (attribute 3 number (attribute 4 number (attribute 5 number (attribute 6 number (attribute 7 number end))))))))
+
+-- a ninth attribute is too many; one that is there already is named first
+pub ninth-attribute : binaryBody (expand 9) eight-attributes number ≡ fail body-too-large
+unfolding computing
+ninth-attribute = refl
+
+pub present-attribute : binaryBody (expand 7) eight-attributes number ≡ fail attribute-present
+unfolding computing
+present-attribute = refl
+
+-- a record in a record in a record in a record has depth 5
+pub fifth-level : (unaryBody (make-record 0) number >>= λ b. unaryBody (make-record 0) b >>= λ c. unaryBody (make-record 0) c >>= λ d. unaryBody (make-record 0) d) ≡ fail body-too-large
+unfolding computing
+fifth-level = refl
+
+-- ---- runs
+abbrev pub reading : ℤ → List Reading
+reading z = record { variable = 0; number = z } ∷ []
+
+abbrev pub endsWith : Profile → List Reading → ℕ → Ending
+endsWith p rs budget = endingOf budget (run p rs budget)
+
+abbrev pub limited : Instruction → Profile
+limited i = program (speed always up-to-600) i
+
+-- a reading out of range is an error before the limits are asked; one outside the limits fails at its own place
+pub wide-reading : endsWith (limited (skip 0)) (reading (pos 1000001)) 5 ≡ ending 1 overflow 256 0
+unfolding computing
+wide-reading = refl
+
+pub fast-reading : endsWith (limited (skip 0)) (reading (pos 601)) 5 ≡ ending 1 yoke-not-satisfied 256 0
+unfolding computing
+fast-reading = refl
+
+-- a handler clears a reading's error, with its place, and takes a step
+pub handled-reading : endsWith (limited (handle 1 yoke-not-satisfied (skip 0))) (reading (pos 601)) 5 ≡ ending 0 0 0 2
+unfolding computing
+handled-reading = refl
+
+-- a budget stops a loop between a test and its body, and at a test
+pub stopped-loop : endsWith (limited (loop 1 (truth-literal true) (skip 0))) [] 5 ≡ ending 2 0 0 5
+unfolding computing
+stopped-loop = refl
+
+-- each test takes a step, the last included: x := 0; while x < 2 do x := x + 1 takes 1 + 3 + 2
+abbrev pub counting : Instruction
+counting =
+    sequence 3 (assign 0 0 (literal (pos 0)))
+    (loop 2 (binary 9 less (variable 7 0) (literal (pos 2)))
+    (assign 1 0 (binary 5 add (variable 4 0) (literal (pos 1)))))
+
+pub counted-loop : endsWith (limited counting) [] 50 ≡ ending 0 0 0 6
+unfolding computing
+counted-loop = refl
+
+-- a yoke that the value does not satisfy takes no effect
+pub kept-yoke : statesIn (lastState (run (limited (sequence 2 (assign 0 0 (literal (pos 9))) (set-yoke 1 0 below-five))) [] 9) .store) ≡ 1 ∷ replicate 31 0
+unfolding computing
+kept-yoke = refl
+
+-- true + 1/0 meets both errors, though it gives 2: the divisor's own check and the division's, then the sum's first operand's
+pub both-met : met (binary 3 add (truth-literal true) one-by-zero) (λ n. none) no-current ≡ division-by-zero ∷ division-by-zero ∷ number-expected ∷ []
+unfolding computing
+both-met = refl
+
+-- ---- the type check
+abbrev pub layoutIn : Outcome TypeError Typed → List ℕ
+layoutIn (ok t) = layoutOf (t .entries)
+layoutIn (fail e) = []
+
+-- row 0 gives three cells; row 1 selects attribute 5, two cells behind the start
+pub selected-layout : take 4 (layoutIn (check (unary 1 (select 5) (constant 0 (composite (record-of (attribute 1 number (attribute 3 word (attribute 5 number end)))) (fields no-fields)))) (λ n. boolean) boolean)) ≡ 3 ∷ 0 ∷ 1 ∷ 2 ∷ []
+unfolding computing
+selected-layout = refl
+
+-- ---- files
+-- a row: its section, its kind, then what its eight bytes begin with
+abbrev pub row : ℕ → ℕ → List ℕ → List ℕ
+row s k bytes = s ∷ k ∷ pad 8 0 bytes
+
+-- document 01's profile: SPEED and TURN, numbers, no own yokes; SPEED := 120
+unfoldable pub example-rows : List ℕ
+example-rows =
+    row 1 0 (83 ∷ 80 ∷ 69 ∷ 69 ∷ 68 ∷ [])
+    ++ (row 1 1 []
+    ++ (row 1 0 (84 ∷ 85 ∷ 82 ∷ 78 ∷ [])
+    ++ (row 1 1 []
+    ++ (row 2 2 []
+    ++ (row 3 2 (120 ∷ [])
+    ++ row 4 2 [])))))
+
+-- SPEED 0 to 600
+unfoldable pub example-limits : List ℕ
+example-limits = row 5 0 (83 ∷ 80 ∷ 69 ∷ 69 ∷ 68 ∷ []) ++ row 5 1 (0 ∷ 0 ∷ 0 ∷ 0 ∷ 88 ∷ 2 ∷ [])
+
+unfoldable pub example-profile-file : List ℕ
+example-profile-file = fileOf profile 7 example-rows
+
+unfoldable pub example-limits-file : List ℕ
+example-limits-file = fileOf limits 7 example-limits
+
+-- the check of a limits file's block with no limits, and of the example's, as another implementation has them
+pub empty-check : blockCheck (76 ∷ 73 ∷ 77 ∷ 83 ∷ 0 ∷ 1 ∷ 7 ∷ 0 ∷ replicate 500 0) ≡ 2728029194
+unfolding computing
+empty-check = refl
+
+pub example-check : drop 508 example-profile-file ≡ 161 ∷ 131 ∷ 103 ∷ 59 ∷ []
+unfolding computing example-profile-file example-rows
+example-check = refl
+
+pub example-reads-back : rowsOf example-profile-file ≡ example-rows
+unfolding computing example-profile-file example-rows
+example-reads-back = refl
+
+-- the lowest number over both files: the profile's check is wrong, and the limits file's marker
+pub lowest-of-both : checkRefusal (set example-profile-file 508 0) (set example-limits-file 0 0) (replicate 1024 0) ≡ bad-marker
+unfolding computing example-profile-file example-rows example-limits-file example-limits
+lowest-of-both = refl
+
+pub check-alone : checkRefusal (set example-profile-file 508 0) example-limits-file (replicate 1024 0) ≡ bad-check
+unfolding computing example-profile-file example-rows example-limits-file example-limits
+check-alone = refl
+
+-- the report's example: "end 0 error 0 place 0 steps 1", "SPEED 120", "TURN -"
+pub example-report : reportText example-profile-file example-limits-file
+    ≡ 101 ∷ 110 ∷ 100 ∷ 32 ∷ 48 ∷ 32 ∷ 101 ∷ 114 ∷ 114 ∷ 111 ∷ 114 ∷ 32 ∷ 48 ∷ 32 ∷ 112 ∷ 108 ∷ 97 ∷ 99 ∷ 101 ∷ 32 ∷ 48 ∷ 32 ∷ 115 ∷ 116 ∷ 101 ∷ 112 ∷ 115 ∷ 32 ∷ 49 ∷ 10 ∷ 83 ∷ 80 ∷ 69 ∷ 69 ∷ 68 ∷ 32 ∷ 49 ∷ 50 ∷ 48 ∷ 10 ∷ 84 ∷ 85 ∷ 82 ∷ 78 ∷ 32 ∷ 45 ∷ 10 ∷ []
+unfolding computing example-profile-file example-rows example-limits-file example-limits
+example-report = refl
+
+-- the example with SPEED := true
+unfoldable pub wrong-rows : List ℕ
+wrong-rows = set (set example-rows 51 1) 52 1
+
+unfoldable pub wrong-file : List ℕ
+wrong-file = fileOf profile 7 wrong-rows
+
+-- the type check zeroes the layout table; an erased run is refused with 17 and leaves it
+pub type-error-zeroes : checkCall wrong-file example-limits-file (replicate 1024 5) ≡ record { answer = answered (faulted 15 512); layout = replicate 1024 0 }
+unfolding computing example-rows example-limits-file example-limits wrong-rows wrong-file
+type-error-zeroes = refl
+
+pub refused-leaves : erasedCall wrong-file example-limits-file [] [] 9 (replicate 1024 (pos 5)) (replicate 32 5) (replicate 1024 5)
+    ≡ record { answer = refused type-error-found; cells = replicate 1024 (pos 5); states = replicate 32 5; layout = replicate 1024 5 }
+unfolding computing example-rows example-limits-file example-limits wrong-rows wrong-file
+refused-leaves = refl
