@@ -17,6 +17,7 @@ pub mod Format
 pub mod Rules
 pub mod References
 pub mod Refusal
+pub mod Operations
 pub mod Answers
 pub mod Calls
 pub mod Report

@@ -1,6 +1,7 @@
 // Lingua profiles: the public data types of the answers, and the numbers of document 01 for the code.
 // What everything means is defined in specs/.
 pub mod errors; // errors.rt: error and refusal numbers
+pub mod operations; // operations.rt: the operations of expression rows
 pub mod sizes; // sizes.rt: sizes, counts and places
 
 // Which of the two kinds of file the reader or the writer is told.

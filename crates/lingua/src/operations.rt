@@ -1,0 +1,24 @@
+// The operations of expression rows, as the code tells them apart; a record's operations name an attribute.
+// Of one operand: kinds 14, 16, 18, 20, 22, 23.
+pub enum UnaryOperation {
+    Negation,
+    MakeRecord(u8),
+    Select(u8),
+    MakeList,
+    Top,
+    Pop,
+}
+
+// Of two operands: kinds 5 to 10, 13, 17, 19, 21.
+pub enum BinaryOperation {
+    Add,
+    Subtract,
+    Multiply,
+    Divide,
+    Less,
+    Equal,
+    Glue,
+    Expand(u8),
+    Change(u8),
+    Push,
+}
