@@ -1,13 +1,13 @@
 -- The range of numbers, and that sums, differences, products and quotients of numbers in range fit 64 bits.
 -- Assumes nothing.
 use mathlib.Core.Path.{_≡_, refl, sym, ap, _∙_}
-use mathlib.Core.Bool.{Bool, true, false, _&&_, cond, not, decide}
+use mathlib.Core.Bool.{Bool, true, false, _&&_, cond}
 use Prim.Native.Nat.{ℕ, zero, suc, _+_, _-_, _*_, _/_, _≤_, _<_}
 use native.Mathlib.Nat.{mul-le-mul-left, mul-le-mul-right, le-trans, div-le-self}
 use native.Mathlib.Omega.{arith}
-use borrow.Author.Tests.{ltb-true, ltb-false, leb-true, eqb-true, eqb-false, lt-leb, le-leb}
+use borrow.Author.Tests.{ltb-true, ltb-false, leb-true, eqb-true, eqb-false, eq-eqb, ne-eqb, lt-leb, le-leb}
 use lib.Dec.{ltb, leb, eqb}
-use lib.IntN.{ℤ, pos, negsuc, negℤ, natAbs, ℤ-discrete, _+ℤ_, _-ℤ_, _*ℤ_}
+use lib.IntN.{ℤ, pos, negsuc, negℤ, natAbs, _+ℤ_, _-ℤ_, _*ℤ_}
 use lib.Signed.{mag, ltZ, leZ, quotZ}
 use mir.Syntax.{w64}
 use mir.Val.{SFits, toZ, ofZ}
@@ -124,23 +124,19 @@ zero-bits (pos (suc n)) f s = omega arith
 zero-bits (negsuc n) f s = omega (arith, s .sfits)
 
 -- ---- equality
-decided : {P : Type 0} (d : Dec P) → P → decide d ≡ true
-unfolding decide
-decided (yes p) q = refl
-decided (no n) q = absurd (n q)
-
-refuted : {P : Type 0} (d : Dec P) → (P → ⊥) → decide d ≡ false
-unfolding decide
-refuted (yes p) n = absurd (n p)
-refuted (no m) n = refl
-
 pub same-number : (x y : ℤ) → x ≡ y → sameNumber x y ≡ true
 unfolding sameNumber
-same-number x y e = decided (ℤ-discrete x y) e
+same-number (pos m) (pos n) e = eq-eqb m n (cc)
+same-number (pos m) (negsuc n) e = let k : _≡_ {A = ℕ} 0 1 = cc in absurd (let b : ⊥ = omega arith in b)
+same-number (negsuc m) (pos n) e = let k : _≡_ {A = ℕ} 0 1 = cc in absurd (let b : ⊥ = omega arith in b)
+same-number (negsuc m) (negsuc n) e = eq-eqb m n (cc)
 
 pub other-number : (x y : ℤ) → (x ≡ y → ⊥) → sameNumber x y ≡ false
 unfolding sameNumber
-other-number x y n = refuted (ℤ-discrete x y) n
+other-number (pos m) (pos n) f = ne-eqb m n (λ e. f (ap pos e))
+other-number (pos m) (negsuc n) f = refl
+other-number (negsuc m) (pos n) f = refl
+other-number (negsuc m) (negsuc n) f = ne-eqb m n (λ e. f (ap negsuc e))
 
 -- the bits of two numbers are equal where the numbers are
 pub same-bits : (x y : ℤ) → SFits w64 x → SFits w64 y → eqb (ofZ w64 x) (ofZ w64 y) ≡ sameNumber x y

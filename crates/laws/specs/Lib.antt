@@ -6,3 +6,7 @@ pub mod Outcomes
 pub mod Words
 pub mod Sound
 pub mod Determined
+pub mod Equal
+pub mod Tests
+pub mod Refusals
+pub mod Blocks

@@ -3,7 +3,7 @@
 -- That attributes ascend is not needed. Assumes nothing.
 use mathlib.Core.Path.{_≡_, refl, sym, ap, _∙_, subst}
 use mathlib.Core.Bool.{Bool, true, false}
-use mathlib.Core.List.{List, [], _∷_, _++_, append-assoc}
+use mathlib.Core.List.{List, [], _∷_, _++_, append-assoc, append-nil}
 use mathlib.Core.Option.{Option, some, none}
 use Prim.Native.Nat.{ℕ, zero, suc, _+_, _-_, _*_, _≤_, _<_}
 use native.Mathlib.Omega.{arith}
@@ -13,8 +13,8 @@ use lib.Seq.{take-at, drop-at, drop-append-add, paste}
 use lib.IntN.{ℤ, pos}
 use borrow.Author.Tests.{eq-eqb}
 use Rattle.lingua.specs.Outcome.{isSome, if_then_else_}
-use Rattle.lingua.specs.Body.{Body, Attributes, end, attribute, size, sizes, attributeBody, attributeOffset, insertAttribute}
-use Rattle.lingua.specs.Value.{Value, Fields, no-fields, field, Fits, FieldsFit, fit-end, fit-field, cellsOf, fieldCells}
+use Rattle.lingua.specs.Body.{Body, record-of, Attributes, end, attribute, size, sizes, attributeBody, attributeOffset, insertAttribute}
+use Rattle.lingua.specs.Value.{Value, fields, Fields, no-fields, field, Fits, fit-fields, FieldsFit, fit-end, fit-field, asFields, cellsOf, fieldCells}
 use Rattle.lingua.specs.Operation.{present}
 use Rattle.lingua.specs.Compute.{fieldValue, changeField, insertField}
 use Rattle.laws.specs.Lengths.{length-cells, length-fields}
@@ -164,3 +164,27 @@ module _ {xs : Fields} {fs : Attributes} {v : Value} {c : Body} (hs : FieldsFit 
 
   pub expand-fits : FieldsFit (insertField n v xs) (insertAttribute n c fs)
   expand-fits = insert hs k n e .fits
+
+-- a record's size grows by the new attribute's
+pub sizes-insert : (n : ℕ) (c : Body) (fs : Attributes) → sizes (insertAttribute n c fs) ≡ sizes fs + size c
+unfolding insertAttribute sizes
+sizes-insert n c end = omega arith
+sizes-insert n c (attribute m b fs) = go (ltb n m) (sizes-insert n c fs)
+  where
+    go : (t : Bool) → sizes (insertAttribute n c fs) ≡ sizes fs + size c
+        → sizes (if t then attribute n c (attribute m b fs) else attribute m b (insertAttribute n c fs)) ≡ size b + sizes fs + size c
+    go true e = omega arith
+    go false e = omega (arith, e)
+
+-- ---- make
+-- the cells of a record of one attribute are the attribute's
+pub make-record-cells : (n : ℕ) (b : Body) (x : Value) → cellsOf (record-of (attribute n b end)) (fields (field n x no-fields)) ≡ cellsOf b x
+unfolding cellsOf fieldCells asFields
+make-record-cells n b x = append-nil (cellsOf b x)
+
+pub make-record-size : (n : ℕ) (b : Body) → size (record-of (attribute n b end)) ≡ size b
+unfolding size sizes
+make-record-size n b = omega arith
+
+pub make-record-fits : (n : ℕ) {b : Body} {x : Value} → Fits x b → Fits (fields (field n x no-fields)) (record-of (attribute n b end))
+make-record-fits n h = fit-fields (fit-field h fit-end)

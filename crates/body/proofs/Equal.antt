@@ -1,0 +1,100 @@
+-- Two arrays that hold bodies are equal where the bodies are. Assumes nothing.
+use mathlib.Core.Path.{_≡_, refl, sym, ap, subst, _∙_}
+use mathlib.Core.Bool.{Bool, true, false, _&&_}
+use mathlib.Core.List.{List}
+use Prim.Native.Nat.{ℕ}
+use native.Mathlib.Omega.{arith}
+use lib.Dec.{eqb}
+use borrow.Author.Tests.{eqb-true, eq-eqb}
+use Rattle.lingua.specs.Body.{Body, boolean, number, word, list-of, record-of, Attributes, end, attribute, isBoolean, isNumber, isWord, elementBody, attributesOf, sameBody, sameAttributes}
+use Rattle.body.specs.Encode.{encoded, Holds}
+use Rattle.body.proofs.Parser.{encoded-injective}
+
+and-true : (s t : Bool) → true ≡ s → true ≡ t → true ≡ s && t
+and-true true t p q = q
+and-true false t p q = p
+
+and-left : (s t : Bool) → true ≡ s && t → true ≡ s
+and-left true t e = refl
+and-left false t e = e
+
+and-right : (s t : Bool) → true ≡ s && t → true ≡ t
+and-right true t e = e
+and-right false t e = let k : _≡_ {A = ℕ} 0 1 = cc in absurd (let b : ⊥ = omega arith in b)
+
+clash : {A : Type 0} → _≡_ {A = Bool} true false → A
+clash e = let k : _≡_ {A = ℕ} 0 1 = cc in absurd (let b : ⊥ = omega arith in b)
+
+-- ---- the test of equal bodies is right
+mutual
+  unfolding sameBody isBoolean isNumber isWord elementBody attributesOf
+
+  itself : (b : Body) → true ≡ sameBody b b
+  itself boolean = refl
+  itself number = refl
+  itself word = refl
+  itself (list-of b) = itself b
+  itself (record-of fs) = all-itself fs
+
+  all-itself : (fs : Attributes) → true ≡ sameAttributes fs fs
+  all-itself end = refl
+  all-itself (attribute n b fs) =
+      and-true (eqb n n) (sameBody b b && sameAttributes fs fs) (sym (eq-eqb n n refl))
+      (and-true (sameBody b b) (sameAttributes fs fs) (itself b) (all-itself fs))
+
+mutual
+  unfolding sameBody isBoolean isNumber isWord elementBody attributesOf
+
+  from-same : (b c : Body) → true ≡ sameBody b c → b ≡ c
+  from-same boolean boolean e = refl
+  from-same boolean number e = clash e
+  from-same boolean word e = clash e
+  from-same boolean (list-of c) e = clash e
+  from-same boolean (record-of gs) e = clash e
+  from-same number boolean e = clash e
+  from-same number number e = refl
+  from-same number word e = clash e
+  from-same number (list-of c) e = clash e
+  from-same number (record-of gs) e = clash e
+  from-same word boolean e = clash e
+  from-same word number e = clash e
+  from-same word word e = refl
+  from-same word (list-of c) e = clash e
+  from-same word (record-of gs) e = clash e
+  from-same (list-of b) boolean e = clash e
+  from-same (list-of b) number e = clash e
+  from-same (list-of b) word e = clash e
+  from-same (list-of b) (list-of c) e = ap list-of (from-same b c e)
+  from-same (list-of b) (record-of gs) e = clash e
+  from-same (record-of fs) boolean e = clash e
+  from-same (record-of fs) number e = clash e
+  from-same (record-of fs) word e = clash e
+  from-same (record-of fs) (list-of c) e = clash e
+  from-same (record-of fs) (record-of gs) e = ap record-of (from-all-same fs gs e)
+
+  from-all-same : (fs gs : Attributes) → true ≡ sameAttributes fs gs → fs ≡ gs
+  from-all-same end end e = refl
+  from-all-same end (attribute m c gs) e = clash e
+  from-all-same (attribute n b fs) end e = clash e
+  from-all-same (attribute n b fs) (attribute m c gs) e =
+      let r = and-right (eqb n m) (sameBody b c && sameAttributes fs gs) e in
+      let p = eqb-true n m (sym (and-left (eqb n m) (sameBody b c && sameAttributes fs gs) e)) in
+      let q = from-same b c (and-left (sameBody b c) (sameAttributes fs gs) r) in
+      let s = from-all-same fs gs (and-right (sameBody b c) (sameAttributes fs gs) r) in
+      cc
+
+pub same-body : (b c : Body) → b ≡ c → true ≡ sameBody b c
+same-body b c e = subst (λ (d : Body). true ≡ sameBody b d) e (itself b)
+
+pub other-body : (b c : Body) → (b ≡ c → ⊥) → false ≡ sameBody b c
+other-body b c n = by-test (sameBody b c) refl
+  where
+    by-test : (t : Bool) → t ≡ sameBody b c → false ≡ sameBody b c
+    by-test true e = absurd (n (from-same b c e))
+    by-test false e = e
+
+pub same-held : (x y : List ℕ) → x ≡ y → (b c : Body) → Holds x b → Holds y c → true ≡ sameBody b c
+same-held x y e b c h k = same-body b c (encoded-injective b c (sym (h .is) ∙ e ∙ k .is))
+
+pub other-held : (x y : List ℕ) → (x ≡ y → ⊥) → (b c : Body) → Holds x b → Holds y c → false ≡ sameBody b c
+other-held x y n b c h k = other-body b c (λ e. n (h .is ∙ ap encoded e ∙ sym (k .is)))

@@ -1,0 +1,9 @@
+pub mod Bytes
+pub mod Parser
+pub mod Copies
+pub mod Equal
+pub mod Places
+pub mod Measures
+pub mod Making
+pub mod Finding
+pub mod Inserting

@@ -1,0 +1,96 @@
+-- `body::find::find` meets its contract. The invariant is that what is asked of the whole record may be asked of the
+-- attributes ahead. Assumes nothing.
+use mathlib.Core.Path.{_≡_}
+use Prim.Native.Nat.{ℕ, _+_, _-_}
+use native.Mathlib.Omega.{arith}
+use lib.ListN.{length}
+use Rattle.body.proofs.Places.{at-below}
+use Rattle.body.proofs.Measures.{first-at}
+use Rattle.body.proofs.Finding.{some-ahead, next-body, Searching, search-start, search-hit, search-on, search-miss}
+use borrow.Author.Needs.{needs}
+use Rattle.body.proofs.find.find.Statement.{statement}
+use Rattle.body.proofs.find.find.Tie as tie
+
+abbrev Inv-loop : tie.InvT-loop
+Inv-loop n body left₀ at₀ offset₀ left at offset = Searching body n left at offset
+
+abbrev μ-loop : tie.MeasureT-loop
+μ-loop n body left₀ at₀ offset₀ left at offset = left
+
+array-read-left : tie.Need-array-read-left Inv-loop μ-loop
+array-read-left c = search needs
+
+loop-holds : tie.Need-loop-holds Inv-loop μ-loop
+loop-holds c = search-start (c .args .t1) (c .args .n) (c .pre)
+
+array-read-if1 : tie.Need-array-read-if1 Inv-loop μ-loop
+array-read-if1 c =
+    let l = c .before .loop in
+    let s = l .inv .state in
+    let n : length (c .before .before .args .t1) ≡ 96 = search needs in
+    omega (arith, n, at-below (c .before .before .args .t1) (l .at + 1) _ (next-body (c .before .before .args .t1) (l .left) (l .at) (c .loop-test .taken) s))
+
+add-t15 : tie.Need-add-t15 Inv-loop μ-loop
+add-t15 c =
+    let l = c .before .before .loop in
+    let s = l .inv .state in
+    let n : length (c .before .before .before .args .t1) ≡ 96 = search needs in
+    omega (arith, n, at-below (c .before .before .before .args .t1) (l .at + 1) _ (next-body (c .before .before .before .args .t1) (l .left) (l .at) (c .before .loop-test .taken) s))
+
+returns : tie.Need-returns Inv-loop μ-loop
+returns c =
+    let l = c .before .before .loop in
+    search-hit (c .before .before .before .args .t1) (c .before .before .before .args .n) (l .left) (l .at) (l .offset) (l .inv) (c .before .loop-test .taken) (c .if1 .taken)
+
+add-measure-at : tie.Need-add-measure-at Inv-loop μ-loop
+add-measure-at c =
+    let l = c .before .before .loop in
+    let s = l .inv .state in
+    let n : length (c .before .before .before .args .t1) ≡ 96 = search needs in
+    omega (arith, n, at-below (c .before .before .before .args .t1) (l .at + 1) _ (next-body (c .before .before .before .args .t1) (l .left) (l .at) (c .before .loop-test .taken) s))
+
+measure-at-requires : tie.Need-measure-at-requires Inv-loop μ-loop
+measure-at-requires c κs =
+    let l = c .before .before .loop in
+    first-at (c .before .before .before .args .t1) (l .at) (l .left) (c .before .loop-test .taken) (some-ahead (c .before .before .before .args .t1) (l .left) (l .at) (l .inv .state))
+
+add-offset : tie.Need-add-offset Inv-loop μ-loop
+add-offset c =
+    let l = c .before .before .before .before .loop in
+    omega (arith, search-on (c .before .before .before .before .before .args .t1) (c .before .before .before .before .before .args .n) (l .left) (l .at) (l .offset) (l .inv) (c .before .before .before .loop-test .taken) (c .before .before .if1 .left) (c .before .measure-at .result) (c .before .measure-at .ensures) .few-cells)
+
+sub-left : tie.Need-sub-left Inv-loop μ-loop
+sub-left c = let f = c .before .before .before .loop-test .taken in omega (arith, f)
+
+loop-less : tie.Need-loop-less Inv-loop μ-loop
+loop-less c = let f = c .before .before .before .loop-test .taken in omega (arith, f)
+
+loop-again : tie.Need-loop-again Inv-loop μ-loop
+loop-again c =
+    let l = c .before .before .before .before .loop in
+    search-on (c .before .before .before .before .before .args .t1) (c .before .before .before .before .before .args .n) (l .left) (l .at) (l .offset) (l .inv) (c .before .before .before .loop-test .taken) (c .before .before .if1 .left)
+    (c .before .measure-at .result) (c .before .measure-at .ensures)
+
+returns-2 : tie.Need-returns-2 Inv-loop μ-loop
+returns-2 c =
+    let l = c .before .loop in
+    search-miss (c .before .before .args .t1) (c .before .before .args .n) (l .left) (l .at) (l .offset) (l .inv) (c .loop-test .left)
+
+pub find-spec : {M : Type 1} → statement M
+find-spec =
+    tie.close
+    (tie.spec
+    Inv-loop
+    μ-loop
+    array-read-left
+    loop-holds
+    array-read-if1
+    add-t15
+    returns
+    add-measure-at
+    measure-at-requires
+    add-offset
+    sub-left
+    loop-less
+    loop-again
+    returns-2)

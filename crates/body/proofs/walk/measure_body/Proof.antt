@@ -1,0 +1,21 @@
+-- `body::walk::measure_body` meets its contract: an array that holds a body has its bytes at the start. Assumes nothing.
+use mathlib.Core.Path.{_≡_, refl, sym, ap, _∙_}
+use mathlib.Core.List.{List, [], _∷_}
+use Prim.Native.Nat.{ℕ, _+_, _-_, _≤_, _<_}
+use native.Mathlib.Omega.{arith}
+use lib.ListN.{length, drop, take}
+use lib.Seq.{paste}
+use Rattle.lingua.specs.Value.{pad}
+use Rattle.body.proofs.Making.{held-at, held-some}
+use borrow.Author.Needs.{needs}
+use Rattle.body.proofs.walk.measure_body.Statement.{statement}
+use Rattle.body.proofs.walk.measure_body.Tie as tie
+
+measure-at-requires : tie.Need-measure-at-requires
+measure-at-requires c κs = held-some (c .args .body) (c .pre)
+
+returns : tie.Need-returns
+returns c = λ b h. c .measure-at .ensures b (held-at (c .before .args .body) b h)
+
+pub measure-body-spec : {M : Type 1} → statement M
+measure-body-spec = tie.close (tie.spec measure-at-requires returns)

@@ -1,0 +1,3 @@
+pub mod Encode
+pub mod Walk
+pub mod Find

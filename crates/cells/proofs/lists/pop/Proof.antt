@@ -1,0 +1,111 @@
+-- `pop` meets its contract, by `pop-empty` and `pop-law`. Assumes nothing.
+use mathlib.Core.Path.{_≡_, refl, sym, ap, _∙_}
+use native.Mathlib.Omega.{arith}
+use lib.ListN.{length-set}
+use Rattle.cells.proofs.Elements.{count-back, counted-cell, counted-few, last-room, pop-empty, pop-law}
+use borrow.Author.Needs.{needs}
+use Rattle.cells.proofs.lists.pop.Statement.{statement}
+use Rattle.cells.proofs.lists.pop.Tie as tie
+use Rattle.cells.proofs.lists.pop.Reads as reads
+use Rattle.cells.proofs.lists.pop.Lts as lts
+use Rattle.cells.proofs.parts.clear.Reads as clear-reads
+
+-- src/lists.rt:61:17
+slice-copy-out-count : tie.Need-slice-copy-out-count
+slice-copy-out-count c = search needs
+
+-- src/lists.rt:61:17
+cast-count : tie.Need-cast-count
+cast-count c =
+    let a = c .before in
+    let s = a .args .stack .now in
+    let w = a .args .width in
+    let k = a .pre .0 in
+    rw (count-back s w k) (tt, omega (arith, k .few))
+
+-- src/lists.rt:63:9
+returns : tie.Need-returns
+returns c = λ b x z h.
+    let a = c .before .before in
+    let s = a .args .stack .now in
+    let w = a .args .width in
+    let k = a .pre .0 in
+    pop-empty s b x _ h (counted-cell s w k) (c .if1 .taken)
+
+-- src/lists.rt:65:30
+sub-clear : tie.Need-sub-clear
+sub-clear c = search needs
+
+-- src/lists.rt:65:29
+mul-clear : tie.Need-mul-clear
+mul-clear c =
+    let a = c .before .before .before in
+    let s = a .args .stack .now in
+    let w = a .args .width in
+    let k = a .pre .0 in
+    omega (arith, last-room s w k (c .before .if1 .left))
+
+-- src/lists.rt:65:25
+add-clear : tie.Need-add-clear
+add-clear c =
+    let a = c .before .before .before in
+    let s = a .args .stack .now in
+    let w = a .args .width in
+    let k = a .pre .0 in
+    omega (arith, last-room s w k (c .before .if1 .left))
+
+-- src/lists.rt:65:5
+clear-requires : tie.Need-clear-requires
+clear-requires c κs =
+    let a = c .before .before .before in
+    let s = a .args .stack .now in
+    let w = a .args .width in
+    let k = a .pre .0 in
+    omega (arith, last-room s w k (c .before .if1 .left))
+
+-- src/lists.rt:66:17
+sub-stack : tie.Need-sub-stack
+sub-stack c = search needs
+
+-- src/lists.rt:66:16
+cast-stack : tie.Need-cast-stack
+cast-stack c =
+    let a = c .before .before .before .before .before in
+    let s = a .args .stack .now in
+    let w = a .args .width in
+    let k = a .pre .0 in
+    omega (arith, counted-few s w k)
+
+-- src/lists.rt:66:5
+slice-set-from-stack : tie.Need-slice-set-from-stack
+slice-set-from-stack c = search needs
+
+-- src/lists.rt:56:1
+same-length : tie.Need-same-length
+same-length c = search needs
+
+-- src/lists.rt:56:1
+returns-2 : tie.Need-returns-2
+returns-2 c = λ b x z h.
+    let a = c .before .before .before .before .before in
+    let s = a .args .stack .now in
+    let w = a .args .width in
+    let k = a .pre .0 in
+    pop-law s (c .before .clear .last .0) b x _ w z h (counted-cell s w k) (c .before .before .before .if1 .left) (c .before .clear .ensures)
+
+pub pop-spec : {M : Type 1} → statement M
+pop-spec =
+    tie.close
+    (tie.spec
+    slice-copy-out-count
+    cast-count
+    returns
+    sub-clear
+    mul-clear
+    add-clear
+    clear-requires
+    sub-stack
+    cast-stack
+    slice-set-from-stack
+    same-length
+    returns-2)

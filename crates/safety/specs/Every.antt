@@ -1,0 +1,97 @@
+-- Lists all of whose elements have a property: of parts joined, mapped, tabulated, and of tests that hold everywhere. Assumes nothing.
+use mathlib.Core.Path.{_≡_, refl, sym, ap, _∙_, subst}
+use mathlib.Core.Logic.{_≢_}
+use mathlib.Core.Bool.{Bool, true, false, _&&_}
+use mathlib.Core.List.{List, [], _∷_, _++_, map, List·Memᴰ, List·Memᴰ·head, List·Memᴰ·tail}
+use Prim.Native.Nat.{ℕ, zero, suc, _+_, _≤_, _<_}
+use native.Mathlib.Omega.{arith}
+use lib.Dec.{eqb}
+use borrow.Author.Tests.{eqb-true, eqb-false}
+use Rattle.lingua.specs.Value.{allOf}
+use Rattle.lingua.specs.Typing.{joined}
+use Rattle.lingua.specs.Trees.{tabulateFrom, tabulate}
+use Rattle.lingua.specs.Format.{everyBelow}
+use Rattle.laws.specs.Outcomes.{and-left, and-right}
+
+pub data Every {A : Type 0} (P : A → Type 0) : List A → Type 0 where
+  every-none : Every P []
+  every-more : {x : A} {xs : List A} → P x → Every P xs → Every P (x ∷ xs)
+
+module _ {A : Type 0} {P : A → Type 0} where
+  pub every-append : {xs ys : List A} → Every P xs → Every P ys → Every P (xs ++ ys)
+  every-append every-none q = q
+  every-append (every-more h p) q = every-more h (every-append p q)
+
+  pub every-left : (xs ys : List A) → Every P (xs ++ ys) → Every P xs
+  every-left [] ys p = every-none
+  every-left (x ∷ xs) ys (every-more h p) = every-more h (every-left xs ys p)
+
+  pub every-right : (xs ys : List A) → Every P (xs ++ ys) → Every P ys
+  every-right [] ys p = p
+  every-right (x ∷ xs) ys (every-more h p) = every-right xs ys p
+
+  pub every-at : {x : A} {xs : List A} → Every P xs → List·Memᴰ x xs → P x
+  every-at (every-more h p) (List·Memᴰ·head e) = subst P (sym e) h
+  every-at (every-more h p) (List·Memᴰ·tail m) = every-at p m
+
+  pub every-all : ((x : A) → P x) → (xs : List A) → Every P xs
+  every-all h [] = every-none
+  every-all h (x ∷ xs) = every-more (h x) (every-all h xs)
+
+  pub every-one : {x : A} → P x → Every P (x ∷ [])
+  every-one h = every-more h every-none
+
+pub every-map : {A B : Type 0} {P : A → Type 0} {Q : B → Type 0} (f : A → B) → ((x : A) → P x → Q (f x)) → {xs : List A} → Every P xs → Every Q (map f xs)
+every-map f h every-none = every-none
+every-map f h (every-more {x} p ps) = every-more (h x p) (every-map f h ps)
+
+pub every-implies : {A : Type 0} {P Q : A → Type 0} → ((x : A) → P x → Q x) → {xs : List A} → Every P xs → Every Q xs
+every-implies h every-none = every-none
+every-implies h (every-more {x} p ps) = every-more (h x p) (every-implies h ps)
+
+-- all the parts' elements
+pub every-joined : {A : Type 0} {P : A → Type 0} {xss : List (List A)} → Every (λ xs. Every P xs) xss → Every P (joined xss)
+unfolding joined
+every-joined every-none = every-none
+every-joined (every-more p ps) = every-append p (every-joined ps)
+
+pub every-joined-part : {A : Type 0} {P : A → Type 0} (xss : List (List A)) → Every P (joined xss) → Every (λ xs. Every P xs) xss
+unfolding joined
+every-joined-part [] p = every-none
+every-joined-part (xs ∷ xss) p = every-more (every-left xs (joined xss) p) (every-joined-part xss (every-right xs (joined xss) p))
+
+-- f at i, i + 1 and so on
+tabulated-from : {A : Type 0} {P : A → Type 0} (f : ℕ → A) (i n : ℕ) → Every P (tabulateFrom i n f) → (k : ℕ) → k < n → P (f (i + k))
+unfolding tabulateFrom
+tabulated-from {P = P} f i (suc n) (every-more h p) zero l = subst (λ (j : ℕ). P (f j)) (let e : i ≡ i + zero = omega arith in e) h
+tabulated-from {P = P} f i (suc n) (every-more h p) (suc k) l =
+    subst (λ (j : ℕ). P (f j)) (let e : suc i + k ≡ i + suc k = omega arith in e) (tabulated-from f (suc i) n p k (omega arith))
+tabulated-from f i zero p k l = absurd (let z : ⊥ = omega arith in z)
+
+pub tabulated : {A : Type 0} {P : A → Type 0} (n : ℕ) (f : ℕ → A) → Every P (tabulate n f) → (k : ℕ) → k < n → P (f k)
+unfolding tabulate
+tabulated {P = P} n f p k l = subst (λ (j : ℕ). P (f j)) (let e : 0 + k ≡ k = omega arith in e) (tabulated-from f 0 n p k l)
+
+tabulate-from : {A : Type 0} {P : A → Type 0} (f : ℕ → A) (i n : ℕ) → ((k : ℕ) → k < i + n → P (f k)) → Every P (tabulateFrom i n f)
+unfolding tabulateFrom
+tabulate-from f i zero h = every-none
+tabulate-from f i (suc n) h = every-more (h i (omega arith)) (tabulate-from f (suc i) n (λ k l. h k (omega arith)))
+
+pub every-tabulate : {A : Type 0} {P : A → Type 0} (n : ℕ) (f : ℕ → A) → ((k : ℕ) → k < n → P (f k)) → Every P (tabulate n f)
+unfolding tabulate
+every-tabulate n f h = tabulate-from f 0 n (λ k l. h k (omega arith))
+
+-- ---- tests
+pub all-true : {A : Type 0} (p : A → Bool) (xs : List A) → allOf p xs ≡ true → Every (λ x. p x ≡ true) xs
+unfolding allOf
+all-true p [] e = every-none
+all-true p (x ∷ xs) e = every-more (and-left (p x) (allOf p xs) e) (all-true p xs (and-right (p x) (allOf p xs) e))
+
+pub below-true : (n : ℕ) (p : ℕ → Bool) → everyBelow n p ≡ true → (k : ℕ) → k < n → p k ≡ true
+unfolding everyBelow
+below-true zero p e k l = absurd (let z : ⊥ = omega arith in z)
+below-true (suc n) p e k l = by (eqb k n) refl (λ j. below-true n p (and-left (everyBelow n p) (p n) e) k j)
+  where
+    by : (t : Bool) → eqb k n ≡ t → (k < n → p k ≡ true) → p k ≡ true
+    by true q h = subst (λ (j : ℕ). p j ≡ true) (sym (eqb-true k n q)) (and-right (everyBelow n p) (p n) e)
+    by false q h = let apart : k ≢ n = eqb-false k n q in h (omega arith)

@@ -1,0 +1,11 @@
+pub mod Every
+pub mod Answers
+pub mod Constants
+pub mod Fitting
+pub mod Stored
+pub mod Everywhere
+pub mod Runs
+pub mod Invariant
+pub mod Sections
+pub mod Forest
+pub mod Accepted

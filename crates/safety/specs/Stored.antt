@@ -1,0 +1,133 @@
+-- What a run keeps of each variable: its declared body and limit, a yoke that reads no variable, and, where it is filled, a value that
+-- fits, satisfies the current yoke and lies within the limits. Assignments, yoke changes and readings keep it. Assumes nothing.
+use mathlib.Core.Path.{_≡_, refl, sym, ap, _∙_, subst}
+use mathlib.Core.Bool.{Bool, true, false, _&&_}
+use mathlib.Core.List.{List, [], _∷_}
+use mathlib.Core.Option.{Option, some, none}
+use Prim.Native.Nat.{ℕ, zero, suc}
+use lib.ListN.{getD, set}
+use lib.IntN.{ℤ}
+use Rattle.lingua.specs.Errors.{overflow, yoke-not-satisfied, no-coherence, yoke-expected}
+use Rattle.lingua.specs.Outcome.{Outcome, ok, fail, Result, _>>=_, _>>_, require}
+use Rattle.lingua.specs.Body.{Body, number, sameBody}
+use Rattle.lingua.specs.Value.{Value, whole, fit-whole, inRange, asWhole, Composite, composite}
+use Rattle.lingua.specs.Expression.{Yoke}
+use Rattle.lingua.specs.Evaluation.{Variables, truthOr, booleanOf, evalYoke}
+use Rattle.lingua.specs.Store.{Variable, no-variable, variableAt, contents, withContent, withYoke, within, admitted, assigned, yokeHolds, yokeChanged, Reading, readingTaken}
+use Rattle.laws.specs.Outcomes
+use Rattle.laws.specs.Outcomes.{and-left, and-right}
+use Rattle.safety.specs.Answers.{same-answer, never-ok, bound, demanded, after, none-is-some}
+use Rattle.safety.specs.Constants.{Fitting, ClosedYoke, yoke-any-store}
+use Rattle.safety.specs.Fitting.{FilledFit, yoke-fits, true-is}
+
+-- a value that a variable holds (document 01: it fits, its current yoke is satisfied, and it lies within the limits)
+pub record Settled (v : Variable) (x : Composite) : Type 0 where
+  pub coherent : x .body ≡ v .body
+  pub fits : Fitting x
+  pub satisfied : (vars : Variables) → evalYoke (v .current) vars x ≡ ok (booleanOf true)
+  pub limited : within (v .limit) (asWhole (x .value)) ≡ true
+
+-- a variable as it was declared, and as it is
+pub record Kept (d v : Variable) : Type 0 where
+  pub same-body : v .body ≡ d .body
+  pub same-limit : v .limit ≡ d .limit
+  pub closed : ClosedYoke (v .current)
+  pub settled : (x : Composite) → v .content ≡ some x → Settled v x
+
+-- every variable of a store, as declared in another
+unfoldable pub StoreKept : List Variable → List Variable → Type 0
+StoreKept ds vs = (n : ℕ) → Kept (variableAt ds n) (variableAt vs n)
+
+pub kept-fit : (ds vs : List Variable) → StoreKept ds vs → FilledFit (contents vs)
+unfolding StoreKept FilledFit
+kept-fit ds vs h n x e = h n .settled x e .fits
+
+-- ---- one variable replaced
+pub replaced : (P : ℕ → Variable → Type 0) (vs : List Variable) (n : ℕ) (v : Variable) → P n v → ((m : ℕ) → P m (variableAt vs m)) → (m : ℕ) → P m (variableAt (set vs n v) m)
+replaced P [] n v p h m = h m
+replaced P (x ∷ vs) zero v p h zero = p
+replaced P (x ∷ vs) zero v p h (suc m) = h (suc m)
+replaced P (x ∷ vs) (suc n) v p h zero = h zero
+replaced P (x ∷ vs) (suc n) v p h (suc m) = replaced (λ k w. P (suc k) w) vs n v p (λ k. h (suc k)) m
+
+some-same : {A : Type 0} {a b : A} → some a ≡ some b → a ≡ b
+some-same e = cc
+
+required-true : (t : Bool) (n : ℕ) (u : Unit {0}) → _≡_ {A = Result (Unit {0})} (require t n) (ok u) → t ≡ true
+required-true true n u e = refl
+required-true false n u e = never-ok e
+
+-- ---- assignment
+-- what the checks of a new value show
+pub record Admitted (vs : List Variable) (v : Variable) (x : Composite) : Type 0 where
+  pub coherent : x .body ≡ v .body
+  pub satisfied : (evalYoke (v .current) (contents vs) x >>= λ y. truthOr yoke-expected y) ≡ ok true
+  pub limited : within (v .limit) (asWhole (x .value)) ≡ true
+
+pub admitted-shows : (vs : List Variable) (v : Variable) (x : Composite) → admitted vs v x ≡ ok tt → Admitted vs v x
+unfolding admitted
+admitted-shows vs v x e =
+    let p = bound (evalYoke (v .current) (contents vs) x) _ tt e in
+    let q = demanded (sameBody (v .body) (x .body)) no-coherence _ tt (p .2) in
+    let r = bound (truthOr yoke-expected (p .0)) _ tt (q .1) in
+    let t = required-true (r .0 && within (v .limit) (asWhole (x .value))) yoke-not-satisfied tt (r .2) in
+    record { coherent = sym (Outcomes.same-body (v .body) (x .body) (q .0)); satisfied = ap (λ (o : Result Composite). o >>= λ y. truthOr yoke-expected y) (p .1) ∙ r .1 ∙ ap {B = Result Bool} ok (and-left (r .0) (within (v .limit) (asWhole (x .value))) t); limited = and-right (r .0) (within (v .limit) (asWhole (x .value))) t }
+
+-- a yoke that gave true in one store gives true in every store
+pub satisfied-everywhere : (y : Yoke) → ClosedYoke y → (vars : Variables) → FilledFit vars → (x : Composite) → Fitting x
+    → (evalYoke y vars x >>= λ r. truthOr yoke-expected r) ≡ ok true → (others : Variables) → evalYoke y others x ≡ ok (booleanOf true)
+satisfied-everywhere y c vars fit x h e others =
+    let p = bound (evalYoke y vars x) _ true e in
+    yoke-any-store y c others vars x ∙ p .1 ∙ ap {B = Result Composite} ok (true-is yoke-expected (p .0) true (yoke-fits y c vars fit x h (p .0) (p .1)) (p .2))
+
+pub assigned-kept : (ds vs : List Variable) → StoreKept ds vs → (n : ℕ) (x : Composite) → Fitting x → (ws : List Variable) → assigned vs n x ≡ ok ws → StoreKept ds ws
+unfolding assigned StoreKept
+assigned-kept ds vs h n x fit ws e =
+    let p = after (admitted vs (variableAt vs n) x) _ ws e in
+    subst (λ (us : List Variable). (m : ℕ) → Kept (variableAt ds m) (variableAt us m)) (same-answer (p .1))
+    (replaced (λ m v. Kept (variableAt ds m) v) vs n (withContent (variableAt vs n) x) (kept (admitted-shows vs (variableAt vs n) x (p .0))) h)
+  where
+    kept : Admitted vs (variableAt vs n) x → Kept (variableAt ds n) (withContent (variableAt vs n) x)
+    kept a =
+        record {
+          same-body = h n .same-body;
+          same-limit = h n .same-limit;
+          closed = h n .closed;
+          settled = λ z q. subst (λ (w : Composite). Settled (withContent (variableAt vs n) x) w) (some-same q)
+              (record { coherent = a .coherent; fits = fit; satisfied = satisfied-everywhere (variableAt vs n .current) (h n .closed) (contents vs) (kept-fit ds vs h) x fit (a .satisfied); limited = a .limited });
+        }
+
+-- ---- yoke change
+yoke-holds : (vs : List Variable) (y : Yoke) (c : Option Composite) (x : Composite) → c ≡ some x → yokeHolds vs y c ≡ ok tt
+    → (evalYoke y (contents vs) x >>= λ r. truthOr yoke-expected r) ≡ ok true
+unfolding yokeHolds
+yoke-holds vs y none x q e = none-is-some q
+yoke-holds vs y (some w) x q e =
+    let p = bound (evalYoke y (contents vs) w) _ tt e in
+    let r = bound (truthOr yoke-expected (p .0)) _ tt (p .2) in
+    subst (λ (z : Composite). (evalYoke y (contents vs) z >>= λ s. truthOr yoke-expected s) ≡ ok true) (some-same q)
+    (ap (λ (o : Result Composite). o >>= λ s. truthOr yoke-expected s) (p .1) ∙ r .1 ∙ ap {B = Result Bool} ok (required-true (r .0) yoke-not-satisfied tt (r .2)))
+
+pub changed-kept : (ds vs : List Variable) → StoreKept ds vs → (n : ℕ) (y : Yoke) → ClosedYoke y → (ws : List Variable) → yokeChanged vs n y ≡ ok ws → StoreKept ds ws
+unfolding yokeChanged StoreKept
+changed-kept ds vs h n y c ws e =
+    let p = after (yokeHolds vs y (variableAt vs n .content)) _ ws e in
+    subst (λ (us : List Variable). (m : ℕ) → Kept (variableAt ds m) (variableAt us m)) (same-answer (p .1))
+    (replaced (λ m v. Kept (variableAt ds m) v) vs n (withYoke (variableAt vs n) y) (kept (p .0)) h)
+  where
+    kept : yokeHolds vs y (variableAt vs n .content) ≡ ok tt → Kept (variableAt ds n) (withYoke (variableAt vs n) y)
+    kept q =
+        record {
+          same-body = h n .same-body;
+          same-limit = h n .same-limit;
+          closed = c;
+          settled = λ x e. let s = h n .settled x e in
+              record { coherent = s .coherent; fits = s .fits; satisfied = satisfied-everywhere y c (contents vs) (kept-fit ds vs h) x (s .fits) (yoke-holds vs y (variableAt vs n .content) x e q); limited = s .limited };
+        }
+
+-- ---- readings
+pub reading-kept : (ds vs : List Variable) → StoreKept ds vs → (r : Reading) (ws : List Variable) → readingTaken vs r ≡ ok ws → StoreKept ds ws
+unfolding readingTaken
+reading-kept ds vs h r ws e =
+    let p = demanded (inRange (r .number)) overflow _ ws e in
+    assigned-kept ds vs h (r .variable) (composite number (whole (r .number))) (fit-whole (p .0)) ws (p .1)
