@@ -15,7 +15,7 @@ ghost use Rattle.lingua.specs.Compute.{unaryValue, binaryValue};
 ghost use Rattle.cells.specs.Stack.{Lies, Holds, Leaves, Counted};
 
 // The value one cell up, as the first element; zeros in the other places.
-pub fn single(stack: &mut [i64], width: usize)
+pub fn make_list(stack: &mut [i64], width: usize)
     requires { ⌜ 1 + 8 * width ≤ 64 ⌝ }
     requires { ⌜ 64 ≤ length (now stack) ⌝ }
     ensures { λ _. ⌜ ((b : Body) (x : Value) → size b ≡ width → Lies (now (stack .entry)) 0 b x → Holds (now (stack .exit)) (list-of b) (unaryValue make-list x)) ⌝ }
@@ -51,7 +51,8 @@ pub fn top(stack: &mut [i64], width: usize) -> u8
     if count == 0 {
         return LIST_EMPTY;
     }
-    parts::copy_down(stack, 1 + (count - 1) * width, 0, width);
+    let last = count - 1;
+    parts::copy_down(stack, 1 + last * width, 0, width);
     NO_ERROR
 }
 
@@ -65,7 +66,8 @@ pub fn pop(stack: &mut [i64], width: usize) -> u8
     if count == 0 {
         return LIST_EMPTY;
     }
-    parts::clear(stack, 1 + (count - 1) * width, width);
-    stack[0] = (count - 1) as i64;
+    let last = count - 1;
+    parts::clear(stack, 1 + last * width, width);
+    stack[0] = last as i64;
     NO_ERROR
 }

@@ -40,6 +40,7 @@ pub fn expand(stack: &mut [i64], total: usize, offset: usize, width: usize)
         → sizes fs ≡ total → size c ≡ width → Lies (now (stack .entry)) 0 (record-of fs) x → Lies (now (stack .entry)) 64 c y
         → Holds (now (stack .exit)) (record-of (insertAttribute n c fs)) (binaryValue (expand n) x y)) ⌝ }
 {
-    parts::copy_up(stack, offset, offset + width, total - offset);
+    let next = offset + width;
+    parts::copy_up(stack, offset, next, total - offset);
     parts::copy_down(stack, SECOND, offset, width);
 }

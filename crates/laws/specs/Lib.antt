@@ -10,3 +10,6 @@ pub mod Equal
 pub mod Tests
 pub mod Refusals
 pub mod Blocks
+pub mod Parts
+pub mod Areas
+pub mod Stores

@@ -45,6 +45,10 @@ pub every-map : {A B : Type 0} {P : A → Type 0} {Q : B → Type 0} (f : A → 
 every-map f h every-none = every-none
 every-map f h (every-more {x} p ps) = every-more (h x p) (every-map f h ps)
 
+pub every-unmap : {A B : Type 0} {Q : B → Type 0} (f : A → B) (xs : List A) → Every Q (map f xs) → Every (λ x. Q (f x)) xs
+every-unmap f [] p = every-none
+every-unmap f (x ∷ xs) (every-more h p) = every-more h (every-unmap f xs p)
+
 pub every-implies : {A : Type 0} {P Q : A → Type 0} → ((x : A) → P x → Q x) → {xs : List A} → Every P xs → Every Q xs
 every-implies h every-none = every-none
 every-implies h (every-more {x} p ps) = every-more (h x p) (every-implies h ps)

@@ -9,3 +9,8 @@ pub mod Invariant
 pub mod Sections
 pub mod Forest
 pub mod Accepted
+pub mod RunErrors
+pub mod TypeSound
+pub mod Quiet
+pub mod Programs
+pub mod Passed

@@ -30,7 +30,7 @@ returns c = λ b x y z h j.
     let s = a .args .stack .now in
     let w = a .args .width in
     let k = a .pre .0 in
-    push-full s b x y _ h (counted-cell s w k) (c .if1 .taken)
+    push-full s b x y _ h (counted-cell s w k) (omega (arith, c .if1 .taken))
 
 -- src/lists.rt:36:41
 mul-copy-down : tie.Need-mul-copy-down
@@ -82,7 +82,7 @@ returns-2 c = λ b x y z h j.
     let s = a .args .stack .now in
     let w = a .args .width in
     let k = a .pre .0 in
-    push-law s (c .before .copy-down .last .0) b x y _ w z h j (counted-cell s w k) (c .before .before .before .if1 .left) (c .before .copy-down .ensures)
+    push-law s (c .before .copy-down .last .0) b x y _ w z h j (counted-cell s w k) (omega (arith, c .before .before .before .if1 .left)) (c .before .copy-down .ensures)
 
 pub push-spec : {M : Type 1} → statement M
 push-spec =

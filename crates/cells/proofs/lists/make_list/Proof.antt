@@ -1,13 +1,13 @@
--- `single` meets its contract, by `single-law`. Assumes nothing.
+-- `make_list` meets its contract, by `single-law`. Assumes nothing.
 use mathlib.Core.Path.{_≡_, refl, sym, ap, _∙_}
 use native.Mathlib.Omega.{arith}
 use lib.ListN.{length-set}
 use Rattle.cells.proofs.Elements.{single-law}
 use borrow.Author.Needs.{needs}
-use Rattle.cells.proofs.lists.single.Statement.{statement}
-use Rattle.cells.proofs.lists.single.Tie as tie
-use Rattle.cells.proofs.lists.single.Reads as reads
-use Rattle.cells.proofs.lists.single.Lts as lts
+use Rattle.cells.proofs.lists.make_list.Statement.{statement}
+use Rattle.cells.proofs.lists.make_list.Tie as tie
+use Rattle.cells.proofs.lists.make_list.Reads as reads
+use Rattle.cells.proofs.lists.make_list.Lts as lts
 use Rattle.cells.proofs.parts.clear.Reads as clear-reads
 use Rattle.cells.proofs.parts.copy_up.Reads as copy-up-reads
 
@@ -45,8 +45,8 @@ returns c = λ b x z h.
     let a = c .before .before .before .before .before .before in
     single-law (a .args .stack .now) (c .before .before .before .before .copy-up .last .0) (c .before .clear .last .0) b x (a .args .width) z h (omega arith) (c .before .before .before .before .copy-up .ensures) (c .before .clear .ensures)
 
-pub single-spec : {M : Type 1} → statement M
-single-spec =
+pub make-list-spec : {M : Type 1} → statement M
+make-list-spec =
     tie.close
     (tie.spec
     copy-up-requires

@@ -1,0 +1,162 @@
+-- The store as lent memory: where a variable's cells and state words lie, and that a store changes just these.
+-- Carried by laws of lists that are made of parts of one length. Assumes nothing.
+use mathlib.Core.Path.{_≡_, refl, sym, ap, _∙_}
+use mathlib.Core.List.{List, [], _∷_, _++_, append-assoc, map}
+use mathlib.Core.Option.{Option, some, none}
+use Prim.Native.Nat.{ℕ, zero, suc, _+_, _-_, _*_, _≤_, _<_}
+use native.Mathlib.Nat.{mul-suc, mul-zero, le-of-suc-le-suc}
+use native.Mathlib.Omega.{arith}
+use lib.ListN.{length, getD, take, drop, set, replicate, length-append, length-replicate, length-set}
+use lib.Seq.{paste, take-at, drop-at}
+use lib.IntN.{ℤ, pos}
+use Rattle.lingua.specs.Numbers.{body-cells, cells-length, states-length}
+use Rattle.lingua.specs.Value.{pad, Composite}
+use Rattle.lingua.specs.Expression.{yokeNumber}
+use Rattle.lingua.specs.Store.{Variable, no-variable, variableAt, contentCells, filledFlag, storeCells, storeStates, cellsIn, statesIn}
+use Rattle.laws.specs.Lists.{length-pad, paste-at}
+
+-- ---- lists of parts of one length
+module _ {A B : Type 0} (f : A → List B) where
+  unfoldable pub parts : List A → List B
+  parts [] = []
+  parts (x ∷ xs) = f x ++ parts xs
+
+  -- each part has length k
+  pub data Sized (k : ℕ) : List A → Type 0 where
+    sized-none : Sized k []
+    sized-more : {x : A} {xs : List A} → length (f x) ≡ k → Sized k xs → Sized k (x ∷ xs)
+
+  pub length-parts : (k : ℕ) (xs : List A) → Sized k xs → length (parts xs) ≡ k * length xs
+  unfolding parts
+  length-parts k [] sized-none = sym (mul-zero k)
+  length-parts k (x ∷ xs) (sized-more h hs) =
+      omega (arith, length-append (f x) (parts xs), length-parts k xs hs, h, mul-suc k (length xs))
+
+  pub sized-take : (k n : ℕ) (xs : List A) → Sized k xs → Sized k (take n xs)
+  sized-take k zero xs hs = sized-none
+  sized-take k (suc n) [] hs = sized-none
+  sized-take k (suc n) (x ∷ xs) (sized-more h hs) = sized-more h (sized-take k n xs hs)
+
+  pub length-take-parts : (k n : ℕ) (xs : List A) → Sized k xs → n ≤ length xs → length (parts (take n xs)) ≡ k * n
+  unfolding parts
+  length-take-parts k zero xs hs le = sym (mul-zero k)
+  length-take-parts k (suc n) [] hs le = absurd (let z : ⊥ = omega arith in z)
+  length-take-parts k (suc n) (x ∷ xs) (sized-more h hs) le =
+      omega (arith, length-append (f x) (parts (take n xs)), length-take-parts k n xs hs (le-of-suc-le-suc le), h, mul-suc k n)
+
+  -- part n between those before and those behind it
+  pub parts-split : (n : ℕ) (xs : List A) (d : A) → n < length xs → parts xs ≡ parts (take n xs) ++ (f (getD xs n d) ++ parts (drop (suc n) xs))
+  unfolding parts
+  parts-split n [] d lt = absurd (let z : ⊥ = omega arith in z)
+  parts-split zero (x ∷ xs) d lt = refl
+  parts-split (suc n) (x ∷ xs) d lt =
+      ap (λ (l : List B). f x ++ l) (parts-split n xs d (le-of-suc-le-suc lt)) ∙ sym (append-assoc (f x) (parts (take n xs)) _)
+
+  pub parts-set : (n : ℕ) (xs : List A) (a : A) → n < length xs → parts (set xs n a) ≡ parts (take n xs) ++ (f a ++ parts (drop (suc n) xs))
+  unfolding parts
+  parts-set n [] a lt = absurd (let z : ⊥ = omega arith in z)
+  parts-set zero (x ∷ xs) a lt = refl
+  parts-set (suc n) (x ∷ xs) a lt =
+      ap (λ (l : List B). f x ++ l) (parts-set n xs a (le-of-suc-le-suc lt)) ∙ sym (append-assoc (f x) (parts (take n xs)) _)
+
+  pub sized-at : (k n : ℕ) (xs : List A) (d : A) → Sized k xs → n < length xs → length (f (getD xs n d)) ≡ k
+  sized-at k n [] d hs lt = absurd (let z : ⊥ = omega arith in z)
+  sized-at k zero (x ∷ xs) d (sized-more h hs) lt = h
+  sized-at k (suc n) (x ∷ xs) d (sized-more h hs) lt = sized-at k n xs d hs (le-of-suc-le-suc lt)
+
+  pub sized-set : (k n : ℕ) (xs : List A) (a : A) → Sized k xs → length (f a) ≡ k → Sized k (set xs n a)
+  sized-set k n [] a hs h = sized-none
+  sized-set k zero (x ∷ xs) a (sized-more g hs) h = sized-more h hs
+  sized-set k (suc n) (x ∷ xs) a (sized-more g hs) h = sized-more g (sized-set k n xs a hs h)
+
+  -- ---- the same with z behind it up to m
+  module _ (k m : ℕ) (z : B) (xs : List A) (hs : Sized k xs) (n : ℕ) (lt : n < length xs) where
+    before : List B
+    before = parts (take n xs)
+
+    behind : List B
+    behind = parts (drop (suc n) xs) ++ replicate (m - length (parts xs)) z
+
+    length-before : length before ≡ k * n
+    unfolding before
+    length-before = length-take-parts k n xs hs (omega arith)
+
+    whole : (d : A) → pad m z (parts xs) ≡ before ++ (f (getD xs n d) ++ behind)
+    unfolding pad before behind
+    whole d =
+        ap (λ (l : List B). l ++ replicate (m - length (parts xs)) z) (parts-split n xs d lt)
+        ∙ append-assoc (parts (take n xs)) (f (getD xs n d) ++ parts (drop (suc n) xs)) _
+        ∙ ap (λ (l : List B). parts (take n xs) ++ l) (append-assoc (f (getD xs n d)) (parts (drop (suc n) xs)) _)
+
+    -- part n's place in it
+    pub part-at : (d : A) → take k (drop (k * n) (pad m z (parts xs))) ≡ f (getD xs n d)
+    part-at d =
+        ap (λ (l : List B). take k (drop (k * n) l)) (whole d)
+        ∙ ap (λ (l : List B). take k l) (drop-at before (f (getD xs n d) ++ behind) (k * n) length-before)
+        ∙ take-at (f (getD xs n d)) behind k (sized-at k n xs d hs lt)
+
+    same-length : (a : A) → length (f a) ≡ k → length (parts (set xs n a)) ≡ length (parts xs)
+    same-length a h =
+        length-parts k (set xs n a) (sized-set k n xs a hs h) ∙ ap (λ (j : ℕ). k * j) (length-set xs n a) ∙ sym (length-parts k xs hs)
+
+    -- another part n, and nothing else changed
+    pub part-set : (d a : A) → length (f a) ≡ k → pad m z (parts (set xs n a)) ≡ paste (pad m z (parts xs)) (k * n) (f a) k
+    unfolding pad before behind
+    part-set d a h =
+        ap (λ (l : List B). l ++ replicate (m - length (parts (set xs n a))) z) (parts-set n xs a lt)
+        ∙ ap (λ (j : ℕ). (parts (take n xs) ++ (f a ++ parts (drop (suc n) xs))) ++ replicate (m - j) z) (same-length a h)
+        ∙ append-assoc (parts (take n xs)) (f a ++ parts (drop (suc n) xs)) _
+        ∙ ap (λ (l : List B). parts (take n xs) ++ l) (append-assoc (f a) (parts (drop (suc n) xs)) _)
+        ∙ sym (paste-at before (f (getD xs n d)) behind (f a) (k * n) k length-before (sized-at k n xs d hs lt) h)
+        ∙ ap (λ (l : List B). paste l (k * n) (f a) k) (sym (whole d))
+
+-- ---- variables
+abbrev pub variableCells : Variable → List ℤ
+variableCells v = pad body-cells (pos 0) (contentCells (v .content))
+
+abbrev pub variableStates : Variable → List ℕ
+variableStates v = filledFlag (v .content) ∷ yokeNumber (v .current) ∷ []
+
+pub store-cells-parts : (vs : List Variable) → storeCells vs ≡ parts variableCells vs
+unfolding storeCells parts
+store-cells-parts [] = refl
+store-cells-parts (v ∷ vs) = ap (λ (l : List ℤ). variableCells v ++ l) (store-cells-parts vs)
+
+pub store-states-parts : (vs : List Variable) → storeStates vs ≡ parts variableStates vs
+unfolding storeStates parts
+store-states-parts [] = refl
+store-states-parts (v ∷ vs) = ap (λ (l : List ℕ). filledFlag (v .content) ∷ yokeNumber (v .current) ∷ l) (store-states-parts vs)
+
+-- every content has at most 64 cells
+pub data Small : List Variable → Type 0 where
+  small-none : Small []
+  small-more : {v : Variable} {vs : List Variable} → length (contentCells (v .content)) ≤ body-cells → Small vs → Small (v ∷ vs)
+
+pub small-sized : {vs : List Variable} → Small vs → Sized variableCells body-cells vs
+small-sized small-none = sized-none
+small-sized (small-more {v} {vs} h hs) = sized-more (length-pad body-cells (pos 0) (contentCells (v .content)) h) (small-sized hs)
+
+pub states-sized : (vs : List Variable) → Sized variableStates 2 vs
+states-sized [] = sized-none
+states-sized (v ∷ vs) = sized-more refl (states-sized vs)
+
+module _ (vs : List Variable) (n : ℕ) (lt : n < length vs) where
+  -- variable n's 64 cells
+  pub cells-at : Small vs → take body-cells (drop (body-cells * n) (cellsIn vs)) ≡ variableCells (variableAt vs n)
+  unfolding cellsIn
+  cells-at hs = rw (store-cells-parts vs) (part-at variableCells body-cells cells-length (pos 0) vs (small-sized hs) n lt no-variable)
+
+  -- another variable n: only its cells and its two state words change
+  pub cells-set : Small vs → (v : Variable) → length (contentCells (v .content)) ≤ body-cells → cellsIn (set vs n v) ≡ paste (cellsIn vs) (body-cells * n) (variableCells v) body-cells
+  unfolding cellsIn
+  cells-set hs v h =
+      rw (store-cells-parts (set vs n v), store-cells-parts vs)
+      (part-set variableCells body-cells cells-length (pos 0) vs (small-sized hs) n lt no-variable v (length-pad body-cells (pos 0) (contentCells (v .content)) h))
+
+  pub states-at : take 2 (drop (2 * n) (statesIn vs)) ≡ variableStates (variableAt vs n)
+  unfolding statesIn
+  states-at = rw (store-states-parts vs) (part-at variableStates 2 states-length 0 vs (states-sized vs) n lt no-variable)
+
+  pub states-set : (v : Variable) → statesIn (set vs n v) ≡ paste (statesIn vs) (2 * n) (variableStates v) 2
+  unfolding statesIn
+  states-set v = rw (store-states-parts (set vs n v), store-states-parts vs) (part-set variableStates 2 states-length 0 vs (states-sized vs) n lt no-variable v refl)

@@ -1,0 +1,4 @@
+pub mod Counting
+pub mod Every
+pub mod Runs
+pub mod Forms

@@ -1,0 +1,150 @@
+-- The type check of an accepted pair of files is sound: where it passes, no run of the pair meets a type error, for readings of number
+-- variables and at every budget (`accepted-safe`). So each call that is not refused runs without type errors: `checked-call-safe`,
+-- `erased-call-safe`. Assumes nothing.
+use mathlib.Core.Path.{_≡_, refl, sym, ap, _∙_, subst}
+use mathlib.Core.Bool.{Bool, true, false, not, _&&_, _||_}
+use mathlib.Core.List.{List, [], _∷_, _++_, map}
+use Prim.Native.Nat.{ℕ, zero, suc, _+_, _<_, pred}
+use native.Mathlib.Omega.{arith}
+use lib.Dec.{eqb, ltb}
+use lib.ListN.{length, getD}
+use lib.IntN.{ℤ}
+use borrow.Author.Tests.{ltb-true, not-false}
+use Rattle.lingua.specs.Numbers.{declaration-section, instruction-section, declaration-place, cells-length, states-length, layout-length, most-readings}
+use Rattle.lingua.specs.Outcome.{Outcome, ok, fail, Result, isOk, allAnswers}
+use Rattle.lingua.specs.Body.{Body, boolean, number, isNumber}
+use Rattle.lingua.specs.Value.{allOf}
+use Rattle.lingua.specs.Expression.{Instruction, skip}
+use Rattle.lingua.specs.Store.{variableAt, Reading}
+use Rattle.lingua.specs.Run.{Declaration, Profile, unfilled}
+use Rattle.lingua.specs.Typing.{TypeError, Entry, Bodies, checkYoke, checkInstruction, checkDeclarations, bodiesOf, joined, checkProfile}
+use Rattle.lingua.specs.Meets.{runMet}
+use Rattle.lingua.specs.Rows.{tableCount, pairCount}
+use Rattle.lingua.specs.Trees.{tabulateFrom, tabulate, instructionTree, declaredBody, bodyOr, declarationAt, profileOf}
+use Rattle.lingua.specs.Format.{rowsOf}
+use Rattle.lingua.specs.Refusal.{rule, lowest, pairRules, isNumberBody, isNumberVariable, readingWrong, runRules, checkedRefusal, erasedRefusal}
+use Rattle.lingua.specs.Calls.{readingsOf}
+use Rattle.laws.specs.Outcomes.{and-left, and-right, is-number, false-is-true}
+use Rattle.safety.specs.Answers.{bound, all-answered, or-right}
+use Rattle.safety.specs.Every.{Every, every-none, every-more, every-implies, every-unmap, tabulated, all-true}
+use Rattle.safety.specs.Everywhere.{Everywhere}
+use Rattle.safety.specs.Forest.{tree-everywhere}
+use Rattle.safety.specs.Accepted.{AcceptedRows, none-applies, accepted-pair, program-row, profile-well-made}
+use Rattle.safety.specs.RunErrors.{RunErrors}
+use Rattle.safety.specs.Programs.{YokePasses, YokesPass, Passes, PassedProfile, ReadsNumber, run-safe}
+
+-- ---- declared yokes and instructions
+declarations-pass : (vars : Bodies) (d : ℕ) (ds : List Declaration) (xs : List (List Entry)) → allAnswers (checkDeclarations vars d ds) ≡ ok xs
+    → (n : ℕ) → YokePasses vars (bodiesOf ds n) (variableAt (map unfilled ds) n .current)
+unfolding allAnswers checkDeclarations checkYoke
+declarations-pass vars d [] xs e n = record { place = 0; entries = []; passes = refl }
+declarations-pass vars d (v ∷ ds) xs e zero =
+    let p = bound (checkYoke (v .declared) vars (v .body) (declaration-place + d)) _ xs e in
+    record { place = declaration-place + d; entries = p .0; passes = p .1 }
+declarations-pass vars d (v ∷ ds) xs e (suc n) =
+    let p = bound (checkYoke (v .declared) vars (v .body) (declaration-place + d)) _ xs e in
+    let q = bound (allAnswers (checkDeclarations vars (suc d) ds)) _ xs (p .2) in
+    declarations-pass vars (suc d) ds (q .0) (q .1) n
+
+instructions-pass : (vars : Bodies) (is : List Instruction) (xs : List (List Entry)) → allAnswers (map (λ i. checkInstruction vars i) is) ≡ ok xs → Every (Passes vars) is
+instructions-pass vars is xs e =
+    every-implies (λ i p. record { entries = p .0; passes = p .1 }) (every-unmap (λ i. checkInstruction vars i) is (all-answered (map (λ i. checkInstruction vars i) is) xs e))
+
+-- the instructions that the check goes through are those of the program's tree
+pub profile-passes : (rows : List ℕ) → AcceptedRows rows → (lims : List ℕ) (es : List Entry) → checkProfile (profileOf rows lims) ≡ ok es → PassedProfile (profileOf rows lims)
+unfolding checkProfile profileOf
+profile-passes rows accepted lims es e =
+    let p = profileOf rows lims in
+    let vars : Bodies = bodiesOf (p .declarations) in
+    let a = bound (allAnswers (checkDeclarations vars 0 (p .declarations))) _ es e in
+    let b = bound (allAnswers (map (λ i. checkInstruction vars i) (p .instructions))) _ es (a .2) in
+    let each = tabulated (tableCount rows instruction-section) (λ r. instructionTree rows r) (instructions-pass vars (p .instructions) (b .0) (b .1)) in
+    record { yokes = unfold YokesPass in declarations-pass vars 0 (p .declarations) (a .0) (a .1); instructions = tree-everywhere (Passes vars) (λ r. unfold checkInstruction in record { entries = []; passes = refl }) rows (tableCount rows instruction-section) each (pred (tableCount rows instruction-section)) (program-row rows accepted) }
+
+-- ---- readings
+tabulated-at : {A B : Type 0} (f : A → B) (g : ℕ → A) (other : B) (i n k : ℕ) → k < n → getD (map f (tabulateFrom i n g)) k other ≡ f (g (i + k))
+unfolding tabulateFrom
+tabulated-at f g other i zero k l = absurd (let z : ⊥ = omega arith in z)
+tabulated-at f g other i (suc n) zero l = ap (λ (j : ℕ). f (g j)) (let e : i ≡ i + zero = omega arith in e)
+tabulated-at f g other i (suc n) (suc k) l =
+    tabulated-at f g other (suc i) n k (omega arith) ∙ ap (λ (j : ℕ). f (g j)) (let e : suc i + k ≡ i + suc k = omega arith in e)
+
+-- the body of declaration d
+pub profile-body : (rows lims : List ℕ) (d : ℕ) → d < pairCount rows declaration-section → bodiesOf (profileOf rows lims .declarations) d ≡ bodyOr (declaredBody rows d)
+unfolding profileOf tabulate declarationAt
+profile-body rows lims d l =
+    tabulated-at (λ (c : Declaration). c .body) (λ k. declarationAt rows lims k) boolean 0 (pairCount rows declaration-section) d l
+    ∙ ap (λ (k : ℕ). bodyOr (declaredBody rows k)) (let e : 0 + d ≡ d = omega arith in e)
+
+number-body : (o : Result Body) → isNumberBody o ≡ true → bodyOr o ≡ number
+number-body (ok b) e = is-number b e
+number-body (fail n) e = false-is-true e
+
+pub reads-number : (rows lims : List ℕ) (r : Reading) → isNumberVariable rows (r .variable) ≡ true → ReadsNumber (profileOf rows lims .declarations) r
+unfolding isNumberVariable ReadsNumber
+reads-number rows lims r e =
+    let v = r .variable in
+    let l = ltb-true v (pairCount rows declaration-section) (and-left (ltb v (pairCount rows declaration-section)) (isNumberBody (declaredBody rows v)) e) in
+    profile-body rows lims v l ∙ number-body (declaredBody rows v) (and-right (ltb v (pairCount rows declaration-section)) (isNumberBody (declaredBody rows v)) e)
+
+-- ---- accepted pairs
+pub accepted-safe : (prof lims : List ℕ) → lowest (pairRules prof lims) ≡ 0 → (es : List Entry) → checkProfile (profileOf (rowsOf prof) (rowsOf lims)) ≡ ok es
+    → (readings : List Reading) → Every (λ r. isNumberVariable (rowsOf prof) (r .variable) ≡ true) readings → (budget : ℕ)
+    → RunErrors (runMet (profileOf (rowsOf prof) (rowsOf lims)) readings budget)
+accepted-safe prof lims e es passed readings ns budget =
+    let rows = rowsOf prof in
+    let accepted = accepted-pair prof lims e in
+    run-safe (profileOf rows (rowsOf lims)) (profile-well-made rows accepted (rowsOf lims)) (profile-passes rows accepted (rowsOf lims) es passed)
+    readings (every-implies (reads-number rows (rowsOf lims)) ns) budget
+
+-- ---- calls that are not refused
+readings-of-numbers : (rows variables : List ℕ) (numbers : List ℤ) → Every (λ v. isNumberVariable rows v ≡ true) variables → Every (λ r. isNumberVariable rows (r .variable) ≡ true) (readingsOf variables numbers)
+unfolding readingsOf
+readings-of-numbers rows [] zs h = every-none
+readings-of-numbers rows (v ∷ vs) [] h = every-none
+readings-of-numbers rows (v ∷ vs) (z ∷ zs) (every-more h hs) = every-more h (readings-of-numbers rows vs zs hs)
+
+reading-rule : (rows variables : List ℕ) → readingWrong rows variables ≡ false → Every (λ v. isNumberVariable rows v ≡ true) variables
+unfolding readingWrong
+reading-rule rows variables e =
+    all-true (λ v. isNumberVariable rows v) variables (not-false _ (or-right (ltb most-readings (length variables)) (not (allOf (λ v. isNumberVariable rows v) variables)) e))
+
+pub rules-safe : (prof lims variables : List ℕ) (numbers cells : List ℤ) (states : List ℕ) → lowest (runRules prof lims variables numbers cells states) ≡ 0
+    → (es : List Entry) → checkProfile (profileOf (rowsOf prof) (rowsOf lims)) ≡ ok es → (budget : ℕ)
+    → RunErrors (runMet (profileOf (rowsOf prof) (rowsOf lims)) (readingsOf variables numbers) budget)
+unfolding runRules
+rules-safe prof lims variables numbers cells states e es passed budget =
+    let a = none-applies _ _ _ refl e in
+    let b = none-applies _ _ _ refl (a .1) in
+    accepted-safe prof lims (b .1) es passed (readingsOf variables numbers) (readings-of-numbers (rowsOf prof) variables numbers (reading-rule (rowsOf prof) variables (b .0))) budget
+
+pub checked-call-safe : (prof lims variables : List ℕ) (numbers cells : List ℤ) (states : List ℕ) → checkedRefusal prof lims variables numbers cells states ≡ 0
+    → (es : List Entry) → checkProfile (profileOf (rowsOf prof) (rowsOf lims)) ≡ ok es → (budget : ℕ)
+    → RunErrors (runMet (profileOf (rowsOf prof) (rowsOf lims)) (readingsOf variables numbers) budget)
+unfolding checkedRefusal
+checked-call-safe prof lims variables numbers cells states e es passed budget = rules-safe prof lims variables numbers cells states e es passed budget
+
+-- an erased run is refused where the type check finds an error
+pub record ErasedAccepted (prof lims variables : List ℕ) (numbers cells : List ℤ) (states : List ℕ) : Type 0 where
+  pub entries : List Entry
+  pub passes : checkProfile (profileOf (rowsOf prof) (rowsOf lims)) ≡ ok entries
+  pub rules : lowest (runRules prof lims variables numbers cells states) ≡ 0
+
+pub erased-accepted : (prof lims variables : List ℕ) (numbers cells : List ℤ) (states layout : List ℕ) → erasedRefusal prof lims variables numbers cells states layout ≡ 0
+    → ErasedAccepted prof lims variables numbers cells states
+unfolding erasedRefusal
+erased-accepted prof lims variables numbers cells states layout e =
+    let a = none-applies _ _ _ refl e in
+    let b = none-applies _ _ _ refl (a .1) in
+    let c = answered (checkProfile (profileOf (rowsOf prof) (rowsOf lims))) (not-false _ (b .0)) in
+    record { entries = c .0; passes = c .1; rules = b .1 }
+  where
+    answered : (o : Outcome TypeError (List Entry)) → isOk o ≡ true → (es : List Entry) × (o ≡ ok es)
+    answered (ok es) q = (es, refl)
+    answered (fail t) q = false-is-true q
+
+pub erased-call-safe : (prof lims variables : List ℕ) (numbers cells : List ℤ) (states layout : List ℕ) → erasedRefusal prof lims variables numbers cells states layout ≡ 0
+    → (budget : ℕ) → RunErrors (runMet (profileOf (rowsOf prof) (rowsOf lims)) (readingsOf variables numbers) budget)
+erased-call-safe prof lims variables numbers cells states layout e budget =
+    let a = erased-accepted prof lims variables numbers cells states layout e in
+    rules-safe prof lims variables numbers cells states (a .rules) (a .entries) (a .passes) budget
