@@ -14,7 +14,11 @@ use Rattle.lingua.specs.Rows.{rowCount}
 use Rattle.lingua.specs.Trees.{profileOf}
 use Rattle.lingua.specs.Format.{File, modelOf, rowsOf, fileOf}
 use Rattle.lingua.specs.Refusal.{readRefusal, writeRefusal, checkRefusal, checkedRefusal, erasedRefusal}
-use Rattle.lingua.specs.Answers.{Answer, refused, answered, Ending, ending, endNumber, Verdict, passed, faulted, RowsRead}
+use Rattle.lingua.specs.Answers.{Answer, refused, answered, Ending, ending, endNumber, Verdict, passed, faulted, RowsRead, runMeaning, checkMeaning, readMeaning, writeMeaning}
+use Rattle.lingua.specs.declared.RunAnswer.{RunAnswer}
+use Rattle.lingua.specs.declared.CheckAnswer.{CheckAnswer}
+use Rattle.lingua.specs.declared.ReadAnswer.{ReadAnswer}
+use Rattle.lingua.specs.declared.WriteAnswer.{WriteAnswer}
 
 -- ---- the reader: the rows, then zeros
 pub record ReadCall : Type 0 where
@@ -108,3 +112,19 @@ erasedUnless (suc n) prof lims variables numbers budget cells states layout =
 unfoldable pub erasedCall : List ℕ → List ℕ → List ℕ → List ℤ → ℕ → List ℤ → List ℕ → List ℕ → ErasedCall
 erasedCall prof lims variables numbers budget cells states layout =
     erasedUnless (erasedRefusal prof lims variables numbers cells states layout) prof lims variables numbers budget cells states layout
+
+-- ---- what a call of the code gave: its answer's meaning, and the lent memory as it left it
+unfoldable pub readResult : ReadAnswer → List ℕ → ReadCall
+readResult r buffer = record { answer = readMeaning r; buffer = buffer }
+
+unfoldable pub writeResult : WriteAnswer → List ℕ → WriteCall
+writeResult r buffer = record { answer = writeMeaning r; buffer = buffer }
+
+unfoldable pub checkResult : CheckAnswer → List ℕ → CheckCall
+checkResult r layout = record { answer = checkMeaning r; layout = layout }
+
+unfoldable pub runResult : RunAnswer → List ℤ → List ℕ → RunCall
+runResult r cells states = record { answer = runMeaning r; cells = cells; states = states }
+
+unfoldable pub erasedResult : RunAnswer → List ℤ → List ℕ → List ℕ → ErasedCall
+erasedResult r cells states layout = record { answer = runMeaning r; cells = cells; states = states; layout = layout }
