@@ -8,14 +8,13 @@ use native.Mathlib.Omega.{arith}
 use borrow.Author.Tests.{ltb-true, ltb-false, leb-true, eqb-true, eqb-false, eq-eqb, ne-eqb, lt-leb, le-leb}
 use lib.Dec.{ltb, leb, eqb}
 use lib.IntN.{ℤ, pos, negsuc, negℤ, natAbs, _+ℤ_, _-ℤ_, _*ℤ_}
-use lib.Signed.{mag, ltZ, leZ, quotZ}
+use lib.Signed.{mag, ltZ, quotZ}
 use mir.Syntax.{w64}
 use mir.Val.{SFits, toZ, ofZ}
 use mir.ValLaws.{toZ-ofZ}
 use Rattle.lingua.specs.Value.{inRange, asWhole}
 use Rattle.lingua.specs.Compute.{ranged, divided, quotient, sameNumber}
 use Rattle.arith.specs.Image.{image}
-use Rattle.arith.specs.declared.Number.{Number}
 use Rattle.arith.specs.declared.Number.the-variants.{Whole, Error}
 
 -- ---- the range

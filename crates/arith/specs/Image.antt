@@ -1,5 +1,5 @@
 -- How the code holds what an operation on numbers gives. Assumes nothing: these are definitions.
-use Rattle.lingua.specs.Outcome.{Outcome, ok, fail, Result}
+use Rattle.lingua.specs.Outcome.{ok, fail, Result}
 use Rattle.lingua.specs.Value.{Value, asWhole}
 use Rattle.arith.specs.declared.Number.{Number}
 use Rattle.arith.specs.declared.Number.the-variants.{Whole, Error}

@@ -1,2 +1,3 @@
 pub mod Returns
 pub mod Steps
+pub mod Writes

@@ -1,21 +1,22 @@
 -- What each way out of the rules' functions shows: the test of the rule, from what the branches on the way said. Assumes nothing.
-use mathlib.Core.Path.{_≡_, refl, sym, ap, _∙_, subst}
-use mathlib.Core.Bool.{Bool, true, false, not, _&&_}
+use mathlib.Core.Path.{_≡_, refl, sym, ap, _∙_}
+use mathlib.Core.Bool.{Bool, true, false, not}
 use mathlib.Core.List.{List}
 use Prim.Native.Nat.{ℕ, _+_, _-_, _*_, _/_, _≤_, _<_}
 use native.Mathlib.Omega.{arith}
-use lib.Dec.{eqb, leb, ltb}
+use lib.Dec.{leb, ltb}
 use lib.ListN.{length, getD, take, drop}
 use borrow.Author.Tests.{eq-eqb, ne-eqb, le-leb, lt-leb, lt-ltb, le-ltb, leb-true, leb-false, not-true, not-false}
 use Rattle.lingua.specs.Numbers.{block-bytes, most-blocks}
 use Rattle.lingua.specs.Compute.{sameText}
 use Rattle.lingua.specs.Rows.{word16}
-use Rattle.lingua.specs.Format.{File, profile, limits, blockCount, marker, blockAt, everyBelow, lengthWrong, markerWrong, headerFits, headerWrong, checkWrong, modelOf, emptyBlock}
+use Rattle.lingua.specs.Format.{File, profile, blockCount, marker, blockAt, everyBelow, lengthWrong, markerWrong, headerFits, headerWrong, checkWrong, modelOf, emptyBlock}
 use Rattle.lingua.specs.Errors.{no-error, bad-length, bad-marker, bad-header, bad-check}
 use Rattle.lingua.specs.Value.{allOf}
 use Rattle.lingua.specs.Refusal.{lowest, fileRules}
 use Rattle.laws.specs.Refusals.{lowest-nil, lowest-skip, lowest-first}
 use Rattle.laws.specs.Tests.{every-false, every-more}
+use Rattle.laws.specs.Written.{length-marker}
 use Rattle.laws.specs.Blocks.{part-block}
 use Rattle.blocks.specs.Blocks.{headerIs}
 
@@ -83,10 +84,6 @@ module _ (file : List ℕ) (q : ℕ → List ℕ → Bool) (k : ℕ) where
       ap not (ap (λ (n : ℕ). everyBelow n (λ j. q j (blockAt file j))) e ∙ a)
 
 -- ---- 3: the marker
-pub length-marker : (f : File) → length (marker f) ≡ 4
-length-marker profile = refl
-length-marker limits = refl
-
 pub marker-is : (f : File) (file m : List ℕ) → m ≡ marker f
     → not (everyBelow (blockCount file) (λ j. sameText (take (length m) (blockAt file j)) m)) ≡ markerWrong f file
 unfolding markerWrong

@@ -1,17 +1,17 @@
 -- One turn of each loop over rows and blocks, and what a loop leaves at its end. Assumes nothing.
-use mathlib.Core.Path.{_≡_, refl, sym, ap, _∙_}
+use mathlib.Core.Path.{_≡_, sym, ap, _∙_}
 use mathlib.Core.Bool.{Bool, true, false}
 use mathlib.Core.List.{List, _++_}
-use Prim.Native.Nat.{ℕ, zero, suc, _+_, _-_, _*_, _≤_, _<_}
+use Prim.Native.Nat.{ℕ, _+_, _-_, _*_, _≤_, _<_}
 use native.Mathlib.Omega.{arith}
-use lib.ListN.{length, take, drop, length-drop}
-use lib.Seq.{length-take-le, take-at, take-take}
+use lib.ListN.{length, take, drop}
+use lib.Seq.{take-at, take-take}
 use borrow.Rule.Slice.PartMut.{putMid}
 use Rattle.lingua.specs.Numbers.{row-bytes, block-bytes, header-bytes, area-bytes, check-place}
 use Rattle.lingua.specs.Outcome.{if_then_else_}
 use Rattle.lingua.specs.Rows.{rowCount}
 use Rattle.lingua.specs.Format.{blockCount, blockAt, rowArea, areasFrom, allZero, usedRows, rowsOf}
-use Rattle.laws.specs.Parts.{copy-whole, put-next}
+use Rattle.laws.specs.Parts.{length-part, copy-whole, put-next}
 use Rattle.laws.specs.Blocks.{length-block, length-area}
 use Rattle.laws.specs.Areas.{part-area, areas-next, length-areas, used-last, used-inside, length-rows, count-rows}
 use Rattle.blocks.specs.Blocks.{Gathered}
@@ -49,12 +49,6 @@ pub length-source : (file : List ℕ) (k : ℕ) → k < blockCount file → leng
 length-source file k h =
     ap length (part-area file k) ∙ length-area (blockAt file k) (let l = length-block file k h in omega (arith, l))
 
-pub length-target : (areas : List ℕ) (k : ℕ) → area-bytes * k + area-bytes ≤ length areas → length (target areas k) ≡ area-bytes
-length-target areas k h =
-    let e : area-bytes * k + area-bytes - area-bytes * k ≡ area-bytes = omega arith in
-    ap (λ (n : ℕ). length (take n (drop (area-bytes * k) areas))) e
-    ∙ length-take-le area-bytes (drop (area-bytes * k) areas) (omega (arith, length-drop (area-bytes * k) areas))
-
 pub gather-next : (file areas₀ areas last : List ℕ) (k : ℕ) → k < blockCount file → area-bytes * blockCount file ≤ length areas
     → areas ≡ areasFrom 0 k file ++ drop (area-bytes * k) areas₀
     → last ≡ take (length (source file k)) (source file k) ++ drop (length (source file k)) (target areas k)
@@ -64,7 +58,7 @@ gather-next file areas₀ areas last k h room is copied =
     let e : ℕ = area-bytes * k + area-bytes in
     let whole : last ≡ rowArea (blockAt file k) =
     copied
-    ∙ copy-whole (source file k) (target areas k) (length-source file k h ∙ sym (length-target areas k (omega arith)))
+    ∙ copy-whole (source file k) (target areas k) (length-source file k h ∙ sym (length-part areas (area-bytes * k) area-bytes (omega arith)))
     ∙ part-area file k in
     let n : e ≡ area-bytes * (k + 1) = omega arith in
     ap (λ (l : List ℕ). putMid a (e - a) areas l) whole

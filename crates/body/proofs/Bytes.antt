@@ -1,15 +1,15 @@
 -- The bytes of a body: how many there are, and which stands first. Assumes nothing.
-use mathlib.Core.Path.{_≡_, refl, sym, ap, _∙_}
+use mathlib.Core.Path.{_≡_, refl}
 use mathlib.Core.Bool.{Bool, true, false, _||_}
-use mathlib.Core.List.{List, [], _∷_, _++_}
-use Prim.Native.Nat.{ℕ, zero, suc, _+_, _-_, _*_, _≤_, _<_, max}
+use mathlib.Core.List.{List, _++_}
+use Prim.Native.Nat.{ℕ, _+_, _-_, _*_, _≤_}
 use native.Mathlib.Omega.{arith}
 use borrow.Author.Tests.{ltb-false}
 use lib.Dec.{ltb}
 use lib.ListN.{length, getD, replicate, length-append, length-replicate}
 use Rattle.lingua.specs.Body.{Body, boolean, number, word, list-of, record-of, Attributes, end, attribute, size, nodes, attributeNodes, depth, attributeDepth, width, tooLarge}
 use Rattle.lingua.specs.Value.{pad}
-use Rattle.body.specs.Encode.{bytes, attributeBytes, encoded, Holds, Held}
+use Rattle.body.specs.Encode.{bytes, attributeBytes, encoded}
 
 -- the first byte
 unfoldable pub tag : Body → ℕ

@@ -1,10 +1,10 @@
 -- Copies between lists, and lists with zeros after them. Assumes nothing.
 use mathlib.Core.Path.{_≡_, refl, sym, ap, _∙_}
-use mathlib.Core.List.{List, [], _∷_, _++_, append-assoc, append-nil}
+use mathlib.Core.List.{List, [], _∷_, _++_, append-assoc}
 use Prim.Native.Nat.{ℕ, zero, suc, _+_, _-_, _≤_, _<_}
 use native.Mathlib.Numerals.{add-one}
 use native.Mathlib.Omega.{arith}
-use lib.ListN.{length, take, drop, set, getD, replicate, length-drop, length-append, length-replicate, length-take, replicate-append-replicate}
+use lib.ListN.{length, take, drop, set, getD, replicate, length-drop, length-append, length-replicate, replicate-append-replicate}
 use lib.Seq.{getD-drop, take-at, drop-at, drop-append-add, set-at, append-snoc, length-take-le, paste, paste-suc}
 use Rattle.lingua.specs.Value.{pad}
 

@@ -1,19 +1,18 @@
 -- The search for an attribute of a record, and for the place of a new one: one law for the start, each turn and each end.
 -- Assumes nothing.
 use mathlib.Core.Path.{_≡_, refl, sym, ap, subst, _∙_}
-use mathlib.Core.Bool.{Bool, true, false}
-use mathlib.Core.List.{List, [], _∷_, _++_}
-use mathlib.Core.Option.{Option, some, none}
-use Prim.Native.Nat.{ℕ, zero, suc, _+_, _-_, _≤_, _<_}
+use mathlib.Core.Bool.{true, false}
+use mathlib.Core.List.{List}
+use mathlib.Core.Option.{some}
+use Prim.Native.Nat.{ℕ, _+_, _-_, _≤_, _<_}
 use native.Mathlib.Omega.{arith}
 use borrow.Author.Tests.{eq-eqb, ne-eqb, lt-ltb, le-ltb}
 use lib.ListN.{length, getD}
 use Rattle.lingua.specs.Outcome.{isSome}
 use Rattle.lingua.specs.Body.{Body, record-of, Attributes, end, attribute, size, sizes, nodes, attributeNodes, countAttributes, attributeBody, attributeOffset}
 use Rattle.body.specs.declared.walk.Measure.{Measure}
-use Rattle.body.specs.declared.find.Found.{Found}
 use Rattle.body.specs.Encode.{bytes, Holds}
-use Rattle.body.specs.Walk.{At, AttributesAt, SomeAt, SomeAttributesAt, Measured}
+use Rattle.body.specs.Walk.{At, AttributesAt, SomeAttributesAt, Measured}
 use Rattle.body.specs.Find.{HeldRecord, FoundIs, bytesBelow}
 use Rattle.body.proofs.Parser.{encoded-injective}
 use Rattle.body.proofs.Places.{record-below, record-count, record-part, attribute-number, attribute-part, attribute-rest, MoreView, more-view}

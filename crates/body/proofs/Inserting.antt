@@ -1,23 +1,23 @@
 -- A record with one attribute more, put together from parts of its bytes. Assumes nothing.
-use mathlib.Core.Path.{_≡_, refl, sym, ap, ap₂, subst, _∙_}
+use mathlib.Core.Path.{_≡_, refl, sym, ap, ap₂, _∙_}
 use mathlib.Core.Bool.{Bool, true, false}
 use mathlib.Core.List.{List, [], _∷_, _++_, append-assoc}
-use Prim.Native.Nat.{ℕ, zero, suc, _+_, _-_, _*_, _≤_, _<_}
+use Prim.Native.Nat.{ℕ, suc, _+_, _-_, _≤_}
 use native.Mathlib.Numerals.{add-one}
 use native.Mathlib.Omega.{arith}
 use lib.Dec.{ltb}
-use lib.ListN.{length, take, drop, set, getD, replicate, length-append, length-drop, length-take}
-use lib.Seq.{take-append-le, drop-append-le, take-append-seam, take-length, drop-drop, take-append-add, drop-append-add, length-take-le, take-at, append-snoc, paste}
+use lib.ListN.{length, take, drop, set, getD, replicate, length-append, length-drop}
+use lib.Seq.{take-append-le, drop-append-le, take-append-seam, drop-drop, take-append-add, drop-append-add, length-take-le, take-at, append-snoc, paste}
 use Rattle.lingua.specs.Body.{Body, boolean, number, word, list-of, record-of, Attributes, end, attribute, nodes, attributeNodes, countAttributes, insertAttribute}
 use Rattle.lingua.specs.Value.{pad}
 use Rattle.body.specs.Encode.{bytes, attributeBytes, encoded, Holds}
-use Rattle.body.specs.Walk.{Measured, At, AttributesAt}
+use Rattle.body.specs.Walk.{Measured}
 use Rattle.body.specs.Find.{Room, bytesBelow}
 use Rattle.body.specs.declared.walk.Measure.{Measure}
 use Rattle.body.proofs.Bytes.{bytes-below}
 use Rattle.body.proofs.Copies.{paste-pad, set-pad}
 use Rattle.body.proofs.Places.{record-count, record-part}
-use Rattle.body.proofs.Making.{held-at}
+use Rattle.body.proofs.Making.{held-at, held-96}
 
 -- ---- the attributes below a number, and the record with it inserted
 some-nodes : (b : Body) → 1 ≤ nodes b
@@ -110,7 +110,7 @@ module _ (x y : List ℕ) (n at : ℕ) (w m : Measure) (p : (fs : Attributes) �
       }
 
   -- the bytes that it writes
-  module _ (s : Room x y) (lx : length x ≡ 96) (ly : length y ≡ 96) (fs : Attributes) (c : Body) (h : Holds x (record-of fs)) (k : Holds y c) where
+  module _ (s : Room x y) (fs : Attributes) (c : Body) (h : Holds x (record-of fs)) (k : Holds y c) where
     written-below : take (at - 2) (drop 2 x) ≡ take (bytesBelow n fs) (attributeBytes fs)
     written-below =
         let a = record-part x 0 fs (held-at x (record-of fs) h) in
@@ -144,6 +144,8 @@ module _ (x y : List ℕ) (n at : ℕ) (w m : Measure) (p : (fs : Attributes) �
     unfolding encoded bytes pad
     inserted b1 b2 b3 f g i =
         let z = spots s in
+        let lx = held-96 x (record-of fs) h in
+        let ly = held-96 y c k in
         let v : ℕ = getD x 1 0 + 1 in
         let t : List ℕ = take (bytesBelow n fs) (attributeBytes fs) in
         let d : List ℕ = drop (bytesBelow n fs) (attributeBytes fs) in

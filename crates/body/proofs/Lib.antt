@@ -7,3 +7,11 @@ pub mod Measures
 pub mod Making
 pub mod Finding
 pub mod Inserting
+pub mod Tags
+pub mod Answers
+pub mod Halves
+pub mod Bounds
+pub mod Selecting
+pub mod Expanding
+pub mod Choices
+pub mod Results

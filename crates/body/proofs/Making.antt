@@ -1,16 +1,16 @@
 -- What an array that holds a body gives, and how bodies are made of others, as lists. Assumes nothing.
-use mathlib.Core.Path.{_≡_, refl, sym, ap, subst, _∙_}
+use mathlib.Core.Path.{_≡_, refl, sym, ap, _∙_}
 use mathlib.Core.List.{List, [], _∷_, _++_, append-assoc, append-nil}
-use Prim.Native.Nat.{ℕ, zero, suc, _+_, _-_, _*_, _≤_, _<_}
+use Prim.Native.Nat.{ℕ, _+_, _-_, _≤_, _<_}
 use native.Mathlib.Omega.{arith}
 use lib.ListN.{length, take, drop, set, replicate, length-append}
 use lib.Seq.{take-append-seam, paste}
-use Rattle.lingua.specs.Body.{Body, boolean, number, word, list-of, record-of, Attributes, end, attribute, size, nodes, countAttributes}
+use Rattle.lingua.specs.Body.{Body, list-of, record-of, end, attribute, size, nodes, countAttributes}
 use Rattle.lingua.specs.Value.{pad}
-use Rattle.body.specs.Encode.{bytes, attributeBytes, encoded, Holds, Held}
+use Rattle.body.specs.Encode.{bytes, encoded, Holds, Held}
 use Rattle.body.specs.Walk.{At, SomeAt}
 use Rattle.body.proofs.Bytes.{bytes-below, length-encoded}
-use Rattle.body.proofs.Copies.{length-pad, take-pad, pad-pad, cons-pad, paste-pad}
+use Rattle.body.proofs.Copies.{take-pad, pad-pad, cons-pad, paste-pad}
 
 pub held-at : (x : List ℕ) (b : Body) → Holds x b → At x 0 b
 unfolding encoded pad
@@ -21,6 +21,9 @@ held-some x h =
     let k = h .holds in
     record { body = h .body; here = held-at x (h .body) k; few-cells = k .few-cells; few-nodes = k .few-nodes }
 
+pub held-96 : (x : List ℕ) (b : Body) → Holds x b → length x ≡ 96
+held-96 x b h = ap length (h .is) ∙ length-encoded b (h .few-nodes)
+
 pub held-length : (x : List ℕ) (b : Body) → Holds x b → length (bytes b) ≤ 95
 held-length x b h = omega (arith, bytes-below b, h .few-nodes)
 
@@ -30,10 +33,11 @@ unfolding encoded
 first-bytes x b k h p q = ap (λ (l : List ℕ). take k l) (h .is) ∙ take-pad 96 k (bytes b) p q
 
 -- a body after some bytes
-pub after : (hs x : List ℕ) (b : Body) (j k : ℕ) → length hs ≡ j → j + k ≡ 96 → length (bytes b) ≤ k → length x ≡ 96 → Holds x b
+pub after : (hs x : List ℕ) (b : Body) (j k : ℕ) → length hs ≡ j → j + k ≡ 96 → length (bytes b) ≤ k → Holds x b
     → paste (pad 96 0 hs) j x k ≡ pad 96 0 (hs ++ bytes b)
 unfolding pad
-after hs x b j k e f l m h =
+after hs x b j k e f l h =
+    let m : length x ≡ 96 = held-96 x b h in
     let n : k - length (bytes b) ≡ 96 - length (hs ++ bytes b) = omega (arith, length-append hs (bytes b)) in
     let p : length (hs ++ bytes b) ≤ 96 = omega (arith, length-append hs (bytes b)) in
     paste-pad hs x j k e (omega arith) (omega arith)
@@ -43,15 +47,15 @@ after hs x b j k e f l m h =
     ∙ ap (λ (i : ℕ). hs ++ bytes b ++ replicate i 0) n)
     ∙ pad-pad 96 96 (hs ++ bytes b) p (omega arith)
 
-pub list-made : (x : List ℕ) (b : Body) → length x ≡ 96 → Holds x b → paste (set (replicate 96 0) 0 4) 1 x 95 ≡ encoded (list-of b)
+pub list-made : (x : List ℕ) (b : Body) → Holds x b → paste (set (replicate 96 0) 0 4) 1 x 95 ≡ encoded (list-of b)
 unfolding encoded bytes pad
-list-made x b m h = after (4 ∷ []) x b 1 95 refl refl (held-length x b h) m h
+list-made x b h = after (4 ∷ []) x b 1 95 refl refl (held-length x b h) h
 
-pub record-made : (x : List ℕ) (n : ℕ) (b : Body) → length x ≡ 96 → Holds x b → nodes b < 32
+pub record-made : (x : List ℕ) (n : ℕ) (b : Body) → Holds x b → nodes b < 32
     → paste (set (set (set (replicate 96 0) 0 5) 1 1) 2 n) 3 x 93 ≡ encoded (record-of (attribute n b end))
 unfolding encoded bytes pad countAttributes
-record-made x n b m h f =
-    after (5 ∷ 1 ∷ n ∷ []) x b 3 93 refl refl (omega (arith, bytes-below b)) m h
+record-made x n b h f =
+    after (5 ∷ 1 ∷ n ∷ []) x b 3 93 refl refl (omega (arith, bytes-below b)) h
     ∙ ap (λ (l : List ℕ). pad 96 0 (5 ∷ 1 ∷ n ∷ l)) (sym (append-nil (bytes b)))
 
 pub element-taken : (x : List ℕ) (b : Body) → Holds x (list-of b) → Holds (pad 96 0 (take 95 (drop 1 x))) b

@@ -1,15 +1,15 @@
 -- What the walk of a body's bytes asks and gives, one law for each call and each end. Assumes nothing.
 use mathlib.Core.Path.{_≡_, refl, sym, ap, subst, _∙_}
-use mathlib.Core.List.{List, [], _∷_, _++_}
-use Prim.Native.Nat.{ℕ, zero, suc, _+_, _-_, _*_, _≤_, _<_, max}
+use mathlib.Core.List.{List}
+use Prim.Native.Nat.{ℕ, _+_, _-_, _*_, _≤_, _<_, max}
 use native.Mathlib.Omega.{arith}
-use lib.ListN.{length, drop, getD, length-append}
-use Rattle.lingua.specs.Body.{Body, boolean, number, word, list-of, record-of, Attributes, end, attribute, size, sizes, nodes, attributeNodes, depth, attributeDepth, countAttributes}
+use lib.ListN.{length, getD, length-append}
+use Rattle.lingua.specs.Body.{Body, Attributes, end, attribute, size, sizes, nodes, attributeNodes, depth, attributeDepth, countAttributes}
 use Rattle.body.specs.declared.walk.Measure.{Measure}
 use Rattle.body.specs.Encode.{bytes, attributeBytes}
 use Rattle.body.specs.Walk.{At, AttributesAt, SomeAt, SomeAttributesAt, Measured, AttributesMeasured}
-use Rattle.body.proofs.Bytes.{tag, some-bytes, depth-below, attribute-depth-below}
-use Rattle.body.proofs.Places.{at-end, at-below, at-tag, list-part, record-count, record-below, record-part, attribute-part, attribute-rest, ListView, list-view, RecordView, record-view, SimpleView, simple-view, MoreView, more-view}
+use Rattle.body.proofs.Bytes.{depth-below, attribute-depth-below}
+use Rattle.body.proofs.Places.{at-end, at-tag, list-part, record-count, record-below, record-part, attribute-part, attribute-rest, list-view, record-view, simple-view, more-view}
 
 -- what a body or attributes with few cells and nodes measure is small
 pub record Few (m : Measure) (bs : List ℕ) : Type 0 where

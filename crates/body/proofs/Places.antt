@@ -1,14 +1,14 @@
 -- Bodies and attributes at places of a list of bytes. Assumes nothing.
-use mathlib.Core.Path.{_≡_, refl, sym, ap, subst, _∙_}
-use mathlib.Core.List.{List, [], _∷_, _++_, append-assoc}
-use Prim.Native.Nat.{ℕ, zero, suc, _+_, _-_, _*_, _≤_, _<_}
+use mathlib.Core.Path.{_≡_, refl, sym, ap, _∙_}
+use mathlib.Core.List.{List, _++_, append-assoc}
+use Prim.Native.Nat.{ℕ, _+_, _-_, _≤_, _<_}
 use native.Mathlib.Nat.{add-zero}
 use native.Mathlib.Omega.{arith}
 use lib.ListN.{length, drop, getD, length-append, length-drop}
 use lib.Seq.{getD-drop, drop-drop, drop-append-seam}
-use Rattle.lingua.specs.Body.{Body, boolean, number, word, list-of, record-of, Attributes, end, attribute, size, sizes, nodes, attributeNodes, depth, attributeDepth, countAttributes}
+use Rattle.lingua.specs.Body.{Body, boolean, number, word, list-of, record-of, Attributes, end, attribute, size, nodes, depth, countAttributes}
 use Rattle.body.specs.Encode.{bytes, attributeBytes}
-use Rattle.body.specs.Walk.{At, AttributesAt, SomeAt, SomeAttributesAt}
+use Rattle.body.specs.Walk.{At, AttributesAt}
 use Rattle.body.proofs.Bytes.{tag, some-bytes, first-byte}
 
 -- ---- what stands in a list at a place

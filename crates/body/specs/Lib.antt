@@ -1,3 +1,4 @@
 pub mod Encode
 pub mod Walk
 pub mod Find
+pub mod Typed

@@ -1,5 +1,9 @@
-// A body in 96 bytes, by value: made, compared, measured, taken apart.
+// A body in 96 bytes, by value: made, compared, measured, taken apart; and the operations' half on bodies.
+pub mod binary;
 pub mod find;
 pub mod make;
 pub mod parts;
+pub mod typed;
+pub mod types;
+pub mod unary;
 pub mod walk;

@@ -1,9 +1,8 @@
 -- What the moves of cells make of lists: the results of a list of one, push, top and pop; and the length as the code reads
 -- and writes it. Assumes nothing.
-use mathlib.Core.Path.{_≡_, refl, sym, ap, ap₂, _∙_, subst}
-use mathlib.Core.Bool.{Bool, true, false}
-use mathlib.Core.List.{List, [], _∷_, _++_, append-assoc}
-use Prim.Native.Nat.{ℕ, zero, suc, _+_, _-_, _*_, _≤_, _<_}
+use mathlib.Core.Path.{_≡_, refl, sym, ap, ap₂, _∙_}
+use mathlib.Core.List.{List, [], _∷_, _++_}
+use Prim.Native.Nat.{ℕ, suc, _+_, _-_, _*_, _≤_, _<_}
 use native.Mathlib.Nat.{mul-le-mul-right}
 use native.Mathlib.Omega.{arith}
 use lib.ListN.{length, take, drop, set, getD, replicate, length-drop, length-replicate}
@@ -14,10 +13,10 @@ use mir.Val.{toZ, ofZ}
 use mir.ValLaws.{toZ-ofZ}
 use borrow.Author.Tests.{lt-ltb, le-ltb}
 use Rattle.lingua.specs.Numbers.{list-places}
-use Rattle.lingua.specs.Errors.{no-error, list-empty, list-full}
-use Rattle.lingua.specs.Outcome.{Outcome, ok, fail, Result}
+use Rattle.lingua.specs.Errors.{list-empty}
+use Rattle.lingua.specs.Outcome.{fail, Result}
 use Rattle.lingua.specs.Body.{Body, list-of, size}
-use Rattle.lingua.specs.Value.{Value, items, Values, no-items, item, countValues, AllFit, fit-none, fit-item, asItems, cellsOf}
+use Rattle.lingua.specs.Value.{Value, items, Values, no-items, item, countValues, AllFit, fit-item, asItems, cellsOf}
 use Rattle.lingua.specs.Operation.{make-list, top, pop, push}
 use Rattle.lingua.specs.Compute.{withLast, lastFrom, withoutLast, pushed, topOf, popOf, unaryValue, binaryValue}
 use Rattle.laws.specs.Lengths.{length-cells}
@@ -75,9 +74,13 @@ unfolding size cellsOf asItems
 first-count s b vs m e p =
     pos-same (sym (ap (λ (l : List ℤ). getD l 0 (pos 0)) e) ∙ getD-take (size (list-of b)) s 0 (pos 0) (omega arith) ∙ p)
 
-list-size : (b : Body) → size (list-of b) ≡ 1 + list-places * size b
+pub list-size : (b : Body) → size (list-of b) ≡ 1 + list-places * size b
 unfolding size
 list-size b = refl
+
+pub list-count : {s : List ℤ} {b : Body} {x : Value} → Lies s 0 (list-of b) x → getD s 0 (pos 0) ≡ pos (countValues (asItems x))
+unfolding size cellsOf asItems
+list-count {s} {b} h = sym (getD-take (size (list-of b)) s 0 (pos 0) (omega arith)) ∙ ap (λ (l : List ℤ). getD l 0 (pos 0)) (list-cells h)
 
 -- ---- push
 pub push-full : (s : List ℤ) (b : Body) (x y : Value) (m : ℕ) → Lies s 0 (list-of b) x → getD s 0 (pos 0) ≡ pos m → 8 ≤ m → Leaves 5 s (list-of b) (binaryValue push x y)

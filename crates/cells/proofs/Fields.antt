@@ -1,6 +1,6 @@
 -- What the moves of cells make of records: the results of select, change and expand. Assumes nothing.
 use mathlib.Core.Path.{_≡_, refl, sym, ap, ap₂, _∙_}
-use mathlib.Core.Bool.{Bool, true, false}
+use mathlib.Core.Bool.{false}
 use mathlib.Core.List.{List, _++_}
 use mathlib.Core.Option.{some}
 use Prim.Native.Nat.{ℕ, _+_, _-_, _≤_}
@@ -9,11 +9,12 @@ use lib.ListN.{length, take, drop, length-take, length-drop}
 use lib.Seq.{paste}
 use lib.IntN.{ℤ}
 use Rattle.lingua.specs.Body.{Body, Attributes, record-of, size, sizes, attributeBody, attributeOffset, insertAttribute}
-use Rattle.lingua.specs.Value.{Value, fields, FieldsFit, fit-fields, asFields, cellsOf, fieldCells}
+use Rattle.lingua.specs.Value.{Value, fields, fit-fields, asFields, cellsOf, fieldCells}
 use Rattle.lingua.specs.Operation.{select, change, expand, present}
 use Rattle.lingua.specs.Compute.{fieldValue, changeField, insertField, unaryValue, binaryValue}
-use Rattle.laws.specs.Lengths.{length-cells, length-fields}
-use Rattle.laws.specs.Records.{attribute-room, select-cells, select-fits, change-cells, change-fits, insert-room, expand-cells, expand-fits, sizes-insert}
+use Rattle.laws.specs.Halves.{attribute-within}
+use Rattle.laws.specs.Lengths.{length-cells}
+use Rattle.laws.specs.Records.{select-cells, select-fits, change-cells, change-fits, expand-cells, expand-fits, sizes-insert}
 use Rattle.laws.specs.Sound.{fit-record}
 use Rattle.cells.specs.Stack.{Lies, Holds}
 use Rattle.cells.proofs.Windows.{take-part, paste-part, paste-front, insert-part}
@@ -33,7 +34,7 @@ pub select-law : (s last : List ℤ) (n : ℕ) (fs : Attributes) (d : Body) (x :
 unfolding unaryValue
 select-law s last n fs d x at w e o z h room p =
     let hs = fit-record (h .fit) in
-    let r = attribute-room hs n d e in
+    let r = attribute-within n fs d e in
     record {
       value = fieldValue n (asFields x);
       is = refl;
@@ -56,7 +57,7 @@ unfolding binaryValue size cellsOf asFields
 change-law s last n fs d x y at w e o z h k p =
     let hs = fit-record (h .fit) in
     let xs = asFields x in
-    let r = attribute-room hs n d e in
+    let r = attribute-within n fs d e in
     record {
       value = fields (changeField n y xs);
       is = refl;

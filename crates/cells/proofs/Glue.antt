@@ -1,19 +1,18 @@
 -- Words moved behind each other: what holds after some bytes of the first word are passed, one turn more, and what the two
 -- ends of the loop give; then glue's result. Assumes nothing.
 use mathlib.Core.Path.{_≡_, refl, sym, ap, ap₂, _∙_, subst}
-use mathlib.Core.Bool.{Bool, true, false}
+use mathlib.Core.Bool.{true}
 use mathlib.Core.List.{List, [], _∷_, _++_}
-use Prim.Native.Nat.{ℕ, zero, suc, _+_, _-_, _*_, _/_, _%_, _^_, _≤_, _<_}
+use Prim.Native.Nat.{ℕ, zero, suc, _+_, _-_, _/_, _%_, _^_, _≤_, _<_}
 use native.Mathlib.Nat.{pow-suc, mul-div-cancel, one-le-pow, mul-mod-left}
 use native.Mathlib.Omega.{arith}
-use lib.ListN.{length, take, set, getD}
+use lib.ListN.{length, set, getD}
 use lib.IntN.{ℤ, pos, natAbs}
 use mir.Syntax.{w64}
 use mir.Val.{toZ, ofZ}
 use mir.ValLaws.{toZ-ofZ}
 use borrow.Author.Tests.{le-leb, lt-leb}
 use Rattle.lingua.specs.Numbers.{word-length}
-use Rattle.lingua.specs.Outcome.{ok}
 use Rattle.lingua.specs.Body.{word, size}
 use Rattle.lingua.specs.Value.{Value, text, fit-text, isCharacter, allOf, isText, packedIn, packed, asText, cellsOf}
 use Rattle.lingua.specs.Operation.{glue}

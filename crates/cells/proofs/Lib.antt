@@ -4,3 +4,6 @@ pub mod Fields
 pub mod Elements
 pub mod Singles
 pub mod Glue
+pub mod Operands
+pub mod Unary
+pub mod Binary

@@ -1,8 +1,8 @@
 -- Values of one cell: the cell is the value's, and what the operations on them leave. Assumes nothing.
-use mathlib.Core.Path.{_≡_, refl, sym, ap, ap₂, _∙_, subst}
+use mathlib.Core.Path.{_≡_, refl, sym, ap, ap₂, _∙_}
 use mathlib.Core.Bool.{Bool, true, false, not}
 use mathlib.Core.List.{List, [], _∷_}
-use Prim.Native.Nat.{ℕ, zero, suc, _+_, _^_, _≤_, _<_}
+use Prim.Native.Nat.{ℕ, _+_, _^_, _<_}
 use native.Mathlib.Omega.{arith}
 use lib.ListN.{length, take, drop, set, getD}
 use lib.Seq.{getD-take, getD-drop}
@@ -12,7 +12,7 @@ use mir.Syntax.{w64}
 use mir.Val.{toZ, ofZ, hbits}
 use Rattle.lingua.specs.Outcome.{ok}
 use Rattle.lingua.specs.Body.{Body, boolean, number, word, list-of, record-of, size, isSimple, isBoolean, isNumber, isWord}
-use Rattle.lingua.specs.Value.{Value, truth, whole, Fits, fit-truth, fit-whole, inRange, asTruth, asWhole, asText, packed, bit, cellsOf}
+use Rattle.lingua.specs.Value.{Value, truth, whole, fit-truth, fit-whole, inRange, asTruth, asWhole, asText, packed, bit, cellsOf}
 use Rattle.lingua.specs.Operation.{negation, less, equal}
 use Rattle.lingua.specs.Compute.{sameValue, unaryValue, binaryValue}
 use Rattle.laws.specs.Outcomes.{false-is-true}

@@ -1,11 +1,11 @@
 -- Parts of a list and pastes into it, as seen from its first elements. Assumes nothing.
-use mathlib.Core.Path.{_≡_, refl, sym, ap, ap₂, _∙_}
-use mathlib.Core.List.{List, [], _∷_, _++_, append-assoc}
-use Prim.Native.Nat.{ℕ, zero, suc, _+_, _-_, _≤_, _<_}
+use mathlib.Core.Path.{_≡_, sym, ap, _∙_}
+use mathlib.Core.List.{List, [], _∷_, _++_}
+use Prim.Native.Nat.{ℕ, zero, suc, _+_, _-_, _≤_}
 use native.Mathlib.Nat.{sub-zero}
 use native.Mathlib.Omega.{arith}
-use lib.ListN.{length, take, drop, length-append, length-drop}
-use lib.Seq.{take-nil, take-take, take-at, drop-at, take-append-add, drop-append-add, drop-drop, length-take-le, take-append-le, paste, length-paste, length-paste-head, take-paste, drop-paste}
+use lib.ListN.{length, take, drop, length-drop}
+use lib.Seq.{take-nil, take-take, take-at, drop-at, take-append-add, drop-drop, length-take-le, take-append-le, paste, length-paste, length-paste-head, take-paste, drop-paste}
 
 module _ {A : Type 0} where
   pub drop-take : (at m : ℕ) (l : List A) → drop at (take m l) ≡ take (m - at) (drop at l)

@@ -1,2 +1,3 @@
 pub mod Stack
+pub mod Operands
 pub mod Word

@@ -2,8 +2,8 @@
 // second's at stack[64], and the result takes the first one's place. Sizes and offsets come as numbers: nothing here knows
 // a body. Only a value's own cells are read or written. To make a record of one attribute there is nothing to do: its cells
 // are the attribute's. Numbers are computed outside, from a cell to a cell.
+pub mod apply;
 pub mod lists;
-mod numbers;
 mod parts;
 pub mod records;
 pub mod simple;

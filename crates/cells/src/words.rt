@@ -1,18 +1,18 @@
 // Words on the stack: up to eight bytes in a cell, the first highest, zeros after.
-use crate::numbers::NO_ERROR;
-use crate::numbers::SECOND;
-use crate::numbers::WORD_TOO_LONG;
+use lingua::errors::NO_ERROR;
+use lingua::errors::WORD_TOO_LONG;
+use lingua::sizes::BODY_CELLS;
 ghost use mathlib.Core.Path.{_≡_};
 ghost use mathlib.Core.Bool.{true};
 ghost use mathlib.Core.List.{List};
 ghost use Prim.Native.Nat.{ℕ, _<_};
 ghost use lib.ListN.{length};
-ghost use Rattle.lingua.specs.Numbers.{word-length};
+ghost use Rattle.lingua.specs.Numbers.{body-cells, word-length};
 ghost use Rattle.lingua.specs.Body.{word};
 ghost use Rattle.lingua.specs.Value.{Value, isText, packedIn};
 ghost use Rattle.lingua.specs.Operation.{glue};
 ghost use Rattle.lingua.specs.Compute.{binaryValue};
-ghost use Rattle.cells.specs.Stack.{Lies, Leaves};
+ghost use Rattle.cells.specs.Stack.{first-place, second-place, Lies, Leaves};
 ghost use Rattle.cells.specs.Word.{IsWord, WordAt, Behind};
 
 // The first byte's place.
@@ -47,13 +47,13 @@ fn moved_behind(first: u64, second: u64) -> Moved
 
 // The second word behind the first, if both have at most eight bytes together.
 pub fn glue(stack: &mut [i64]) -> u8
-    requires { ⌜ 64 < length (now stack) ⌝ }
-    requires { ⌜ WordAt (now stack) 0 ⌝ }
-    requires { ⌜ WordAt (now stack) 64 ⌝ }
-    ensures { λ r. ⌜ ((x y : Value) → Lies (now (stack .entry)) 0 word x → Lies (now (stack .entry)) 64 word y → Leaves r (now (stack .exit)) word (binaryValue glue x y)) ⌝ }
+    requires { ⌜ body-cells < length (now stack) ⌝ }
+    requires { ⌜ WordAt (now stack) first-place ⌝ }
+    requires { ⌜ WordAt (now stack) second-place ⌝ }
+    ensures { λ r. ⌜ ((x y : Value) → Lies (now (stack .entry)) first-place word x → Lies (now (stack .entry)) second-place word y → Leaves r (now (stack .exit)) word (binaryValue glue x y)) ⌝ }
 {
     let first = stack[0] as u64;
-    let second = stack[SECOND] as u64;
+    let second = stack[BODY_CELLS] as u64;
     let Moved::To(moved) = moved_behind(first, second) else {
         return WORD_TOO_LONG;
     };

@@ -2,14 +2,14 @@
 -- `packed-injective` for words and the lengths of cells for lists and records. Assumes nothing.
 use mathlib.Core.Path.{_≡_, refl, sym, ap, ap₂, _∙_}
 use mathlib.Core.Bool.{Bool, true, false}
-use mathlib.Core.List.{List, [], _∷_, _++_}
-use Prim.Native.Nat.{ℕ, zero, suc, _+_, _-_, _*_, _≤_, _<_}
+use mathlib.Core.List.{List}
+use Prim.Native.Nat.{ℕ, _*_}
 use native.Mathlib.Omega.{arith}
-use lib.ListN.{length, replicate}
+use lib.ListN.{length}
 use lib.IntN.{ℤ, pos}
-use Rattle.lingua.specs.Numbers.{list-places, word-length}
+use Rattle.lingua.specs.Numbers.{word-length}
 use Rattle.lingua.specs.Body.{Body, Attributes, size}
-use Rattle.lingua.specs.Value.{Value, truth, whole, text, items, fields, Values, no-items, item, Fields, no-fields, field, countValues, Fits, fit-truth, fit-whole, fit-text, fit-items, fit-fields, AllFit, fit-none, fit-item, FieldsFit, fit-end, fit-field, asTruth, asWhole, asText, asItems, asFields, pad, bit, packedIn, packed, flat, cellsOf, fieldCells}
+use Rattle.lingua.specs.Value.{Value, truth, whole, text, items, fields, Values, item, Fields, field, countValues, Fits, fit-truth, fit-whole, fit-text, fit-items, fit-fields, AllFit, fit-none, fit-item, FieldsFit, fit-end, fit-field, asTruth, asWhole, asText, asItems, asFields, pad, bit, packedIn, packed, flat, cellsOf, fieldCells}
 use Rattle.laws.specs.Lists.{append-left, append-right, head-same, tail-same}
 use Rattle.laws.specs.Lengths.{length-cells, length-flat}
 use Rattle.laws.specs.Words.{text-short, text-characters, packed-injective}

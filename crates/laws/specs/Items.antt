@@ -1,18 +1,18 @@
 -- Lists on their cells: push writes the length and the new element's cells at the first free place, top is the window at the
--- last place, pop writes the length and zeros at the last place; and each result fits. Carried by where the last element
+-- last place, pop writes the length and zeros at the last place, element i is the window at its place; and each fits. Carried by where the last element
 -- stands among the cells. Assumes nothing.
-use mathlib.Core.Path.{_≡_, refl, sym, ap, _∙_, subst}
+use mathlib.Core.Path.{_≡_, refl, sym, ap, _∙_}
 use mathlib.Core.List.{List, [], _∷_, _++_, append-assoc, append-nil}
 use Prim.Native.Nat.{ℕ, zero, suc, _+_, _-_, _*_, _≤_, _<_}
 use native.Mathlib.Nat.{zero-mul, suc-mul, mul-le-mul-right, le-of-suc-le-suc}
 use native.Mathlib.Numerals.{add-one, one-add}
 use native.Mathlib.Omega.{arith}
-use lib.ListN.{length, take, drop, set, replicate, length-append, length-replicate, replicate-append-replicate}
-use lib.Seq.{take-at, drop-at, drop-append-add, take-all, paste}
+use lib.ListN.{length, take, drop, set, getD, replicate, length-append, length-replicate}
+use lib.Seq.{take-at, drop-at, drop-append-add, paste}
 use lib.IntN.{ℤ, pos}
 use Rattle.lingua.specs.Numbers.{list-places}
 use Rattle.lingua.specs.Body.{Body, list-of, size}
-use Rattle.lingua.specs.Value.{Value, items, Values, no-items, item, countValues, Fits, fit-items, AllFit, fit-none, fit-item, asItems, pad, flat, cellsOf}
+use Rattle.lingua.specs.Value.{Value, items, Values, no-items, item, countValues, valueList, Fits, fit-items, AllFit, fit-none, fit-item, asItems, pad, flat, cellsOf}
 use Rattle.lingua.specs.Compute.{withLast, lastFrom, withoutLast}
 use Rattle.laws.specs.Lists.{paste-at, pad-free, pad-append}
 use Rattle.laws.specs.Lengths.{length-cells, length-flat}
@@ -141,3 +141,39 @@ single-cells {x} {b} h =
 pub single-fits : {x : Value} {b : Body} → Fits x b → Fits (items (item x no-items)) (list-of b)
 unfolding countValues
 single-fits {x} h = fit-items {vs = item x no-items} (omega arith) (fit-item h fit-none)
+
+-- ---- any element
+pub length-list : (vs : Values) → length (valueList vs) ≡ countValues vs
+unfolding valueList countValues
+length-list no-items = refl
+length-list (item v vs) = ap (λ (n : ℕ). suc n) (length-list vs)
+
+pub element-fits : {vs : Values} {b : Body} → AllFit vs b → (i : ℕ) → i < countValues vs → (d : Value) → Fits (getD (valueList vs) i d) b
+unfolding valueList countValues
+element-fits fit-none i lt d = absurd (let k : ⊥ = omega arith in k)
+element-fits (fit-item h hs) zero lt d = h
+element-fits (fit-item h hs) (suc i) lt d = element-fits hs i (le-of-suc-le-suc lt) d
+
+flat-at : {vs : Values} {b : Body} → AllFit vs b → (i : ℕ) → i < countValues vs → (d : Value) (rest : List ℤ)
+    → take (size b) (drop (i * size b) (flat (λ x. cellsOf b x) vs ++ rest)) ≡ cellsOf b (getD (valueList vs) i d)
+unfolding flat valueList countValues
+flat-at fit-none i lt d rest = absurd (let k : ⊥ = omega arith in k)
+flat-at (fit-item {v} {vs} {b} h hs) zero lt d rest =
+    let F = flat (λ x. cellsOf b x) vs in
+    ap (λ (n : ℕ). take (size b) (drop n (cellsOf b v ++ F ++ rest))) (zero-mul (size b))
+    ∙ ap (λ (l : List ℤ). take (size b) l) (append-assoc (cellsOf b v) F rest)
+    ∙ take-at (cellsOf b v) (F ++ rest) (size b) (length-cells h)
+flat-at (fit-item {v} {vs} {b} h hs) (suc i) lt d rest =
+    let F = flat (λ x. cellsOf b x) vs in
+    let e : suc i * size b ≡ length (cellsOf b v) + i * size b = omega (arith, length-cells h, suc-mul i (size b)) in
+    ap (λ (n : ℕ). take (size b) (drop n (cellsOf b v ++ F ++ rest))) e
+    ∙ ap (λ (l : List ℤ). take (size b) (drop (length (cellsOf b v) + i * size b) l)) (append-assoc (cellsOf b v) F rest)
+    ∙ ap (λ (l : List ℤ). take (size b) l) (drop-append-add (cellsOf b v) (F ++ rest) (i * size b))
+    ∙ flat-at hs i (le-of-suc-le-suc lt) d rest
+
+-- element i is the window at its place
+pub element-cells : {vs : Values} {b : Body} → AllFit vs b → (i : ℕ) → i < countValues vs → (d : Value)
+    → take (size b) (drop (1 + i * size b) (cellsOf (list-of b) (items vs))) ≡ cellsOf b (getD (valueList vs) i d)
+unfolding cellsOf asItems pad
+element-cells {vs} {b} hs i lt d =
+    ap (λ (n : ℕ). take (size b) (drop n (cellsOf (list-of b) (items vs)))) (one-add (i * size b)) ∙ flat-at hs i lt d _

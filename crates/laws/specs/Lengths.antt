@@ -1,14 +1,13 @@
 -- The cells of a value that fits are as many as its body's size. Carried by an induction over what fits. Assumes nothing.
-use mathlib.Core.Path.{_≡_, refl, sym, ap, _∙_}
-use mathlib.Core.List.{List, [], _∷_, _++_}
-use Prim.Native.Nat.{ℕ, zero, suc, _+_, _-_, _*_, _≤_, _<_}
+use mathlib.Core.Path.{_≡_, refl, sym}
+use Prim.Native.Nat.{_*_, _≤_}
 use native.Mathlib.Nat.{zero-mul, suc-mul, mul-le-mul-right}
 use native.Mathlib.Omega.{arith}
 use lib.ListN.{length, length-append}
-use lib.IntN.{ℤ, pos}
+use lib.IntN.{pos}
 use Rattle.lingua.specs.Numbers.{list-places}
 use Rattle.lingua.specs.Body.{Body, Attributes, size, sizes}
-use Rattle.lingua.specs.Value.{Value, Values, Fields, item, countValues, Fits, fit-truth, fit-whole, fit-text, fit-items, fit-fields, AllFit, fit-none, fit-item, FieldsFit, fit-end, fit-field, asTruth, asWhole, asText, asItems, asFields, flat, cellsOf, fieldCells}
+use Rattle.lingua.specs.Value.{Value, Values, Fields, countValues, Fits, fit-truth, fit-whole, fit-text, fit-items, fit-fields, AllFit, fit-none, fit-item, FieldsFit, fit-end, fit-field, asItems, asFields, flat, cellsOf, fieldCells}
 use Rattle.laws.specs.Lists.{length-pad}
 
 mutual

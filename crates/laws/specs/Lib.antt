@@ -13,3 +13,9 @@ pub mod Blocks
 pub mod Parts
 pub mod Areas
 pub mod Stores
+pub mod Halves
+pub mod Written
+pub mod Checks
+pub mod Accepted
+pub mod Lowest
+pub mod Files

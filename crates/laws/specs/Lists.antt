@@ -1,7 +1,7 @@
 -- Laws of lists that the laws of cells are made of: padded lists, replicated elements, parts and pastes. Assumes nothing.
 use mathlib.Core.Path.{_≡_, refl, sym, ap, _∙_}
-use mathlib.Core.List.{List, [], _∷_, _++_, append-assoc, append-nil}
-use Prim.Native.Nat.{ℕ, zero, suc, _+_, _-_, _*_, _≤_, _<_}
+use mathlib.Core.List.{List, _∷_, _++_, append-assoc}
+use Prim.Native.Nat.{ℕ, zero, suc, _+_, _-_, _≤_}
 use native.Mathlib.Nat.{sub-zero, le-of-suc-le-suc}
 use native.Mathlib.Omega.{arith}
 use lib.ListN.{length, take, drop, replicate, length-append, length-replicate, replicate-append-replicate}

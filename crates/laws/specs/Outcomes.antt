@@ -1,12 +1,12 @@
 -- What an answer shows of the steps that led to it: each condition held, and each option held something. Assumes nothing.
-use mathlib.Core.Path.{_≡_, refl, sym, ap, ap₂, _∙_, subst}
-use mathlib.Core.Bool.{Bool, true, false, not, _&&_}
+use mathlib.Core.Path.{_≡_, refl, sym, ap, ap₂, _∙_}
+use mathlib.Core.Bool.{Bool, true, false, _&&_}
 use mathlib.Core.Option.{Option, some, none}
 use Prim.Native.Nat.{ℕ}
 use lib.Dec.{eqb}
 use borrow.Author.Tests.{eqb-true, eq-eqb}
 use native.Mathlib.Omega.{arith}
-use Rattle.lingua.specs.Outcome.{Outcome, ok, fail, Result, _>>=_, _>>_, require, orFail}
+use Rattle.lingua.specs.Outcome.{ok, fail, Result, _>>=_, _>>_, require, orFail}
 use Rattle.lingua.specs.Body.{Body, boolean, number, word, list-of, record-of, Attributes, end, attribute, holds, sameBody, sameAttributes, isBoolean, isNumber, isWord, elementBody, attributesOf}
 
 pub false-is-true {ℓ} : {A : Type ℓ} → false ≡ true → A
@@ -74,10 +74,10 @@ is-word word e = refl
 is-word (list-of b) e = false-is-true e
 is-word (record-of fs) e = false-is-true e
 
-none-is-some {ℓ} : {A : Type 0} {B : Type ℓ} {a : A} → none ≡ some a → B
+pub none-is-some {ℓ} : {A : Type 0} {B : Type ℓ} {a : A} → none ≡ some a → B
 none-is-some e = absurd (let z : _≡_ {A = ℕ} 0 1 = cc in let k : ⊥ = omega arith in k)
 
-some-same : {A : Type 0} {a b : A} → some a ≡ some b → a ≡ b
+pub some-same : {A : Type 0} {a b : A} → some a ≡ some b → a ≡ b
 some-same e = cc
 
 pub is-list : (b d : Body) → elementBody b ≡ some d → b ≡ list-of d

@@ -5,8 +5,8 @@ use Prim.Native.Nat.{ℕ, zero, suc, _+_, _-_, _≤_, _<_}
 use native.Mathlib.Nat.{sub-zero}
 use native.Mathlib.Numerals.{add-one}
 use native.Mathlib.Omega.{arith}
-use lib.ListN.{length, take, drop, set, replicate, drop-of-length-le, replicate-append-replicate}
-use lib.Seq.{take-nil, take-length, take-at, drop-at, drop-drop, take-suc-set}
+use lib.ListN.{length, getD, take, drop, set, replicate, length-take, length-drop, drop-of-length-le, replicate-append-replicate}
+use lib.Seq.{length-take-le, getD-take, getD-drop, take-nil, take-length, take-at, drop-at, drop-drop, take-suc-set}
 use Rattle.lingua.specs.Value.{pad}
 
 module _ {A : Type 0} where
@@ -36,6 +36,15 @@ module _ {A : Type 0} where
   pad-set i z xs l h k e =
       ap (λ (n : ℕ). take n (set l i z)) (add-one i) ∙ take-suc-set l i z k ∙ ap (λ (p : List A). p ++ (z ∷ [])) e ∙ pad-more i z xs h
 
+  pub length-taken : (n : ℕ) (l : List A) → length (take n l) ≤ n
+  length-taken n l = omega (arith, length-take n l)
+
+  -- a part has as many elements as its bounds say
+  pub length-part : (l : List A) (a n : ℕ) → a + n ≤ length l → length (take (a + n - a) (drop a l)) ≡ n
+  length-part l a n h =
+      let e : a + n - a ≡ n = omega arith in
+      ap (λ (m : ℕ). length (take m (drop a l))) e ∙ length-take-le n (drop a l) (omega (arith, length-drop a l))
+
   -- a copy that is as long as what it is written over is all of it
   pub copy-whole : (src dst : List A) → length src ≡ length dst → take (length src) src ++ drop (length src) dst ≡ src
   copy-whole src dst h =
@@ -57,3 +66,37 @@ module _ {A : Type 0} where
   pad-front z xs l r e =
       ap (λ (t : List A). take (length xs) t) (e ∙ ap (λ (t : List A). t ++ drop (length xs) l) (take-length xs))
       ∙ take-at xs (drop (length xs) l) (length xs) refl ∙ sym (pad-whole (length xs) z xs refl)
+
+-- four stores behind a front, in a list that has room for just these
+pub store-four : (p q : List ℕ) (a b c d : ℕ) → length q ≡ 4
+    → set (set (set (set (p ++ q) (length p) a) (suc (length p)) b) (suc (suc (length p))) c) (suc (suc (suc (length p)))) d ≡ p ++ (a ∷ b ∷ c ∷ d ∷ [])
+store-four [] [] a b c d h = absurd (let k : ⊥ = omega (arith, h) in k)
+store-four [] (x ∷ []) a b c d h = absurd (let k : ⊥ = omega (arith, h) in k)
+store-four [] (x ∷ y ∷ []) a b c d h = absurd (let k : ⊥ = omega (arith, h) in k)
+store-four [] (x ∷ y ∷ z ∷ []) a b c d h = absurd (let k : ⊥ = omega (arith, h) in k)
+store-four [] (x ∷ y ∷ z ∷ w ∷ []) a b c d h = refl
+store-four [] (x ∷ y ∷ z ∷ w ∷ v ∷ r) a b c d h = absurd (let k : ⊥ = omega (arith, h) in k)
+store-four (x ∷ p) q a b c d h = ap (λ (l : List ℕ). x ∷ l) (store-four p q a b c d h)
+
+pub store-four-at : (n : ℕ) (p q : List ℕ) (a b c d : ℕ) → length p ≡ n → length q ≡ 4
+    → set (set (set (set (p ++ q) n a) (suc n) b) (suc (suc n)) c) (suc (suc (suc n))) d ≡ p ++ (a ∷ b ∷ c ∷ d ∷ [])
+store-four-at n p q a b c d e h =
+    ap (λ (m : ℕ). set (set (set (set (p ++ q) m a) (suc m) b) (suc (suc m)) c) (suc (suc (suc m))) d) (sym e) ∙ store-four p q a b c d h
+
+-- ---- element by element: past its end a list of numbers reads as zero, and so do the zeros that fill it up
+zeros-get : (n i : ℕ) → _≡_ {A = ℕ} (getD (replicate n 0) i 0) 0
+zeros-get zero i = refl
+zeros-get (suc n) zero = refl
+zeros-get (suc n) (suc i) = zeros-get n i
+
+append-zeros-get : (xs : List ℕ) (n i : ℕ) → getD (xs ++ replicate n 0) i 0 ≡ getD xs i 0
+append-zeros-get [] n i = zeros-get n i
+append-zeros-get (x ∷ xs) n zero = refl
+append-zeros-get (x ∷ xs) n (suc i) = append-zeros-get xs n i
+
+pub pad-get : (n : ℕ) (xs : List ℕ) (i : ℕ) → getD (pad n 0 xs) i 0 ≡ getD xs i 0
+unfolding pad
+pad-get n xs i = append-zeros-get xs (n - length xs) i
+
+pub part-get : (a n : ℕ) (xs : List ℕ) (i : ℕ) → i < n → getD (take n (drop a xs)) i 0 ≡ getD xs (a + i) 0
+part-get a n xs i h = getD-take n (drop a xs) i 0 h ∙ getD-drop a xs i 0

@@ -3,21 +3,21 @@
 -- That attributes ascend is not needed. Assumes nothing.
 use mathlib.Core.Path.{_≡_, refl, sym, ap, _∙_, subst}
 use mathlib.Core.Bool.{Bool, true, false}
-use mathlib.Core.List.{List, [], _∷_, _++_, append-assoc, append-nil}
-use mathlib.Core.Option.{Option, some, none}
-use Prim.Native.Nat.{ℕ, zero, suc, _+_, _-_, _*_, _≤_, _<_}
+use mathlib.Core.List.{List, [], _++_, append-assoc, append-nil}
+use mathlib.Core.Option.{some}
+use Prim.Native.Nat.{ℕ, _+_}
 use native.Mathlib.Omega.{arith}
 use lib.Dec.{eqb, ltb}
 use lib.ListN.{length, take, drop, length-append}
-use lib.Seq.{take-at, drop-at, drop-append-add, paste}
-use lib.IntN.{ℤ, pos}
+use lib.Seq.{take-at, drop-at}
+use lib.IntN.{ℤ}
 use borrow.Author.Tests.{eq-eqb}
 use Rattle.lingua.specs.Outcome.{isSome, if_then_else_}
 use Rattle.lingua.specs.Body.{Body, record-of, Attributes, end, attribute, size, sizes, attributeBody, attributeOffset, insertAttribute}
 use Rattle.lingua.specs.Value.{Value, fields, Fields, no-fields, field, Fits, fit-fields, FieldsFit, fit-end, fit-field, asFields, cellsOf, fieldCells}
 use Rattle.lingua.specs.Operation.{present}
 use Rattle.lingua.specs.Compute.{fieldValue, changeField, insertField}
-use Rattle.laws.specs.Lengths.{length-cells, length-fields}
+use Rattle.laws.specs.Lengths.{length-cells}
 
 -- a record's cells, split at an attribute of body d: how far it stands, its value, and what a change of it gives
 pub record SplitAt (at : ℕ) (d : Body) (fs : Attributes) (value : Value) (cells : List ℤ) (change : Value → Fields) : Type 0 where
@@ -65,13 +65,6 @@ split (fit-field {n = m} {v = w} {b} {xs} {fs} h hs) n d e = go (eqb n m) e (spl
 
 -- ---- select and change
 module _ {xs : Fields} {fs : Attributes} (hs : FieldsFit xs fs) (n : ℕ) (d : Body) (e : attributeBody n fs ≡ some d) where
-  -- the attribute's cells lie within the record's
-  pub attribute-room : attributeOffset n fs + size d ≤ sizes fs
-  attribute-room =
-      let s = split hs n d e in
-      let l = ap length (s .is) in
-      omega (arith, l, length-fields hs, length-cells (s .fit), s .offset, length-append (s .before) (cellsOf d (fieldValue n xs) ++ s .after), length-append (cellsOf d (fieldValue n xs)) (s .after))
-
   pub select-cells : take (size d) (drop (attributeOffset n fs) (fieldCells fs xs)) ≡ cellsOf d (fieldValue n xs)
   select-cells =
       let s = split hs n d e in
@@ -145,12 +138,6 @@ insert {v} {c} (fit-field {n = m} {v = w} {b} {xs} {fs} h hs) k n e = go (eqb n 
     go false q e rest = cases q (ltb n m) (rest e)
 
 module _ {xs : Fields} {fs : Attributes} {v : Value} {c : Body} (hs : FieldsFit xs fs) (k : Fits v c) (n : ℕ) (e : present n fs ≡ false) where
-  -- the place of the new attribute lies within the record's cells
-  pub insert-room : attributeOffset n (insertAttribute n c fs) ≤ sizes fs
-  insert-room =
-      let s = insert hs k n e in
-      omega (arith, ap length (s .is), length-fields hs, s .offset, length-append (s .before) (s .after))
-
   -- the new value's cells between those before its place and those after
   pub expand-cells : fieldCells (insertAttribute n c fs) (insertField n v xs)
       ≡ take (attributeOffset n (insertAttribute n c fs)) (fieldCells fs xs) ++ cellsOf c v ++ drop (attributeOffset n (insertAttribute n c fs)) (fieldCells fs xs)

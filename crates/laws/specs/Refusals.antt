@@ -1,13 +1,13 @@
 -- The lowest number of a list of rules: a rule that applies below all others is the refusal, and where there is none, none applies.
 -- Assumes nothing.
 use mathlib.Core.Path.{_≡_, refl, sym, ap, _∙_}
-use mathlib.Core.Bool.{Bool, true, false}
-use mathlib.Core.List.{List, [], _∷_}
+use mathlib.Core.Bool.{Bool, true, false, _&&_}
+use mathlib.Core.List.{List, [], _∷_, _++_}
 use mathlib.Core.Logic.{_⊎_, inl, inr, ⊎-elim}
-use Prim.Native.Nat.{ℕ, zero, suc, _<_}
+use Prim.Native.Nat.{ℕ, _≤_, _<_}
 use native.Mathlib.Omega.{arith}
-use lib.Dec.{eqb, ltb}
-use borrow.Author.Tests.{eqb-true, eqb-false, eq-eqb, ltb-true, lt-ltb}
+use lib.Dec.{eqb, ltb, leb}
+use borrow.Author.Tests.{eqb-false, eq-eqb, ltb-true, ltb-false, leb-true, lt-ltb}
 use Rattle.lingua.specs.Errors.{no-error}
 use Rattle.lingua.specs.Outcome.{if_then_else_}
 use Rattle.lingua.specs.Value.{allOf}
@@ -71,3 +71,56 @@ lowest-none n true rs h e = absurd (by-zero (eqb (lowest rs) 0) (eqb-false (lowe
     by-zero : (z : Bool) → (z ≡ false → lowest rs ≡ 0 → ⊥) → (if z then n else (if ltb n (lowest rs) then n else lowest rs)) ≡ 0 → ⊥
     by-zero true z e = omega (arith, e)
     by-zero false z e = by-less (ltb n (lowest rs)) (z refl) e
+
+-- ---- two lists of rules, one with lower numbers than the other
+abbrev pub allUpTo : ℕ → List Rule → Bool
+allUpTo k rs = allOf (λ r. ltb 0 (r .number) && leb (r .number) k) rs
+
+-- the first list refuses nothing and the second decides, or the first decides
+pub data Decides (k : ℕ) (rs ss : List Rule) : Type 0 where
+  second : lowest rs ≡ no-error → lowest (rs ++ ss) ≡ lowest ss → Decides k rs ss
+  first : 0 < lowest rs → lowest rs ≤ k → lowest (rs ++ ss) ≡ lowest rs → Decides k rs ss
+
+-- the lower of a number up to k, and of one that is 0 or above k
+lower-here : (n k m : ℕ) → n ≤ k → (m ≡ 0) ⊎ (k < m) → lower-of n true m ≡ n
+lower-here n k m h w = by-zero (eqb m 0) (eqb-false m 0) w
+  where
+    by-less : (u : Bool) → (ltb n m ≡ u) → k < m → (if u then n else m) ≡ n
+    by-less true e l = refl
+    by-less false e l = absurd (let z : ⊥ = omega (arith, ltb-false n m e) in z)
+
+    by-zero : (z : Bool) → (z ≡ false → m ≡ 0 → ⊥) → (m ≡ 0) ⊎ (k < m) → (if z then n else (if ltb n m then n else m)) ≡ n
+    by-zero true z w = refl
+    by-zero false z (inl e) = absurd (z refl e)
+    by-zero false z (inr l) = by-less (ltb n m) refl l
+
+lower-between : (n k m : ℕ) → 0 < n → n ≤ k → 0 < m → m ≤ k → (0 < lower-of n true m) × (lower-of n true m ≤ k)
+lower-between n k m a b d e = by-zero (eqb m 0)
+  where
+    by-less : (u : Bool) → (0 < (if u then n else m)) × ((if u then n else m) ≤ k)
+    by-less true = (a, b)
+    by-less false = (d, e)
+
+    by-zero : (z : Bool) → (0 < (if z then n else (if ltb n m then n else m))) × ((if z then n else (if ltb n m then n else m)) ≤ k)
+    by-zero true = (a, b)
+    by-zero false = by-less (ltb n m)
+
+decides-more : (k n : ℕ) (t : Bool) (rs ss : List Rule) → 0 < n → n ≤ k → (lowest ss ≡ 0) ⊎ (k < lowest ss) → Decides k rs ss → Decides k (rule n t ∷ rs) ss
+unfolding lowest
+decides-more k n false rs ss p h w (second e d) = second e d
+decides-more k n false rs ss p h w (first a b d) = first a b d
+decides-more k n true rs ss p h w (second e d) =
+    let l : lower-of n true (lowest rs) ≡ n = lower-here n k (lowest rs) h (inl e) in
+    first (omega (arith, l)) (omega (arith, l)) (ap (λ (m : ℕ). lower-of n true m) d ∙ lower-here n k (lowest ss) h w ∙ sym l)
+decides-more k n true rs ss p h w (first a b d) =
+    let l = lower-between n k (lowest rs) p h a b in
+    first (l .0) (l .1) (ap (λ (m : ℕ). lower-of n true m) d)
+
+pub decides : (k : ℕ) (rs ss : List Rule) → allUpTo k rs ≡ true → allAbove k ss ≡ true → Decides k rs ss
+unfolding allOf lowest
+decides k [] ss e a = second refl refl
+decides k (r ∷ rs) ss e a =
+    let here = and-left (ltb 0 (r .number) && leb (r .number) k) (allUpTo k rs) e in
+    decides-more k (r .number) (r .applies) rs ss (ltb-true 0 (r .number) (and-left (ltb 0 (r .number)) (leb (r .number) k) here))
+    (leb-true (r .number) k (and-right (ltb 0 (r .number)) (leb (r .number) k) here)) (lowest-above k ss a)
+    (decides k rs ss (and-right (ltb 0 (r .number) && leb (r .number) k) (allUpTo k rs) e) a)

@@ -1,27 +1,27 @@
 -- The two halves of an operation agree: where the bodies' half gives a body and the values' half a value, the value fits the
 -- body. `unary-sound` and `binary-sound` say so of every operation. Assumes nothing.
-use mathlib.Core.Path.{_≡_, refl, sym, ap, _∙_, subst}
-use mathlib.Core.Bool.{Bool, true, false, not, _&&_}
-use mathlib.Core.List.{List, [], _∷_, _++_}
-use mathlib.Core.Option.{Option, some, none}
-use Prim.Native.Nat.{ℕ, zero, suc, _+_, _/_, _≤_, _<_}
+use mathlib.Core.Path.{_≡_, refl, sym, subst}
+use mathlib.Core.Bool.{true, not}
+use mathlib.Core.List.{List, _++_}
+use Prim.Native.Nat.{ℕ, zero, suc, _+_, _/_, _≤_}
 use native.Mathlib.Nat.{div-le-self}
 use native.Mathlib.Omega.{arith}
 use lib.Dec.{leb, ltb}
 use lib.ListN.{length}
 use lib.IntN.{ℤ, pos, negsuc, negℤ, _+ℤ_, _-ℤ_, _*ℤ_}
-use lib.Signed.{leZ, quotZ}
-use borrow.Author.Tests.{leb-true, le-leb, ltb-true, not-true}
+use lib.Signed.{leZ}
+use borrow.Author.Tests.{leb-true, le-leb, ltb-true}
 use Rattle.lingua.specs.Numbers.{lowest-number, highest-number, word-length, list-places}
-use Rattle.lingua.specs.Errors.{overflow, division-by-zero, list-full, word-too-long, number-expected, boolean-expected, word-expected, list-expected, record-expected, no-such-attribute, attribute-present, no-coherence, not-comparable, body-too-large}
-use Rattle.lingua.specs.Outcome.{Outcome, ok, fail, Result, require, orFail}
-use Rattle.lingua.specs.Body.{Body, boolean, number, word, list-of, record-of, Attributes, end, attribute, isBoolean, isNumber, isWord, isSimple, sameBody, elementBody, attributesOf, attributeBody, insertAttribute, tooLarge}
-use Rattle.lingua.specs.Value.{Value, truth, whole, text, items, fields, Values, no-items, item, Fields, no-fields, field, countValues, inRange, Fits, fit-truth, fit-whole, fit-text, fit-items, fit-fields, AllFit, fit-none, fit-item, FieldsFit, fit-end, fit-field, isText, asTruth, asWhole, asText, asItems, asFields}
-use Rattle.lingua.specs.Operation.{Unary, negation, make-record, select, make-list, top, pop, Binary, add, subtract, multiply, divide, less, equal, glue, expand, change, push, bounded, present, unaryBody, numbersTo, binaryBody}
-use Rattle.lingua.specs.Compute.{ranged, sameNumber, quotient, divided, glued, pushed, topOf, popOf, withLast, fieldValue, insertField, changeField, unaryValue, binaryValue}
-use Rattle.laws.specs.Outcomes.{false-is-true, fail-is-ok, ok-same, required, orFail-ok, asked, and-left, and-right, and-both, same-body, is-boolean, is-number, is-word, is-list, is-record}
+use Rattle.lingua.specs.Errors.{overflow, division-by-zero, list-full, word-too-long}
+use Rattle.lingua.specs.Outcome.{ok}
+use Rattle.lingua.specs.Body.{Body, number, word, list-of, record-of, Attributes}
+use Rattle.lingua.specs.Value.{Value, whole, text, items, Values, no-items, item, countValues, inRange, Fits, fit-truth, fit-whole, fit-text, fit-items, fit-fields, AllFit, fit-item, FieldsFit, isText, asWhole, asText, asItems, asFields}
+use Rattle.lingua.specs.Operation.{Unary, negation, make-record, select, make-list, top, pop, Binary, add, subtract, multiply, divide, less, equal, glue, expand, change, push, unaryBody, binaryBody}
+use Rattle.lingua.specs.Compute.{ranged, sameNumber, quotient, divided, glued, pushed, topOf, popOf, withLast, unaryValue, binaryValue}
+use Rattle.laws.specs.Outcomes.{fail-is-ok, ok-same, required, and-left, and-right, and-both}
+use Rattle.laws.specs.Halves.{negation-body, make-record-body, select-body, make-list-body, top-body, pop-body, numbers-body, equal-body, glue-body, expand-body, change-body, push-body}
 use Rattle.laws.specs.Words.{glued-text}
-use Rattle.laws.specs.Records.{select-fits, change-fits, expand-fits}
+use Rattle.laws.specs.Records.{make-record-fits, select-fits, change-fits, expand-fits}
 use Rattle.laws.specs.Items.{push-fits, fits-lastFrom, pop-fits, single-fits}
 
 -- ---- what a value that fits a body is
@@ -72,21 +72,11 @@ quotient-in-range (negsuc a) (pos b) h =
 quotient-in-range (negsuc a) (negsuc b) h =
     let p = leb-true a 999999 (and-left (leb a 999999) true h) in pos-in-range (suc a / suc b) (omega (arith, p, div-le-self (suc a) (suc b)))
 
-ranged-fits : (z : ℤ) (v : Value) → ranged z ≡ ok v → Fits v number
+pub ranged-fits : (z : ℤ) (v : Value) → ranged z ≡ ok v → Fits v number
 unfolding ranged
 ranged-fits z v e =
     let p = required (inRange z) overflow (ok (whole z)) v e in
     fits-as (ok-same (p .1)) refl (fit-whole (p .0))
-
-numbers-to : {d : Body} (r b c : Body) → numbersTo r b c ≡ ok d → (r ≡ d) × (b ≡ number) × (c ≡ number)
-unfolding numbersTo
-numbers-to {d} r b c e =
-    let p = required (isNumber b && isNumber c) number-expected (ok r) d e in
-    (ok-same (p .1), is-number b (and-left (isNumber b) (isNumber c) (p .0)), is-number c (and-right (isNumber b) (isNumber c) (p .0)))
-
-bounded-is : (b d : Body) → bounded b ≡ ok d → b ≡ d
-unfolding bounded
-bounded-is b d e = ok-same (required (not (tooLarge b)) body-too-large (ok b) d e .1)
 
 as-body : {x : Value} {b c : Body} → b ≡ c → Fits x b → Fits x c
 as-body {x} q h = subst (λ (c : Body). Fits x c) q h
@@ -103,26 +93,21 @@ pop-sound no-items hs le e = fail-is-ok e
 pop-sound (item w vs) (fit-item h hs) le e = fits-as (ok-same e) refl (pop-fits h hs le)
 
 pub unary-sound : (o : Unary) {x v : Value} {b d : Body} → Fits x b → unaryBody o b ≡ ok d → unaryValue o x ≡ ok v → Fits v d
-unfolding unaryBody unaryValue
-unary-sound negation {x} {v} {b} {d} h e f =
-    fits-as (ok-same f) (ok-same (required (isBoolean b) boolean-expected (ok boolean) d e .1)) fit-truth
-unary-sound (make-record n) {x} {v} {b} {d} h e f =
-    fits-as (ok-same f) (bounded-is (record-of (attribute n b end)) d e) (fit-fields (fit-field h fit-end))
+unfolding unaryValue
+unary-sound negation h e f = fits-as (ok-same f) (sym (negation-body e .1)) fit-truth
+unary-sound (make-record n) h e f = fits-as (ok-same f) (sym (make-record-body {n = n} e)) (make-record-fits n h)
 unary-sound (select n) {x} {v} {b} {d} h e f =
-    let p = asked (attributesOf b) record-expected (λ fs. orFail (attributeBody n fs) no-such-attribute) d e in
-    let hs = fit-record (as-body (is-record b (p .0) (p .1)) h) in
-    fits-as (ok-same f) refl (select-fits hs n d (orFail-ok (attributeBody n (p .0)) no-such-attribute d (p .2)))
-unary-sound make-list {x} {v} {b} {d} h e f = fits-as (ok-same f) (bounded-is (list-of b) d e) (single-fits h)
-unary-sound top {x} {v} {b} {d} h e f =
-    top-sound (asItems x) (fit-list (as-body (is-list b d (orFail-ok (elementBody b) list-expected d e)) h)) f
-unary-sound pop {x} {v} {b} {d} h e f =
-    let p = asked (elementBody b) list-expected (λ c. ok b) d e in
-    let q = is-list b (p .0) (p .1) in
-    let k = as-body q h in
-    as-body (sym q ∙ ok-same (p .2)) (pop-sound (asItems x) (fit-list k) (fit-count k) f)
+    let s = select-body {n = n} e in
+    fits-as (ok-same f) refl (select-fits (fit-record (as-body (s .is) h)) n d (s .has))
+unary-sound make-list h e f = fits-as (ok-same f) (sym (make-list-body e)) (single-fits h)
+unary-sound top {x} h e f = top-sound (asItems x) (fit-list (as-body (top-body e) h)) f
+unary-sound pop {x} h e f =
+    let p = pop-body e in
+    let k = as-body (p .1) h in
+    as-body (sym (p .2)) (pop-sound (asItems x) (fit-list k) (fit-count k) f)
 
 -- ---- two operands
-divided-fits : (x y : ℤ) (v : Value) → inRange x ≡ true → divided x y ≡ ok v → Fits v number
+pub divided-fits : (x y : ℤ) (v : Value) → inRange x ≡ true → divided x y ≡ ok v → Fits v number
 unfolding divided
 divided-fits x y v h e =
     fits-as (ok-same (required (not (sameNumber y (pos 0))) division-by-zero (ok (whole (quotient x y))) v e .1)) refl (fit-whole (quotient-in-range x y h))
@@ -141,37 +126,23 @@ pushed-fits vs x {b} {v} hs k e =
 
 pub binary-sound : (o : Binary) {x y v : Value} {b c d : Body} → Fits x b → Fits y c → binaryBody o b c ≡ ok d → binaryValue o x y ≡ ok v → Fits v d
 unfolding binaryBody binaryValue
-binary-sound add {x} {y} {v} {b} {c} {d} h k e f = as-body (numbers-to number b c e .0) (ranged-fits (asWhole x +ℤ asWhole y) v f)
-binary-sound subtract {x} {y} {v} {b} {c} {d} h k e f = as-body (numbers-to number b c e .0) (ranged-fits (asWhole x -ℤ asWhole y) v f)
-binary-sound multiply {x} {y} {v} {b} {c} {d} h k e f = as-body (numbers-to number b c e .0) (ranged-fits (asWhole x *ℤ asWhole y) v f)
-binary-sound divide {x} {y} {v} {b} {c} {d} h k e f =
-    let p = numbers-to number b c e in
-    as-body (p .0) (divided-fits (asWhole x) (asWhole y) v (fit-number (as-body (p .1) h)) f)
-binary-sound less {x} {y} {v} {b} {c} {d} h k e f = fits-as (ok-same f) (numbers-to boolean b c e .0) fit-truth
-binary-sound equal {x} {y} {v} {b} {c} {d} h k e f =
-    fits-as (ok-same f) (ok-same (required (isSimple b && sameBody b c) not-comparable (ok boolean) d e .1)) fit-truth
-binary-sound glue {x} {y} {v} {b} {c} {d} h k e f =
-    let p = required (isWord b && isWord c) word-expected (ok word) d e in
-    as-body (ok-same (p .1))
-    (glued-fits (asText x) (asText y) v
-    (fit-word (as-body (is-word b (and-left (isWord b) (isWord c) (p .0))) h))
-    (fit-word (as-body (is-word c (and-right (isWord b) (isWord c) (p .0))) k)) f)
-binary-sound (expand n) {x} {y} {v} {b} {c} {d} h k e f =
-    let p = asked (attributesOf b) record-expected _ d e in
-    let fs = p .0 in
-    let q = required (not (present n fs)) attribute-present (bounded (record-of (insertAttribute n c fs))) d (p .2) in
-    let hs = fit-record (as-body (is-record b fs (p .1)) h) in
-    fits-as (ok-same f) (bounded-is (record-of (insertAttribute n c fs)) d (q .1)) (fit-fields (expand-fits hs k n (not-true (present n fs) (q .0))))
-binary-sound (change n) {x} {y} {v} {b} {c} {d} h k e f =
-    let p = asked (attributesOf b) record-expected _ d e in
-    let fs = p .0 in
-    let q = asked (attributeBody n fs) no-such-attribute _ d (p .2) in
-    let r = required (sameBody (q .0) c) no-coherence (ok b) d (q .2) in
-    let b-is = is-record b fs (p .1) in
-    let hs = fit-record (as-body b-is h) in
-    fits-as (ok-same f) (sym b-is ∙ ok-same (r .1)) (fit-fields (change-fits hs n (q .0) (q .1) y (as-body (sym (same-body (q .0) c (r .0))) k)))
-binary-sound push {x} {y} {v} {b} {c} {d} h k e f =
-    let p = asked (elementBody b) list-expected _ d e in
-    let r = required (sameBody (p .0) c) no-coherence (ok b) d (p .2) in
-    let b-is = is-list b (p .0) (p .1) in
-    as-body (sym b-is ∙ ok-same (r .1)) (pushed-fits (asItems x) y (fit-list (as-body b-is h)) (as-body (sym (same-body (p .0) c (r .0))) k) f)
+binary-sound add {x} {y} {v} h k e f = as-body (sym (numbers-body e .2)) (ranged-fits (asWhole x +ℤ asWhole y) v f)
+binary-sound subtract {x} {y} {v} h k e f = as-body (sym (numbers-body e .2)) (ranged-fits (asWhole x -ℤ asWhole y) v f)
+binary-sound multiply {x} {y} {v} h k e f = as-body (sym (numbers-body e .2)) (ranged-fits (asWhole x *ℤ asWhole y) v f)
+binary-sound divide {x} {y} {v} h k e f =
+    let p = numbers-body e in
+    as-body (sym (p .2)) (divided-fits (asWhole x) (asWhole y) v (fit-number (as-body (p .0) h)) f)
+binary-sound less h k e f = fits-as (ok-same f) (sym (numbers-body e .2)) fit-truth
+binary-sound equal h k e f = fits-as (ok-same f) (sym (equal-body e .2)) fit-truth
+binary-sound glue {x} {y} {v} h k e f =
+    let p = glue-body e in
+    as-body (sym (p .2)) (glued-fits (asText x) (asText y) v (fit-word (as-body (p .0) h)) (fit-word (as-body (p .1) k)) f)
+binary-sound (expand n) h k e f =
+    let p = expand-body {n = n} e in
+    fits-as (ok-same f) (sym (p .result)) (fit-fields (expand-fits (fit-record (as-body (p .is) h)) k n (p .absent)))
+binary-sound (change n) {x} {y} {v} {b} {c} h k e f =
+    let p = change-body {n = n} e in
+    fits-as (ok-same f) (sym (p .1)) (fit-fields (change-fits (fit-record (as-body (p .0 .is) h)) n c (p .0 .has) y k))
+binary-sound push {x} {y} h k e f =
+    let p = push-body e in
+    as-body (sym (p .1)) (pushed-fits (asItems x) y (fit-list (as-body (p .0) h)) k f)

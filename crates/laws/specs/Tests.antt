@@ -1,7 +1,7 @@
 -- Laws of the tests that the rules are made of: texts that are equal, a property of every number below a
 -- bound, and bytes that are all zero. Assumes nothing.
 use mathlib.Core.Path.{_≡_, refl, sym, ap, ap₂, _∙_, subst}
-use mathlib.Core.Bool.{Bool, true, false, _&&_}
+use mathlib.Core.Bool.{Bool, true, false}
 use mathlib.Core.List.{List, [], _∷_}
 use mathlib.Core.Logic.{_⊎_, inl, inr, ⊎-elim}
 use Prim.Native.Nat.{ℕ, zero, suc, _+_, _≤_, _<_}
@@ -40,12 +40,15 @@ text-same [] = refl
 text-same (c ∷ cs) = and-both (eqb c c) (sameText cs cs) (eq-eqb c c refl) (text-same cs)
 
 -- ---- every number below a bound
-pub below-suc : (n k : ℕ) → k < suc n → (k < n) ⊎ (k ≡ n)
-below-suc n k h = by-test (ltb k n) (ltb-true k n) (λ e. omega (arith, ltb-false k n e))
+pub below-or : (k n : ℕ) → (k < n) ⊎ (n ≤ k)
+below-or k n = by-test (ltb k n) (ltb-true k n) (ltb-false k n)
   where
-    by-test : (t : Bool) → (t ≡ true → k < n) → (t ≡ false → k ≡ n) → (k < n) ⊎ (k ≡ n)
+    by-test : (t : Bool) → (t ≡ true → k < n) → (t ≡ false → n ≤ k) → (k < n) ⊎ (n ≤ k)
     by-test true l e = inl (l refl)
     by-test false l e = inr (e refl)
+
+pub below-suc : (n k : ℕ) → k < suc n → (k < n) ⊎ (k ≡ n)
+below-suc n k h = ⊎-elim (λ (q : k < n). inl q) (λ (q : n ≤ k). inr (let e : k ≡ n = omega arith in e)) (below-or k n)
 
 pub every-at : (n : ℕ) (p : ℕ → Bool) (k : ℕ) → everyBelow n p ≡ true → k < n → p k ≡ true
 unfolding everyBelow

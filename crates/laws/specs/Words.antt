@@ -1,17 +1,16 @@
 -- Texts: a glued text's characters are characters, and a text of characters is determined by its cell. Carried by the
 -- remainder and the quotient of the cell's number by a power of 256. Assumes nothing.
-use mathlib.Core.Path.{_≡_, refl, sym, ap, ap₂, _∙_, subst}
-use mathlib.Core.Bool.{Bool, true, false, _&&_}
+use mathlib.Core.Path.{_≡_, refl, sym, ap, ap₂, _∙_}
+use mathlib.Core.Bool.{Bool, true}
 use mathlib.Core.List.{List, [], _∷_, _++_}
 use Prim.Native.Nat.{ℕ, zero, suc, _+_, _-_, _*_, _/_, _%_, _^_, _≤_, _<_}
 use native.Mathlib.Nat.{pow-suc, mul-assoc, add-mul, le-add-right, mul-le-mul-right, one-le-pow, div-eq-of-lt-le, le-of-suc-le-suc, mul-add-mod-self-right, mod-eq-of-lt, sub-zero}
 use native.Mathlib.Omega.{arith}
 use lib.Dec.{leb}
 use lib.ListN.{length, length-append}
-use lib.IntN.{ℤ, pos}
 use borrow.Author.Tests.{leb-true, le-leb}
 use Rattle.lingua.specs.Numbers.{word-length, lowest-character, highest-character}
-use Rattle.lingua.specs.Value.{isCharacter, allOf, isText, packedIn, packed}
+use Rattle.lingua.specs.Value.{isCharacter, allOf, isText, packedIn}
 use Rattle.laws.specs.Outcomes.{and-left, and-right, and-both}
 
 -- ---- characters

@@ -1,1 +1,6 @@
 pub mod Decoding
+pub mod Signs
+pub mod Packing
+pub mod ConstantCells
+pub mod TypePlaces
+pub mod TypeRows

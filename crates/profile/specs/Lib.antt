@@ -1,1 +1,6 @@
 pub mod Row
+pub mod Accepted
+pub mod Constants
+pub mod Unrolled
+pub mod Facts
+pub mod Types

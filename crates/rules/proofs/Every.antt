@@ -6,6 +6,7 @@ use Prim.Native.Nat.{ℕ, zero, suc, _+_, _≤_, _<_}
 use native.Mathlib.Nat.{not-suc-le-zero, le-of-suc-le-suc, eq-or-lt-of-le}
 use native.Mathlib.Numerals.{add-one}
 use native.Mathlib.Omega.{arith}
+use borrow.Author.Tests.{not-false}
 use Rattle.lingua.specs.Format.{everyBelow}
 
 module _ (p : ℕ → Bool) where
@@ -53,6 +54,16 @@ module _ (a b : Bool) where
   pub both-right : a ≡ true → (a && b) ≡ b
   both-right e = rw e
 
+module _ (a b c : Bool) where
+  pub third-1 : a ≡ false → true ≡ not (a && b && c)
+  third-1 p = rw p
+
+  pub third-2 : a ≡ true → b ≡ false → true ≡ not (a && b && c)
+  third-2 p q = rw (p, q)
+
+  pub third-3 : a ≡ true → b ≡ true → not c ≡ not (a && b && c)
+  third-3 p q = rw (p, q)
+
 module _ (a b c d : Bool) where
   pub fourth-1 : a ≡ false → true ≡ not (a && b && c && d)
   fourth-1 p = rw p
@@ -65,3 +76,18 @@ module _ (a b c d : Bool) where
 
   pub fourth-4 : a ≡ true → b ≡ true → c ≡ true → not d ≡ not (a && b && c && d)
   fourth-4 p q r = rw (p, q, r)
+
+pub and-left : (a b : Bool) → (a && b) ≡ true → a ≡ true
+and-left true b e = refl
+and-left false b e = e
+
+pub and-right : (a b : Bool) → (a && b) ≡ true → b ≡ true
+and-right true b e = e
+and-right false b e = absurd (not-both false e refl)
+
+pub first-true : (a b c d : Bool) → not (a && b && c && d) ≡ false → a ≡ true
+first-true true b c d e = refl
+first-true false b c d e = sym e
+
+pub last-true : (a b c d : Bool) → not (a && b && c && d) ≡ false → d ≡ true
+last-true a b c d e = and-right (a && b && c) d (not-false (a && b && c && d) e)

@@ -89,3 +89,8 @@ new-from rows s t d h = rw (h .start)
 pub names-from : (f : File) (rows : List ℕ) (t : Table) → IsTable rows (namedSection f) t → nameWrong f rows ≡ not (everyBelow (t .count / 2) (λ d. isName (bytesAt rows (t .start + 2 * d)) && isNew rows (t .section) d))
 unfolding nameWrong pairCount nameAt nameRow rowIn
 names-from f rows t h = rw (h .start, h .count, h .section)
+
+-- ---- a row of a section
+pub row-at : (rows : List ℕ) (s : ℕ) (t : Table) (r : ℕ) → IsTable rows s t → rowIn rows s r ≡ t .start + r
+unfolding rowIn
+row-at rows s t r h = rw (h .start)

@@ -2,3 +2,9 @@ pub mod Counting
 pub mod Every
 pub mod Runs
 pub mod Forms
+pub mod Choices
+pub mod Short
+pub mod Constant
+pub mod Refers
+pub mod Usage
+pub mod Reading

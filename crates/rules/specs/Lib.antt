@@ -1,2 +1,5 @@
 pub mod Tables
 pub mod Form
+pub mod Picks
+pub mod Uses
+pub mod Reads

@@ -5,7 +5,7 @@ ghost use Prim.Native.Nat.{_+_, _*_, _≤_, _<_};
 ghost use lib.ListN.{length, drop};
 ghost use Rattle.lingua.specs.Format.{allZero};
 ghost use Rattle.lingua.specs.Rules.{between, paddedBy};
-ghost use Rattle.lingua.specs.Rows.{word16, sectionAt, kindAt, aAt, bAt, cAt, bytesAt};
+ghost use Rattle.lingua.specs.Rows.{word16, word32, sectionAt, kindAt, aAt, bAt, cAt, wideAt, bytesAt};
 
 // A 16-bit number, low byte first.
 fn word16_at(bytes: &[u8], at: usize) -> usize
@@ -95,4 +95,24 @@ pub fn padded(bytes: &[u8], low: u8, high: u8) -> bool
         i += 1;
     }
     true
+}
+
+// A 32-bit number, low byte first.
+fn word32_at(bytes: &[u8], at: usize) -> usize
+    requires { ⌜ at + 4 ≤ length (now bytes) ⌝ }
+    ensures { λ r. ⌜ (r ≡ word32 (now (bytes .entry)) at) × (r < 4294967296) ⌝ }
+{
+    let low = word16_at(bytes, at);
+    let high = word16_at(bytes, at + 2);
+    low + 65536 * high
+}
+
+// The eight bytes as one number without sign.
+pub fn wide_at(rows: &[u8], i: usize) -> usize
+    requires { ⌜ 10 * i + 10 ≤ length (now rows) ⌝ }
+    ensures { λ r. ⌜ r ≡ wideAt (now (rows .entry)) i ⌝ }
+{
+    let low = word32_at(rows, ROW_BYTES * i + 2);
+    let high = word32_at(rows, ROW_BYTES * i + 6);
+    low + 4294967296 * high
 }

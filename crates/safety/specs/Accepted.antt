@@ -1,39 +1,37 @@
 -- What acceptance shows of a profile: no rule applies to its rows, so its constants fit, its yokes read no variable, its declared bodies
 -- are those of its type rows, and its program is the tree of an instruction row. So the invariant of runs holds of every accepted pair
 -- of files: `accepted-invariant`. Assumes nothing.
-use mathlib.Core.Path.{_≡_, refl, sym, ap, _∙_, subst}
+use mathlib.Core.Path.{_≡_, refl, subst}
 use mathlib.Core.Logic.{_≢_}
 use mathlib.Core.Bool.{Bool, true, false, not, _&&_}
 use mathlib.Core.List.{List, [], _∷_, _++_}
-use mathlib.Core.Option.{Option, some, none}
+use mathlib.Core.Option.{some, none}
 use Prim.Native.Nat.{ℕ, zero, suc, _+_, _*_, _≤_, _<_, pred}
 use native.Mathlib.Omega.{arith}
 use lib.Dec.{eqb, ltb, leb}
-use lib.ListN.{length, getD, take, drop, length-take}
-use lib.IntN.{ℤ}
-use borrow.Author.Tests.{eqb-true, eqb-false, ltb-true, ltb-false, leb-true, le-leb, eq-eqb, not-false, not-true}
+use lib.ListN.{length, getD, drop, length-take}
+use borrow.Author.Tests.{eqb-true, eqb-false, ltb-true, leb-true, le-leb, not-false, not-true}
 use Rattle.lingua.specs.Numbers.{row-bytes, word-length, most-variables, most-types, most-expressions, most-instructions, declaration-section, type-section, expression-section, instruction-section, limit-section}
 use Rattle.lingua.specs.Errors.{no-error, last-error}
-use Rattle.lingua.specs.Outcome.{Outcome, ok, fail, Result, isOk, if_then_else_}
-use Rattle.lingua.specs.Body.{Body, boolean, number, word}
-use Rattle.lingua.specs.Value.{Value, truth, whole, text, fit-truth, fit-whole, fit-text, inRange, isCharacter, allOf, isText, Composite, composite}
-use Rattle.lingua.specs.Expression.{Expression, Yoke, always, yoke, Instruction, skip, assign, set-yoke, sequence, branch, loop, handle}
+use Rattle.lingua.specs.Outcome.{ok, fail, Result, isOk, if_then_else_}
+use Rattle.lingua.specs.Body.{Body, boolean, number, word, size}
+use Rattle.lingua.specs.Value.{truth, whole, text, fit-truth, fit-whole, fit-text, inRange, isCharacter, allOf, isText, Composite, composite}
+use Rattle.lingua.specs.Expression.{Instruction}
 use Rattle.lingua.specs.Store.{Reading, contents, variableAt}
-use Rattle.lingua.specs.Run.{Declaration, Profile, run, lastState}
+use Rattle.lingua.specs.Run.{run, lastState}
 use Rattle.lingua.specs.Typing.{joined}
-use Rattle.lingua.specs.Rows.{kindAt, aAt, bAt, cAt, wideAt, numberAt, bytesAt, untilZero, sectionAt, rowCount, rowIn, tableCount, pairCount, detailRow, typeRow, ExpressionRow, constant-row, constantKind, expressionKind, expressionRow, InstructionRow, skip-row, assign-row, set-yoke-row, sequence-row, branch-row, loop-row, handle-row, instructionRow, parts, evaluated, yokeRoot, yokeSet}
-use Rattle.lingua.specs.Trees.{tabulate, typeBody, expressionTree, yokeTree, instructionOf, instructionIn, instructionTree, lower, declaredBody, bodyOr, declarationAt, profileOf}
-use Rattle.lingua.specs.Format.{File, profile, limits, everyBelow, allZero, rowsOf}
-use Rattle.lingua.specs.Rules.{usedBytes, sectionBelongs, bytesFit, rowFits, ascending, paired, formWrong, between, countWrong, nameWrong, paddedBy, constantFits, attributesFit, expressionAttributes, typeAttributes, handledErrors, constantWrong}
-use Rattle.lingua.specs.References.{allBelow, declaredYoke, declarationRefers, expressionRefers, instructionRefers, instructionVariables, typeParts, referenceWrong, useWrong, yokeRoots, plainRoots, readsVariable, readsCurrent, placeWrong, typeWrong}
+use Rattle.lingua.specs.Rows.{kindAt, aAt, bAt, cAt, wideAt, numberAt, bytesAt, untilZero, sectionAt, rowCount, rowIn, tableCount, pairCount, detailRow, typeRow, ExpressionRow, constant-row, constantKind, expressionKind, expressionRow, InstructionRow, skip-row, assign-row, set-yoke-row, sequence-row, branch-row, loop-row, handle-row, operands, instructionRow, parts, evaluated, yokeRoot, yokeSet}
+use Rattle.lingua.specs.Trees.{tabulate, typeBody, expressionTree, yokeTree, instructionOf, instructionIn, instructionTree, declaredBody, bodyOr, declarationAt, profileOf}
+use Rattle.lingua.specs.Format.{profile, everyBelow, allZero, rowsOf}
+use Rattle.lingua.specs.Rules.{usedBytes, sectionBelongs, bytesFit, rowFits, ascending, paired, formWrong, between, countWrong, paddedBy, constantFits, attributesFit, expressionAttributes, typeAttributes, handledErrors, constantWrong}
+use Rattle.lingua.specs.References.{allBelow, declaredYoke, declarationRefers, expressionRefers, instructionRefers, instructionVariables, typeParts, referenceWrong, occurrences, expressionUses, instructionUses, useWrong, yokeRoots, plainRoots, readsVariable, readsCurrent, placeWrong, typeWrong}
 use Rattle.lingua.specs.Refusal.{Rule, rule, lower-of, lowest, fileRules, rowRules, wholeFileRules, pairRules}
 use Rattle.laws.specs.Outcomes.{false-is-true, and-left, and-right, and-both}
 use Rattle.safety.specs.Answers.{true-is-false}
-use Rattle.safety.specs.Every.{Every, every-none, every-more, every-left, every-right, every-implies, every-joined-part, every-tabulate, tabulated, all-true, below-true}
-use Rattle.safety.specs.Constants.{Fitting, ConstantsFit, Closed, ClosedYoke}
-use Rattle.safety.specs.Sections.{RowIn, row-in-section}
-use Rattle.safety.specs.Forest.{ConstantFits, tree-fits, tree-everywhere}
-use Rattle.safety.specs.Everywhere.{Everywhere}
+use Rattle.safety.specs.Every.{Every, every-more, every-left, every-right, every-implies, every-joined-part, every-tabulate, tabulated, all-true, below-true}
+use Rattle.safety.specs.Constants.{Fitting, ConstantsHave, constants-imply, ConstantsFit, ClosedYoke}
+use Rattle.safety.specs.Sections.{row-in-section}
+use Rattle.safety.specs.Forest.{ConstantHas, tree-has, tree-everywhere}
 use Rattle.safety.specs.Invariant.{WellMade, WellMadeProfile, FilledWell, run-invariant}
 
 -- ---- no rule applies
@@ -137,24 +135,29 @@ has-kind s k bytes p e q =
     let z = subst (λ (t : ℕ). bytesFit (getD (usedBytes t) 0 none) bytes ≡ true) p (subst (λ (j : ℕ). bytesFit (getD (usedBytes s) j none) bytes ≡ true) q e) in
     false-is-true z
 
+-- a constant fits its body, which takes one cell
+abbrev pub Plain : Composite → Type 0
+Plain c = Fitting c × (size (c .body) ≡ 1)
+
 constant-by : (rows : List ℕ) (i k : ℕ) (t u w : Bool) → eqb k 1 ≡ t → eqb k 2 ≡ u → eqb k 3 ≡ w → k ≢ 0 → k < 4
     → (if t then leb (wideAt rows i) 1 else (if u then inRange (numberAt rows i) else (if w then paddedBy isCharacter (bytesAt rows i) else true))) ≡ true
-    → Fitting (if t then composite boolean (truth (not (eqb (wideAt rows i) 0))) else (if u then composite number (whole (numberAt rows i)) else composite word (text (untilZero (bytesAt rows i)))))
-constant-by rows i k true u w a b c n l e = fit-truth
-constant-by rows i k false true w a b c n l e = fit-whole e
-constant-by rows i k false false true a b c n l e = fit-text (word-fits rows i e)
+    → Plain (if t then composite boolean (truth (not (eqb (wideAt rows i) 0))) else (if u then composite number (whole (numberAt rows i)) else composite word (text (untilZero (bytesAt rows i)))))
+unfolding size
+constant-by rows i k true u w a b c n l e = (fit-truth, refl)
+constant-by rows i k false true w a b c n l e = (fit-whole e, refl)
+constant-by rows i k false false true a b c n l e = (fit-text (word-fits rows i e), refl)
 constant-by rows i k false false false a b c n l e =
     let x : k ≢ 1 = eqb-false k 1 a in
     let y : k ≢ 2 = eqb-false k 2 b in
     let z : k ≢ 3 = eqb-false k 3 c in
     absurd (let q : ⊥ = omega arith in q)
 
-row-if : (t : Bool) (a b : ExpressionRow) → ConstantFits a → ConstantFits b → ConstantFits (if t then a else b)
+row-if : (t : Bool) (a b : ExpressionRow) → ConstantHas Plain a → ConstantHas Plain b → ConstantHas Plain (if t then a else b)
 row-if true a b p q = p
 row-if false a b p q = q
 
-other-kinds : (k a b c : ℕ) → ConstantFits (expressionKind k a b c)
-unfolding expressionKind ConstantFits
+other-kinds : (k a b c : ℕ) → ConstantHas Plain (expressionKind k a b c)
+unfolding expressionKind ConstantHas
 other-kinds k a b c =
     row-if (eqb k 4) _ _ tt (row-if (eqb k 5) _ _ tt (row-if (eqb k 6) _ _ tt (row-if (eqb k 7) _ _ tt (row-if (eqb k 8) _ _ tt
     (row-if (eqb k 9) _ _ tt (row-if (eqb k 10) _ _ tt (row-if (eqb k 11) _ _ tt (row-if (eqb k 12) _ _ tt (row-if (eqb k 13) _ _ tt
@@ -188,7 +191,7 @@ module _ (rows : List ℕ) (accepted : AcceptedRows rows) where
       and-left (constantFits rows (rowIn rows expression-section r)) (attributesFit (expressionAttributes (expressionRow rows r)))
       (below-true (tableCount rows expression-section) (λ j. constantFits rows (rowIn rows expression-section j) && attributesFit (expressionAttributes (expressionRow rows j))) (p .1) r l)
 
-  pub constant-row-fits : (r : ℕ) → r < tableCount rows expression-section → ConstantFits (expressionRow rows r)
+  pub constant-row-fits : (r : ℕ) → r < tableCount rows expression-section → ConstantHas Plain (expressionRow rows r)
   unfolding expressionRow
   constant-row-fits r l = go (ltb k 4) refl
     where
@@ -198,16 +201,20 @@ module _ (rows : List ℕ) (accepted : AcceptedRows rows) where
       k : ℕ
       k = kindAt rows i
 
-      go : (t : Bool) → ltb k 4 ≡ t → ConstantFits (if t then constant-row (constantKind k rows i) else expressionKind k (aAt rows i) (bAt rows i) (cAt rows i))
-      go true e = unfold ConstantFits constantKind constantFits in constant-by rows i k (eqb k 1) (eqb k 2) (eqb k 3) refl refl refl (expression-kind r l) (ltb-true k 4 e) (constant-holds r l)
+      go : (t : Bool) → ltb k 4 ≡ t → ConstantHas Plain (if t then constant-row (constantKind k rows i) else expressionKind k (aAt rows i) (bAt rows i) (cAt rows i))
+      go true e = unfold ConstantHas constantKind constantFits in constant-by rows i k (eqb k 1) (eqb k 2) (eqb k 3) refl refl refl (expression-kind r l) (ltb-true k 4 e) (constant-holds r l)
       go false e = other-kinds k (aAt rows i) (bAt rows i) (cAt rows i)
 
-  pub tree-constants : (r : ℕ) → r < tableCount rows expression-section → ConstantsFit (expressionTree rows r)
-  tree-constants r l = tree-fits rows (tableCount rows expression-section) constant-row-fits r l
+  pub tree-plain : (r : ℕ) → r < tableCount rows expression-section → ConstantsHave Plain (expressionTree rows r)
+  unfolding size
+  tree-plain r l = tree-has Plain (fit-truth, refl) rows (tableCount rows expression-section) constant-row-fits r l
+
+  tree-constants : (r : ℕ) → r < tableCount rows expression-section → ConstantsFit (expressionTree rows r)
+  tree-constants r l = constants-imply (λ c h. h .0) (expressionTree rows r) (tree-plain r l)
 
 -- ---- 10: what rows name
 module _ (rows : List ℕ) (accepted : AcceptedRows rows) where
-  references-hold : (everyBelow (pairCount rows declaration-section) (λ d. declarationRefers rows d) ≡ true) × (everyBelow (tableCount rows instruction-section) (λ r. instructionRefers rows r) ≡ true)
+  references-hold : (everyBelow (pairCount rows declaration-section) (λ d. declarationRefers rows d) ≡ true) × (everyBelow (tableCount rows expression-section) (λ r. expressionRefers rows r) ≡ true) × (everyBelow (tableCount rows instruction-section) (λ r. instructionRefers rows r) ≡ true)
   unfolding referenceWrong
   references-hold =
       let p = all-four
@@ -216,7 +223,7 @@ module _ (rows : List ℕ) (accepted : AcceptedRows rows) where
       (everyBelow (tableCount rows expression-section) (λ r. expressionRefers rows r))
       (everyBelow (tableCount rows instruction-section) (λ r. instructionRefers rows r))
       (accepted .references) in
-      (p .0, p .3)
+      (p .0, p .2, p .3)
 
   all-below : (n : ℕ) (rs : List ℕ) → allBelow n rs ≡ true → Every (λ r. r < n) rs
   all-below n rs e = every-implies (λ r q. ltb-true r n q) (all-true (λ r. ltb r n) rs e)
@@ -235,13 +242,40 @@ module _ (rows : List ℕ) (accepted : AcceptedRows rows) where
       (and-right (ltb (aAt rows (detailRow rows declaration-section d)) (tableCount rows type-section)) _
       (below-true (pairCount rows declaration-section) (λ k. declarationRefers rows k) (references-hold .0) d l))
 
+  -- operands are lower rows
+  pub operands-below : (r : ℕ) → r < tableCount rows expression-section → Every (λ a. a < r) (operands (expressionRow rows r))
+  unfolding expressionRefers
+  operands-below r l =
+      all-below r (operands (expressionRow rows r))
+      (and-left (allBelow r (operands (expressionRow rows r))) _
+      (below-true (tableCount rows expression-section) (λ k. expressionRefers rows k) (references-hold .1) r l))
+
+  -- and so are parts
+  pub parts-below : (r : ℕ) → r < tableCount rows instruction-section → Every (λ a. a < r) (parts (instructionRow rows r))
+  unfolding instructionRefers
+  parts-below r l =
+      let all = below-true (tableCount rows instruction-section) (λ k. instructionRefers rows k) (references-hold .2) r l in
+      let named = allBelow (pairCount rows declaration-section) (instructionVariables (instructionRow rows r)) in
+      all-below r (parts (instructionRow rows r))
+      (and-left (allBelow r (parts (instructionRow rows r))) named (and-left (allBelow r (parts (instructionRow rows r)) && named) _ all))
+
+  -- 11: each expression row is used once
+  pub used-once : (r : ℕ) → r < tableCount rows expression-section → occurrences r (expressionUses rows) ≡ 1
+  unfolding useWrong
+  used-once r l =
+      let p = all-two
+      (everyBelow (tableCount rows expression-section) (λ k. eqb (occurrences k (expressionUses rows)) 1))
+      (everyBelow (pred (tableCount rows instruction-section)) (λ k. eqb (occurrences k (instructionUses rows)) 1))
+      (accepted .uses) in
+      eqb-true (occurrences r (expressionUses rows)) 1 (below-true (tableCount rows expression-section) (λ k. eqb (occurrences k (expressionUses rows)) 1) (p .0) r l)
+
   pub instruction-roots : (r : ℕ) → r < tableCount rows instruction-section
       → Every (λ k. k < tableCount rows expression-section) (evaluated (instructionRow rows r) ++ yokeSet (instructionRow rows r))
   unfolding instructionRefers
   instruction-roots r l =
       all-below (tableCount rows expression-section) (evaluated (instructionRow rows r) ++ yokeSet (instructionRow rows r))
       (and-right (allBelow r (parts (instructionRow rows r)) && allBelow (pairCount rows declaration-section) (instructionVariables (instructionRow rows r))) _
-      (below-true (tableCount rows instruction-section) (λ k. instructionRefers rows k) (references-hold .1) r l))
+      (below-true (tableCount rows instruction-section) (λ k. instructionRefers rows k) (references-hold .2) r l))
 
   -- ---- 12: yokes read no variable
   yoke-roots : Every (λ r. not (readsVariable (expressionTree rows r)) ≡ true) (yokeRoots rows)
@@ -286,15 +320,22 @@ module _ (rows : List ℕ) (accepted : AcceptedRows rows) where
   tree-well-made r l = node-well-made r (instructionRow rows r) _ (instruction-roots r l) (set-reads-none r l)
 
   -- 7: there is a program
-  pub program-row : pred (tableCount rows instruction-section) < tableCount rows instruction-section
+  counts-hold : (1 ≤ tableCount rows instruction-section) × (tableCount rows expression-section ≤ most-expressions)
   unfolding countWrong
-  program-row =
+  counts-hold =
       let p = all-four
       (between 1 most-variables (pairCount rows declaration-section)) (between 1 most-types (tableCount rows type-section))
       (between 0 most-expressions (tableCount rows expression-section)) (between 1 most-instructions (tableCount rows instruction-section))
-      (accepted .counts) in
-      let l = leb-true 1 (tableCount rows instruction-section) (and-left (leb 1 (tableCount rows instruction-section)) _ (p .3)) in
-      omega (arith, l)
+      (accepted .counts) in (
+        leb-true 1 (tableCount rows instruction-section) (and-left (leb 1 (tableCount rows instruction-section)) _ (p .3)),
+        leb-true (tableCount rows expression-section) most-expressions (and-right (leb 0 (tableCount rows expression-section)) _ (p .2)),
+      )
+
+  pub program-row : pred (tableCount rows instruction-section) < tableCount rows instruction-section
+  program-row = omega (arith, counts-hold .0)
+
+  pub most-rows : tableCount rows expression-section ≤ most-expressions
+  most-rows = counts-hold .1
 
   pub profile-well-made : (lims : List ℕ) → WellMadeProfile (profileOf rows lims)
   unfolding profileOf declarationAt declaredYoke

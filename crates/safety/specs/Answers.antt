@@ -1,12 +1,12 @@
 -- What an answer shows of the steps that led to it, whatever their errors are: each step had an answer. Assumes nothing.
-use mathlib.Core.Path.{_≡_, refl, sym, ap, _∙_, subst}
+use mathlib.Core.Path.{_≡_, refl, sym, ap, subst}
 use mathlib.Core.Bool.{Bool, true, false, _||_}
 use mathlib.Core.List.{List, [], _∷_}
-use mathlib.Core.Option.{Option, some, none}
+use mathlib.Core.Option.{some, none}
 use Prim.Native.Nat.{ℕ}
 use native.Mathlib.Omega.{arith}
 use Rattle.lingua.specs.Outcome.{Outcome, ok, fail, Result, _>>=_, _>>_, require, allAnswers}
-use Rattle.lingua.specs.Typing.{TypeError, typeError, located}
+use Rattle.lingua.specs.Typing.{located}
 use Rattle.safety.specs.Every.{Every, every-none, every-more}
 
 module _ {E : Type 0} where
@@ -28,13 +28,21 @@ module _ {E : Type 0} where
   after (ok v) o b q = (refl, q)
   after (fail e) o b q = never-ok q
 
-pub all-answered : {E A : Type 0} (os : List (Outcome E A)) (xs : List A) → allAnswers os ≡ ok xs → Every (λ o. (a : A) × (o ≡ ok a)) os
+-- each outcome's answer, with what holds of all answers
+pub all-answered : {E A : Type 0} {P : A → Type 0} (os : List (Outcome E A)) (xs : List A) → allAnswers os ≡ ok xs → Every P xs → Every (λ o. (a : A) × (o ≡ ok a) × P a) os
 unfolding allAnswers
-all-answered [] xs q = every-none
-all-answered (o ∷ os) xs q =
+all-answered [] xs q h = every-none
+all-answered {A = A} {P} (o ∷ os) xs q h =
     let p = bound o _ xs q in
     let r = bound (allAnswers os) _ xs (p .2) in
-    every-more (p .0, p .1) (all-answered os (r .0) (r .1))
+    let k = subst (Every P) (sym (same-answer (r .2))) h in
+    every-more (p .0, p .1, first k) (all-answered os (r .0) (r .1) (others k))
+  where
+    first : {x : A} {ys : List A} → Every P (x ∷ ys) → P x
+    first (every-more a b) = a
+
+    others : {x : A} {ys : List A} → Every P (x ∷ ys) → Every P ys
+    others (every-more a b) = b
 
 pub located-answer : {A : Type 0} (p : ℕ) (o : Result A) (a : A) → located p o ≡ ok a → o ≡ ok a
 located-answer p (ok b) a q = ap {B = Result _} ok (same-answer q)

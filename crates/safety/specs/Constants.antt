@@ -1,11 +1,10 @@
 -- Expressions whose constants fit their bodies, and expressions that read no variable: those give the same in every store.
 -- Assumes nothing.
 use mathlib.Core.Path.{_≡_, refl}
-use mathlib.Core.Bool.{Bool, true, false, _||_, Bool·beq}
-use mathlib.Core.List.{List, map}
-use Prim.Native.Nat.{ℕ}
+use mathlib.Core.Bool.{false, _||_, Bool·beq}
+use mathlib.Core.List.{map}
 use Rattle.lingua.specs.Errors.{boolean-expected}
-use Rattle.lingua.specs.Outcome.{Outcome, ok, fail, Result, _>>=_, if_then_else_}
+use Rattle.lingua.specs.Outcome.{ok, _>>=_, if_then_else_}
 use Rattle.lingua.specs.Value.{Fits, Composite}
 use Rattle.lingua.specs.Expression.{settledBy, Expression, constant, variable, current, unary, binary, lazy, choice, all-list, Yoke, always, yoke}
 use Rattle.lingua.specs.Evaluation.{Variables, applyUnary, applyBinary, truthOr, booleanOf, allTrue, elementsOf, eval, evalYoke}
@@ -16,15 +15,30 @@ use Rattle.safety.specs.Answers.{or-left, or-right, true-is-false}
 abbrev pub Fitting : Composite → Type 0
 Fitting x = Fits (x .value) (x .body)
 
-unfoldable pub ConstantsFit : Expression → Type 0
-ConstantsFit (constant r c) = Fitting c
-ConstantsFit (variable r n) = Unit {0}
-ConstantsFit (current r) = Unit {0}
-ConstantsFit (unary r o e) = ConstantsFit e
-ConstantsFit (binary r o e f) = ConstantsFit e × ConstantsFit f
-ConstantsFit (lazy r k e f) = ConstantsFit e × ConstantsFit f
-ConstantsFit (choice r p e f) = ConstantsFit p × ConstantsFit e × ConstantsFit f
-ConstantsFit (all-list r e) = ConstantsFit e
+-- every constant of an expression has the property
+unfoldable pub ConstantsHave : (Composite → Type 0) → Expression → Type 0
+ConstantsHave P (constant r c) = P c
+ConstantsHave P (variable r n) = Unit {0}
+ConstantsHave P (current r) = Unit {0}
+ConstantsHave P (unary r o e) = ConstantsHave P e
+ConstantsHave P (binary r o e f) = ConstantsHave P e × ConstantsHave P f
+ConstantsHave P (lazy r k e f) = ConstantsHave P e × ConstantsHave P f
+ConstantsHave P (choice r p e f) = ConstantsHave P p × ConstantsHave P e × ConstantsHave P f
+ConstantsHave P (all-list r e) = ConstantsHave P e
+
+pub constants-imply : {P Q : Composite → Type 0} → ((c : Composite) → P c → Q c) → (e : Expression) → ConstantsHave P e → ConstantsHave Q e
+unfolding ConstantsHave
+constants-imply f (constant r c) h = f c h
+constants-imply f (variable r n) h = tt
+constants-imply f (current r) h = tt
+constants-imply f (unary r o e) h = constants-imply f e h
+constants-imply f (binary r o e g) h = (constants-imply f e (h .0), constants-imply f g (h .1))
+constants-imply f (lazy r k e g) h = (constants-imply f e (h .0), constants-imply f g (h .1))
+constants-imply f (choice r p e g) h = (constants-imply f p (h .0), constants-imply f e (h .1), constants-imply f g (h .2))
+constants-imply f (all-list r e) h = constants-imply f e h
+
+abbrev pub ConstantsFit : Expression → Type 0
+ConstantsFit e = ConstantsHave Fitting e
 
 -- what an accepted profile's yokes are: their constants fit, and they read no variable
 pub record Closed (e : Expression) : Type 0 where

@@ -1,9 +1,9 @@
 -- Lists all of whose elements have a property: of parts joined, mapped, tabulated, and of tests that hold everywhere. Assumes nothing.
-use mathlib.Core.Path.{_≡_, refl, sym, ap, _∙_, subst}
+use mathlib.Core.Path.{_≡_, refl, sym, subst}
 use mathlib.Core.Logic.{_≢_}
-use mathlib.Core.Bool.{Bool, true, false, _&&_}
+use mathlib.Core.Bool.{Bool, true, false}
 use mathlib.Core.List.{List, [], _∷_, _++_, map, List·Memᴰ, List·Memᴰ·head, List·Memᴰ·tail}
-use Prim.Native.Nat.{ℕ, zero, suc, _+_, _≤_, _<_}
+use Prim.Native.Nat.{ℕ, zero, suc, _+_, _<_}
 use native.Mathlib.Omega.{arith}
 use lib.Dec.{eqb}
 use borrow.Author.Tests.{eqb-true, eqb-false}
@@ -52,6 +52,11 @@ every-unmap f (x ∷ xs) (every-more h p) = every-more h (every-unmap f xs p)
 pub every-implies : {A : Type 0} {P Q : A → Type 0} → ((x : A) → P x → Q x) → {xs : List A} → Every P xs → Every Q xs
 every-implies h every-none = every-none
 every-implies h (every-more {x} p ps) = every-more (h x p) (every-implies h ps)
+
+-- every element is among the elements
+pub every-member : {A : Type 0} (xs : List A) → Every (λ x. List·Memᴰ x xs) xs
+every-member [] = every-none
+every-member (x ∷ xs) = every-more (List·Memᴰ·head refl) (every-implies (λ y m. List·Memᴰ·tail m) (every-member xs))
 
 -- all the parts' elements
 pub every-joined : {A : Type 0} {P : A → Type 0} {xss : List (List A)} → Every (λ xs. Every P xs) xss → Every P (joined xss)

@@ -21,6 +21,16 @@ module _ {Q R : Instruction → Type 0} (f : (i : Instruction) → Q i → R i) 
   everywhere-implies (at-loop {r} {e} {i} q a) = at-loop (f (loop r e i) q) (everywhere-implies a)
   everywhere-implies (at-handle {r} {n} {i} q a) = at-handle (f (handle r n i) q) (everywhere-implies a)
 
+-- a property of all instructions
+pub everywhere-all : {Q : Instruction → Type 0} → ((i : Instruction) → Q i) → (i : Instruction) → Everywhere Q i
+everywhere-all f (skip r) = at-skip (f (skip r))
+everywhere-all f (assign r n e) = at-assign (f (assign r n e))
+everywhere-all f (set-yoke r n y) = at-set-yoke (f (set-yoke r n y))
+everywhere-all f (sequence r i j) = at-sequence (f (sequence r i j)) (everywhere-all f i) (everywhere-all f j)
+everywhere-all f (branch r e i j) = at-branch (f (branch r e i j)) (everywhere-all f i) (everywhere-all f j)
+everywhere-all f (loop r e i) = at-loop (f (loop r e i)) (everywhere-all f i)
+everywhere-all f (handle r n i) = at-handle (f (handle r n i)) (everywhere-all f i)
+
 -- two properties at once
 pub everywhere-both : {Q R : Instruction → Type 0} (i : Instruction) → Everywhere Q i → Everywhere R i → Everywhere (λ k. Q k × R k) i
 everywhere-both (skip r) (at-skip q) (at-skip s) = at-skip (q, s)

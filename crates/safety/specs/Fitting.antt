@@ -1,13 +1,13 @@
 -- Evaluation gives values that fit their bodies, with no assumption on types: `eval-fits`. Assumes nothing.
-use mathlib.Core.Path.{_≡_, refl, sym, ap, _∙_, subst}
+use mathlib.Core.Path.{_≡_, ap, _∙_, subst}
 use mathlib.Core.Bool.{Bool, true, false, Bool·beq}
 use mathlib.Core.List.{List, map}
-use mathlib.Core.Option.{Option, some, none}
+use mathlib.Core.Option.{some}
 use Prim.Native.Nat.{ℕ}
 use Rattle.lingua.specs.Errors.{boolean-expected, yoke-expected, not-filled}
-use Rattle.lingua.specs.Outcome.{Outcome, ok, fail, Result, _>>=_, if_then_else_, allAnswers}
+use Rattle.lingua.specs.Outcome.{ok, Result, _>>=_, if_then_else_, allAnswers}
 use Rattle.lingua.specs.Body.{Body, boolean, isBoolean}
-use Rattle.lingua.specs.Value.{Value, truth, Fits, fit-truth, asTruth, allOf, Composite, composite}
+use Rattle.lingua.specs.Value.{Value, Fits, fit-truth, asTruth, allOf, Composite, composite}
 use Rattle.lingua.specs.Operation.{Unary, Binary, unaryBody, binaryBody}
 use Rattle.lingua.specs.Compute.{unaryValue, binaryValue}
 use Rattle.lingua.specs.Expression.{settledBy, Expression, constant, variable, current, unary, binary, lazy, choice, all-list, Yoke, always, yoke}
@@ -15,7 +15,7 @@ use Rattle.lingua.specs.Evaluation.{Variables, applyUnary, applyBinary, truthOr
 use Rattle.laws.specs.Outcomes.{orFail-ok, is-boolean}
 use Rattle.laws.specs.Sound.{unary-sound, binary-sound}
 use Rattle.safety.specs.Answers.{same-answer, bound, demanded}
-use Rattle.safety.specs.Constants.{Fitting, ConstantsFit, ClosedYoke}
+use Rattle.safety.specs.Constants.{Fitting, ConstantsHave, ConstantsFit, ClosedYoke}
 
 -- every filled variable fits
 unfoldable pub FilledFit : Variables → Type 0
@@ -54,7 +54,7 @@ all-fits rs x e =
     as-answer (q .1) fit-truth
 
 pub eval-fits : (e : Expression) → ConstantsFit e → (vars : Variables) → FilledFit vars → (cur : Composite) → Fitting cur → (x : Composite) → eval e vars cur ≡ ok x → Fitting x
-unfolding eval ConstantsFit FilledFit
+unfolding eval ConstantsHave FilledFit
 eval-fits (constant r c) h vars fit cur k x q = as-answer q h
 eval-fits (variable r n) h vars fit cur k x q = fit n x (orFail-ok (vars n) not-filled x q)
 eval-fits (current r) h vars fit cur k x q = as-answer q k

@@ -1,17 +1,20 @@
--- The trees of rows: a property of each row's own node holds at every node of a row's tree, and a tree's constants are its rows'.
+-- The trees of rows: a property of each row's own node holds at every node of a row's tree, a tree's constants are its rows', and where a
+-- row names lower rows, its tree is made of theirs (`expression-of-row`, `instruction-of-row`).
 -- Assumes nothing.
-use mathlib.Core.Path.{_≡_, refl, sym, ap, _∙_, subst, fun-ext}
+use mathlib.Core.Path.{_≡_, refl, ap, ap₂, _∙_, subst, fun-ext}
 use mathlib.Core.Bool.{Bool, true, false}
 use mathlib.Core.List.{List}
-use Prim.Native.Nat.{ℕ, zero, suc, _≤_, _<_}
+use Prim.Native.Nat.{ℕ, zero, suc, _<_}
 use native.Mathlib.Omega.{arith}
 use lib.Dec.{ltb}
-use borrow.Author.Tests.{ltb-true}
-use Rattle.lingua.specs.Value.{fit-truth, Composite}
-use Rattle.lingua.specs.Expression.{Expression, Instruction, skip, assign, set-yoke, sequence, branch, loop, handle}
-use Rattle.lingua.specs.Rows.{ExpressionRow, constant-row, variable-row, current-row, unary-row, binary-row, lazy-row, choice-row, all-list-row, expressionRow, InstructionRow, skip-row, assign-row, set-yoke-row, sequence-row, branch-row, loop-row, handle-row, instructionRow}
-use Rattle.lingua.specs.Trees.{below, lower, no-expression, expressionOf, expressionIn, expressionTree, yokeTree, instructionOf, instructionIn, instructionTree}
-use Rattle.safety.specs.Constants.{Fitting, ConstantsFit}
+use borrow.Author.Tests.{ltb-true, lt-ltb}
+use Rattle.lingua.specs.Value.{Composite}
+use Rattle.lingua.specs.Evaluation.{no-current}
+use Rattle.lingua.specs.Expression.{Expression, unary, binary, lazy, choice, all-list, Instruction, skip, sequence, branch, loop, handle}
+use Rattle.lingua.specs.Rows.{ExpressionRow, constant-row, variable-row, current-row, unary-row, binary-row, lazy-row, choice-row, all-list-row, expressionRow, operands, InstructionRow, skip-row, assign-row, set-yoke-row, sequence-row, branch-row, loop-row, handle-row, instructionRow, parts}
+use Rattle.lingua.specs.Trees.{below, lower, no-expression, expressionOf, expressionIn, expressionTree, instructionOf, instructionIn, instructionTree}
+use Rattle.safety.specs.Every.{Every, every-none, every-more, every-implies}
+use Rattle.safety.specs.Constants.{ConstantsHave}
 use Rattle.safety.specs.Everywhere.{Everywhere, at-skip, at-assign, at-set-yoke, at-sequence, at-branch, at-loop, at-handle}
 
 -- a property of what lower rows give, and of what stands for other rows
@@ -31,38 +34,44 @@ lower-same r f g other h = fun-ext (λ a. go a (ltb a r) refl)
 
 -- ---- expressions
 -- a constant's row
-unfoldable pub ConstantFits : ExpressionRow → Type 0
-ConstantFits (constant-row c) = Fitting c
-ConstantFits (variable-row n) = Unit {0}
-ConstantFits current-row = Unit {0}
-ConstantFits (unary-row o a) = Unit {0}
-ConstantFits (binary-row o a b) = Unit {0}
-ConstantFits (lazy-row k a b) = Unit {0}
-ConstantFits (choice-row a b c) = Unit {0}
-ConstantFits (all-list-row a) = Unit {0}
+unfoldable pub ConstantHas : (Composite → Type 0) → ExpressionRow → Type 0
+ConstantHas P (constant-row c) = P c
+ConstantHas P (variable-row n) = Unit {0}
+ConstantHas P current-row = Unit {0}
+ConstantHas P (unary-row o a) = Unit {0}
+ConstantHas P (binary-row o a b) = Unit {0}
+ConstantHas P (lazy-row k a b) = Unit {0}
+ConstantHas P (choice-row a b c) = Unit {0}
+ConstantHas P (all-list-row a) = Unit {0}
 
-node-fits : (r : ℕ) (row : ExpressionRow) (look : ℕ → Expression) → ConstantFits row → ((a : ℕ) → ConstantsFit (look a)) → ConstantsFit (expressionOf r row look)
-unfolding expressionOf ConstantFits ConstantsFit
-node-fits r (constant-row c) look h k = h
-node-fits r (variable-row n) look h k = tt
-node-fits r current-row look h k = tt
-node-fits r (unary-row o a) look h k = k a
-node-fits r (binary-row o a b) look h k = (k a, k b)
-node-fits r (lazy-row c a b) look h k = (k a, k b)
-node-fits r (choice-row a b c) look h k = (k a, k b, k c)
-node-fits r (all-list-row a) look h k = k a
+module _ (P : Composite → Type 0) where
+  node-has : (r : ℕ) (row : ExpressionRow) (look : ℕ → Expression) → ConstantHas P row → ((a : ℕ) → ConstantsHave P (look a)) → ConstantsHave P (expressionOf r row look)
+  unfolding expressionOf ConstantHas ConstantsHave
+  node-has r (constant-row c) look h k = h
+  node-has r (variable-row n) look h k = tt
+  node-has r current-row look h k = tt
+  node-has r (unary-row o a) look h k = k a
+  node-has r (binary-row o a b) look h k = (k a, k b)
+  node-has r (lazy-row c a b) look h k = (k a, k b)
+  node-has r (choice-row a b c) look h k = (k a, k b, k c)
+  node-has r (all-list-row a) look h k = k a
 
-module _ (rows : List ℕ) (count : ℕ) (fit : (r : ℕ) → r < count → ConstantFits (expressionRow rows r)) where
-  in-fits : (n r : ℕ) → r < count → ConstantsFit (expressionIn n rows r)
+  none-has : P no-current → (r : ℕ) → ConstantsHave P (no-expression r)
+  unfolding ConstantsHave
+  none-has h r = h
+
+module _ (P : Composite → Type 0) (none : P no-current) (rows : List ℕ) (count : ℕ) (each : (r : ℕ) → r < count → ConstantHas P (expressionRow rows r)) where
+  in-has : (n r : ℕ) → r < count → ConstantsHave P (expressionIn n rows r)
   unfolding expressionIn
-  in-fits zero r l = unfold ConstantsFit in fit-truth
-  in-fits (suc n) r l =
-      node-fits r (expressionRow rows r) _ (fit r l)
-      (lower-has ConstantsFit r (λ a. expressionIn n rows a) (no-expression r) (λ a q. in-fits n a (omega arith)) (unfold ConstantsFit in fit-truth))
+  in-has zero r l = none-has P none r
+  in-has (suc n) r l =
+      node-has P r (expressionRow rows r) _ (each r l)
+      (lower-has (ConstantsHave P) r (λ a. expressionIn n rows a) (no-expression r) (λ a q. in-has n a (omega arith)) (none-has P none r))
 
-  pub tree-fits : (r : ℕ) → r < count → ConstantsFit (expressionTree rows r)
+  -- what holds of each row's constant holds of all constants of a row's tree
+  pub tree-has : (r : ℕ) → r < count → ConstantsHave P (expressionTree rows r)
   unfolding expressionTree
-  tree-fits r l = in-fits (suc r) r l
+  tree-has r l = in-has (suc r) r l
 
 -- ---- instructions
 -- a bound above the row does not matter
@@ -98,3 +107,48 @@ module _ (Q : Instruction → Type 0) (skips : (r : ℕ) → Q (skip r)) (rows :
   pub tree-everywhere : (r : ℕ) → r < count → Everywhere Q (instructionTree rows r)
   unfolding instructionTree
   tree-everywhere r l = in-everywhere (suc r) r (omega arith) l
+
+-- ---- a row's tree over the trees of the rows that it names
+operand-trees : (r : ℕ) (row : ExpressionRow) (look find : ℕ → Expression) → Every (λ a. look a ≡ find a) (operands row) → expressionOf r row look ≡ expressionOf r row find
+unfolding expressionOf operands
+operand-trees r (constant-row c) look find h = refl
+operand-trees r (variable-row n) look find h = refl
+operand-trees r current-row look find h = refl
+operand-trees r (unary-row o a) look find (every-more p every-none) = ap (λ (e : Expression). unary r o e) p
+operand-trees r (binary-row o a b) look find (every-more p (every-more q every-none)) = ap₂ (λ (e f : Expression). binary r o e f) p q
+operand-trees r (lazy-row k a b) look find (every-more p (every-more q every-none)) = ap₂ (λ (e f : Expression). lazy r k e f) p q
+operand-trees r (choice-row a b c) look find (every-more p (every-more q (every-more s every-none))) = λ i. choice r (p i) (q i) (s i)
+operand-trees r (all-list-row a) look find (every-more p every-none) = ap (λ (e : Expression). all-list r e) p
+
+part-trees : (rows : List ℕ) (r : ℕ) (row : InstructionRow) (look find : ℕ → Instruction) → Every (λ a. look a ≡ find a) (parts row) → instructionOf rows r row look ≡ instructionOf rows r row find
+unfolding instructionOf parts
+part-trees rows r skip-row look find h = refl
+part-trees rows r (assign-row n e) look find h = refl
+part-trees rows r (set-yoke-row n y) look find h = refl
+part-trees rows r (sequence-row i j) look find (every-more p (every-more q every-none)) = ap₂ (λ (a b : Instruction). sequence r a b) p q
+part-trees rows r (branch-row e i j) look find (every-more p (every-more q every-none)) = ap₂ (λ (a b : Instruction). branch r (expressionTree rows e) a b) p q
+part-trees rows r (loop-row e i) look find (every-more p every-none) = ap (λ (a : Instruction). loop r (expressionTree rows e) a) p
+part-trees rows r (handle-row n i) look find (every-more p every-none) = ap (λ (a : Instruction). handle r n a) p
+
+pub lower-at : {A : Type 0} (r : ℕ) (f : ℕ → A) (other : A) (a : ℕ) → a < r → lower r f other a ≡ f a
+lower-at r f other a l = ap (λ (t : Bool). below t f other a) (lt-ltb a r l)
+
+same-expression : (rows : List ℕ) (n m r : ℕ) → r < n → r < m → expressionIn n rows r ≡ expressionIn m rows r
+unfolding expressionIn
+same-expression rows zero m r p q = absurd (let k : ⊥ = omega arith in k)
+same-expression rows (suc n) zero r p q = absurd (let k : ⊥ = omega arith in k)
+same-expression rows (suc n) (suc m) r p q =
+    ap (expressionOf r (expressionRow rows r))
+    (lower-same r (λ a. expressionIn n rows a) (λ a. expressionIn m rows a) (no-expression r) (λ a l. same-expression rows n m a (omega arith) (omega arith)))
+
+pub expression-of-row : (rows : List ℕ) (r : ℕ) → Every (λ a. a < r) (operands (expressionRow rows r)) → expressionTree rows r ≡ expressionOf r (expressionRow rows r) (λ a. expressionTree rows a)
+unfolding expressionTree expressionIn
+expression-of-row rows r h =
+    operand-trees r (expressionRow rows r) _ (λ a. expressionTree rows a)
+    (every-implies (λ a (l : a < r). lower-at r (λ b. expressionIn r rows b) (no-expression r) a l ∙ same-expression rows r (suc a) a l (omega arith)) h)
+
+pub instruction-of-row : (rows : List ℕ) (r : ℕ) → Every (λ a. a < r) (parts (instructionRow rows r)) → instructionTree rows r ≡ instructionOf rows r (instructionRow rows r) (λ a. instructionTree rows a)
+unfolding instructionTree instructionIn
+instruction-of-row rows r h =
+    part-trees rows r (instructionRow rows r) _ (λ a. instructionTree rows a)
+    (every-implies (λ a (l : a < r). lower-at r (λ b. instructionIn r rows b) (skip r) a l ∙ same-in rows r (suc a) a l (omega arith)) h)

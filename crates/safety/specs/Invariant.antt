@@ -1,25 +1,23 @@
 -- The invariant of runs: at the end of every run at every budget, each filled variable fits its declared body, satisfies its current
 -- yoke and lies within its limit (`run-invariant`), whether or not the type check passes the profile. It is asked of the profile that
 -- constants fit and that yokes read no variable. Assumes nothing.
-use mathlib.Core.Path.{_≡_, refl, sym, ap, _∙_, subst}
+use mathlib.Core.Path.{_≡_, refl, sym, _∙_, subst}
 use mathlib.Core.Bool.{true}
 use mathlib.Core.List.{List, [], _∷_, map}
 use mathlib.Core.Option.{Option, some, none}
 use Prim.Native.Nat.{ℕ, zero, suc}
-use lib.ListN.{getD}
-use Rattle.lingua.specs.Outcome.{ok, _>>=_}
-use Rattle.lingua.specs.Body.{Body, boolean}
+use Rattle.lingua.specs.Outcome.{ok}
 use Rattle.lingua.specs.Value.{fit-truth, Fits, asWhole, Composite}
-use Rattle.lingua.specs.Expression.{Expression, Yoke, always, Instruction, skip, assign, set-yoke, sequence, branch, loop, handle}
+use Rattle.lingua.specs.Expression.{Instruction, skip, assign, set-yoke, sequence, branch, loop, handle}
 use Rattle.lingua.specs.Evaluation.{Variables, eval, evalYoke, booleanOf, no-current}
-use Rattle.lingua.specs.Store.{Limit, Variable, no-variable, variableAt, contents, within, assigned, Reading}
-use Rattle.lingua.specs.Run.{State, Progress, Declaration, Profile, unfilled, started, takeReadings, run, lastState}
+use Rattle.lingua.specs.Store.{Limit, Variable, no-variable, variableAt, contents, within, Reading}
+use Rattle.lingua.specs.Run.{State, Declaration, Profile, unfilled, started, takeReadings, run, lastState}
 use Rattle.lingua.specs.Typing.{bodiesOf}
 use Rattle.safety.specs.Answers.{bound, none-is-some}
 use Rattle.safety.specs.Every.{Every, every-none, every-more, every-all}
-use Rattle.safety.specs.Constants.{Fitting, ConstantsFit, ClosedYoke}
+use Rattle.safety.specs.Constants.{ConstantsFit, ClosedYoke}
 use Rattle.safety.specs.Fitting.{eval-fits}
-use Rattle.safety.specs.Stored.{Settled, Kept, StoreKept, kept-fit, assigned-kept, changed-kept, reading-kept}
+use Rattle.safety.specs.Stored.{Kept, StoreKept, kept-fit, assigned-kept, changed-kept, reading-kept}
 use Rattle.safety.specs.Everywhere.{Everywhere, everywhere-implies}
 use Rattle.safety.specs.Runs.{Stable, Keeps, KeepsReading, exec-keeps, readings-keep}
 

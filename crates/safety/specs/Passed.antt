@@ -2,64 +2,85 @@
 -- variables and at every budget (`accepted-safe`). So each call that is not refused runs without type errors: `checked-call-safe`,
 -- `erased-call-safe`. Assumes nothing.
 use mathlib.Core.Path.{_≡_, refl, sym, ap, _∙_, subst}
-use mathlib.Core.Bool.{Bool, true, false, not, _&&_, _||_}
-use mathlib.Core.List.{List, [], _∷_, _++_, map}
+use mathlib.Core.Bool.{true, false, not}
+use mathlib.Core.List.{List, [], _∷_, map}
 use Prim.Native.Nat.{ℕ, zero, suc, _+_, _<_, pred}
 use native.Mathlib.Omega.{arith}
-use lib.Dec.{eqb, ltb}
+use lib.Dec.{ltb}
 use lib.ListN.{length, getD}
 use lib.IntN.{ℤ}
 use borrow.Author.Tests.{ltb-true, not-false}
-use Rattle.lingua.specs.Numbers.{declaration-section, instruction-section, declaration-place, cells-length, states-length, layout-length, most-readings}
+use Rattle.lingua.specs.Numbers.{declaration-section, instruction-section, declaration-place, most-readings}
 use Rattle.lingua.specs.Outcome.{Outcome, ok, fail, Result, isOk, allAnswers}
-use Rattle.lingua.specs.Body.{Body, boolean, number, isNumber}
+use Rattle.lingua.specs.Body.{Body, boolean, number}
 use Rattle.lingua.specs.Value.{allOf}
 use Rattle.lingua.specs.Expression.{Instruction, skip}
 use Rattle.lingua.specs.Store.{variableAt, Reading}
 use Rattle.lingua.specs.Run.{Declaration, Profile, unfilled}
-use Rattle.lingua.specs.Typing.{TypeError, Entry, Bodies, checkYoke, checkInstruction, checkDeclarations, bodiesOf, joined, checkProfile}
+use Rattle.lingua.specs.Typing.{TypeError, Entry, Bodies, checkInstruction, checkDeclarations, bodiesOf, joined, checkProfile}
 use Rattle.lingua.specs.Meets.{runMet}
 use Rattle.lingua.specs.Rows.{tableCount, pairCount}
 use Rattle.lingua.specs.Trees.{tabulateFrom, tabulate, instructionTree, declaredBody, bodyOr, declarationAt, profileOf}
 use Rattle.lingua.specs.Format.{rowsOf}
-use Rattle.lingua.specs.Refusal.{rule, lowest, pairRules, isNumberBody, isNumberVariable, readingWrong, runRules, checkedRefusal, erasedRefusal}
+use Rattle.lingua.specs.Refusal.{lowest, pairRules, isNumberBody, isNumberVariable, readingWrong, runRules, checkedRefusal, erasedRefusal}
 use Rattle.lingua.specs.Calls.{readingsOf}
 use Rattle.laws.specs.Outcomes.{and-left, and-right, is-number, false-is-true}
-use Rattle.safety.specs.Answers.{bound, all-answered, or-right}
-use Rattle.safety.specs.Every.{Every, every-none, every-more, every-implies, every-unmap, tabulated, all-true}
-use Rattle.safety.specs.Everywhere.{Everywhere}
+use Rattle.safety.specs.Answers.{same-answer, bound, all-answered, or-right}
+use Rattle.safety.specs.Every.{Every, every-none, every-more, every-left, every-right, every-joined-part, every-implies, every-unmap, tabulated, all-true}
+use Rattle.safety.specs.Derivation.{Anything, anything, DerivedYoke, DerivedRow, yoke-derives, row-derives}
+use Rattle.safety.specs.Everywhere.{Everywhere, everywhere-implies}
+use Rattle.safety.specs.Invariant.{declaredStore}
 use Rattle.safety.specs.Forest.{tree-everywhere}
 use Rattle.safety.specs.Accepted.{AcceptedRows, none-applies, accepted-pair, program-row, profile-well-made}
 use Rattle.safety.specs.RunErrors.{RunErrors}
-use Rattle.safety.specs.Programs.{YokePasses, YokesPass, Passes, PassedProfile, ReadsNumber, run-safe}
+use Rattle.safety.specs.Programs.{YokesDerived, TypedProfile, ReadsNumber, run-safe}
 
 -- ---- declared yokes and instructions
-declarations-pass : (vars : Bodies) (d : ℕ) (ds : List Declaration) (xs : List (List Entry)) → allAnswers (checkDeclarations vars d ds) ≡ ok xs
-    → (n : ℕ) → YokePasses vars (bodiesOf ds n) (variableAt (map unfilled ds) n .current)
-unfolding allAnswers checkDeclarations checkYoke
-declarations-pass vars d [] xs e n = record { place = 0; entries = []; passes = refl }
-declarations-pass vars d (v ∷ ds) xs e zero =
-    let p = bound (checkYoke (v .declared) vars (v .body) (declaration-place + d)) _ xs e in
-    record { place = declaration-place + d; entries = p .0; passes = p .1 }
-declarations-pass vars d (v ∷ ds) xs e (suc n) =
-    let p = bound (checkYoke (v .declared) vars (v .body) (declaration-place + d)) _ xs e in
-    let q = bound (allAnswers (checkDeclarations vars (suc d) ds)) _ xs (p .2) in
-    declarations-pass vars (suc d) ds (q .0) (q .1) n
+module _ {H : Entry → Type 0} (vars : Bodies) where
+  declarations-derive : (d : ℕ) (ds : List Declaration) → Every (λ o. (es : List Entry) × (o ≡ ok es) × Every H es) (checkDeclarations vars d ds)
+      → (n : ℕ) → DerivedYoke H vars (variableAt (map unfilled ds) n .current) (bodiesOf ds n)
+  unfolding checkDeclarations
+  declarations-derive d [] h n = unfold DerivedYoke in tt
+  declarations-derive d (v ∷ ds) (every-more h hs) zero = yoke-derives vars (v .declared) (v .body) (declaration-place + d) (h .0) (h .1) (h .2)
+  declarations-derive d (v ∷ ds) (every-more h hs) (suc n) = declarations-derive (suc d) ds hs n
 
-instructions-pass : (vars : Bodies) (is : List Instruction) (xs : List (List Entry)) → allAnswers (map (λ i. checkInstruction vars i) is) ≡ ok xs → Every (Passes vars) is
-instructions-pass vars is xs e =
-    every-implies (λ i p. record { entries = p .0; passes = p .1 }) (every-unmap (λ i. checkInstruction vars i) is (all-answered (map (λ i. checkInstruction vars i) is) xs e))
+  instructions-derive : (is : List Instruction) → Every (λ o. (es : List Entry) × (o ≡ ok es) × Every H es) (map (λ i. checkInstruction vars i) is) → Every (DerivedRow H vars) is
+  instructions-derive is h = every-implies (λ i p. row-derives vars i (p .0) (p .1) (p .2)) (every-unmap (λ i. checkInstruction vars i) is h)
 
--- the instructions that the check goes through are those of the program's tree
-pub profile-passes : (rows : List ℕ) → AcceptedRows rows → (lims : List ℕ) (es : List Entry) → checkProfile (profileOf rows lims) ≡ ok es → PassedProfile (profileOf rows lims)
-unfolding checkProfile profileOf
-profile-passes rows accepted lims es e =
-    let p = profileOf rows lims in
-    let vars : Bodies = bodiesOf (p .declarations) in
-    let a = bound (allAnswers (checkDeclarations vars 0 (p .declarations))) _ es e in
-    let b = bound (allAnswers (map (λ i. checkInstruction vars i) (p .instructions))) _ es (a .2) in
-    let each = tabulated (tableCount rows instruction-section) (λ r. instructionTree rows r) (instructions-pass vars (p .instructions) (b .0) (b .1)) in
-    record { yokes = unfold YokesPass in declarations-pass vars 0 (p .declarations) (a .0) (a .1); instructions = tree-everywhere (Passes vars) (λ r. unfold checkInstruction in record { entries = []; passes = refl }) rows (tableCount rows instruction-section) each (pred (tableCount rows instruction-section)) (program-row rows accepted) }
+skip-derived : (H : Entry → Type 0) (vars : Bodies) (r : ℕ) → DerivedRow H vars (skip r)
+unfolding DerivedRow
+skip-derived H vars r = tt
+
+module _ {H : Entry → Type 0} (p : Profile) (es : List Entry) (passed : checkProfile p ≡ ok es) (each : Every H es) where
+  -- what the check found of declared yokes and of instructions; H is what holds of all entries
+  parts-derive : YokesDerived H (bodiesOf (p .declarations)) (declaredStore p) × Every (DerivedRow H (bodiesOf (p .declarations))) (p .instructions)
+  unfolding checkProfile YokesDerived
+  parts-derive =
+      let vars : Bodies = bodiesOf (p .declarations) in
+      let a = bound (allAnswers (checkDeclarations vars 0 (p .declarations))) _ es passed in
+      let b = bound (allAnswers (map (λ i. checkInstruction vars i) (p .instructions))) _ es (a .2) in
+      let k = subst (Every H) (sym (same-answer (b .2))) each in
+      let ds = all-answered (checkDeclarations vars 0 (p .declarations)) (a .0) (a .1) (every-joined-part (a .0) (every-left (joined (a .0)) (joined (b .0)) k)) in
+      let is = all-answered (map (λ i. checkInstruction vars i) (p .instructions)) (b .0) (b .1) (every-joined-part (b .0) (every-right (joined (a .0)) (joined (b .0)) k)) in
+      (declarations-derive vars 0 (p .declarations) ds, instructions-derive vars (p .instructions) is)
+
+-- the rows that the check goes through are those of the program's tree
+pub profile-derives : {H : Entry → Type 0} (rows : List ℕ) → AcceptedRows rows → (lims : List ℕ) (es : List Entry) → checkProfile (profileOf rows lims) ≡ ok es → Every H es → TypedProfile H (profileOf rows lims)
+unfolding profileOf
+profile-derives {H} rows accepted lims es e h =
+    let vars : Bodies = bodiesOf (profileOf rows lims .declarations) in
+    let p = parts-derive (profileOf rows lims) es e h in
+    let each = tabulated (tableCount rows instruction-section) (λ r. instructionTree rows r) (p .1) in
+    record { yokes = p .0; instructions = tree-everywhere (DerivedRow H vars) (skip-derived H vars) rows (tableCount rows instruction-section) each (pred (tableCount rows instruction-section)) (program-row rows accepted) }
+
+-- ---- any profile whose tree passes node by node
+unfoldable pub PassedBelow : Bodies → Instruction → Type 0
+PassedBelow vars i = Everywhere (λ k. (es : List Entry) × (checkInstruction vars k ≡ ok es)) i
+
+pub passed-below-derives : (p : Profile) (es : List Entry) → checkProfile p ≡ ok es → PassedBelow (bodiesOf (p .declarations)) (p .program) → TypedProfile Anything p
+unfolding PassedBelow
+passed-below-derives p es e h =
+    record { yokes = parts-derive p es e (anything es) .0; instructions = everywhere-implies (λ i k. row-derives (bodiesOf (p .declarations)) i (k .0) (k .1) (anything (k .0))) h }
 
 -- ---- readings
 tabulated-at : {A B : Type 0} (f : A → B) (g : ℕ → A) (other : B) (i n k : ℕ) → k < n → getD (map f (tabulateFrom i n g)) k other ≡ f (g (i + k))
@@ -94,7 +115,7 @@ pub accepted-safe : (prof lims : List ℕ) → lowest (pairRules prof lims) ≡ 
 accepted-safe prof lims e es passed readings ns budget =
     let rows = rowsOf prof in
     let accepted = accepted-pair prof lims e in
-    run-safe (profileOf rows (rowsOf lims)) (profile-well-made rows accepted (rowsOf lims)) (profile-passes rows accepted (rowsOf lims) es passed)
+    run-safe (profileOf rows (rowsOf lims)) (profile-well-made rows accepted (rowsOf lims)) (profile-derives rows accepted (rowsOf lims) es passed (anything es))
     readings (every-implies (reads-number rows (rowsOf lims)) ns) budget
 
 -- ---- calls that are not refused
@@ -109,14 +130,26 @@ unfolding readingWrong
 reading-rule rows variables e =
     all-true (λ v. isNumberVariable rows v) variables (not-false _ (or-right (ltb most-readings (length variables)) (not (allOf (λ v. isNumberVariable rows v) variables)) e))
 
+-- a run that is not refused takes readings of number variables
+pub rules-readings : (prof lims variables : List ℕ) (numbers cells : List ℤ) (states : List ℕ) → lowest (runRules prof lims variables numbers cells states) ≡ 0
+    → Every (λ r. isNumberVariable (rowsOf prof) (r .variable) ≡ true) (readingsOf variables numbers)
+unfolding runRules
+rules-readings prof lims variables numbers cells states e =
+    let a = none-applies _ _ _ refl e in
+    let b = none-applies _ _ _ refl (a .1) in
+    readings-of-numbers (rowsOf prof) variables numbers (reading-rule (rowsOf prof) variables (b .0))
+
+pub rules-pair : (prof lims variables : List ℕ) (numbers cells : List ℤ) (states : List ℕ) → lowest (runRules prof lims variables numbers cells states) ≡ 0 → lowest (pairRules prof lims) ≡ 0
+unfolding runRules
+rules-pair prof lims variables numbers cells states e =
+    let a = none-applies _ _ _ refl e in
+    none-applies _ _ _ refl (a .1) .1
+
 pub rules-safe : (prof lims variables : List ℕ) (numbers cells : List ℤ) (states : List ℕ) → lowest (runRules prof lims variables numbers cells states) ≡ 0
     → (es : List Entry) → checkProfile (profileOf (rowsOf prof) (rowsOf lims)) ≡ ok es → (budget : ℕ)
     → RunErrors (runMet (profileOf (rowsOf prof) (rowsOf lims)) (readingsOf variables numbers) budget)
-unfolding runRules
 rules-safe prof lims variables numbers cells states e es passed budget =
-    let a = none-applies _ _ _ refl e in
-    let b = none-applies _ _ _ refl (a .1) in
-    accepted-safe prof lims (b .1) es passed (readingsOf variables numbers) (readings-of-numbers (rowsOf prof) variables numbers (reading-rule (rowsOf prof) variables (b .0))) budget
+    accepted-safe prof lims (rules-pair prof lims variables numbers cells states e) es passed (readingsOf variables numbers) (rules-readings prof lims variables numbers cells states e) budget
 
 pub checked-call-safe : (prof lims variables : List ℕ) (numbers cells : List ℤ) (states : List ℕ) → checkedRefusal prof lims variables numbers cells states ≡ 0
     → (es : List Entry) → checkProfile (profileOf (rowsOf prof) (rowsOf lims)) ≡ ok es → (budget : ℕ)

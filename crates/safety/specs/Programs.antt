@@ -1,63 +1,51 @@
 -- The type check is sound for whole programs: a well made profile whose yokes and instructions all pass meets no type error in any run,
 -- for readings of number variables and at every budget: `run-safe`. Assumes nothing.
-use mathlib.Core.Path.{_≡_, refl, sym, ap, _∙_, subst}
-use mathlib.Core.Bool.{Bool, true, false, _&&_}
-use mathlib.Core.List.{List, [], _∷_, _++_, map}
+use mathlib.Core.Path.{_≡_, refl, sym, _∙_, subst}
+use mathlib.Core.Bool.{true}
+use mathlib.Core.List.{List, map}
 use mathlib.Core.Option.{Option, some, none}
-use Prim.Native.Nat.{ℕ, zero, suc, _+_, _≤_, _<_}
+use Prim.Native.Nat.{ℕ}
 use native.Mathlib.Omega.{arith}
-use lib.ListN.{getD, set}
-use lib.IntN.{ℤ}
-use Rattle.lingua.specs.Numbers.{instruction-place, declaration-place}
 use Rattle.lingua.specs.Errors.{overflow, yoke-not-satisfied, boolean-expected, no-coherence, yoke-expected}
-use Rattle.lingua.specs.Outcome.{Outcome, ok, fail, Result, _>>=_, _>>_, allAnswers}
-use Rattle.lingua.specs.Body.{Body, boolean, number, sameBody, isBoolean}
-use Rattle.lingua.specs.Value.{Value, whole, fit-truth, fit-whole, inRange, asWhole, Composite, composite}
+use Rattle.lingua.specs.Outcome.{ok}
+use Rattle.lingua.specs.Body.{Body, boolean, number, sameBody}
+use Rattle.lingua.specs.Value.{whole, fit-truth, fit-whole, inRange, asWhole, Composite, composite}
 use Rattle.lingua.specs.Expression.{Expression, Yoke, always, yoke, Instruction, skip, assign, set-yoke, sequence, branch, loop, handle}
-use Rattle.lingua.specs.Evaluation.{Variables, eval, evalYoke, truthOr, booleanOf, no-current}
+use Rattle.lingua.specs.Evaluation.{eval, evalYoke, no-current}
 use Rattle.lingua.specs.Store.{Variable, variableAt, contents, withContent, withYoke, within, admitted, assigned, yokeHolds, yokeChanged, Reading, readingTaken}
-use Rattle.lingua.specs.Run.{State, Declaration, Profile, unfilled, started, takeReadings}
-use Rattle.lingua.specs.Typing.{TypeError, typeError, Entry, Typed, Bodies, check, checkYoke, no-current-body, checkTest, checkInstruction, checkDeclarations, bodiesOf, checkProfile}
-use Rattle.lingua.specs.Meets.{onAnswer, yokeMet, yokeChecksMet, assignMet, testMet, onFilled, readingMet, readingsMet, execMet, runMet}
-use Rattle.laws.specs.Outcomes.{is-boolean, same-body, body-same}
+use Rattle.lingua.specs.Run.{State, Declaration, Profile, unfilled, started, takeReadings, run, lastState}
+use Rattle.lingua.specs.Typing.{Entry, Bodies, no-current-body, bodiesOf}
+use Rattle.lingua.specs.Meets.{yokeMet, yokeChecksMet, assignMet, testMet, onFilled, readingMet, runMet}
+use Rattle.laws.specs.Outcomes.{same-body, body-same}
 use Rattle.safety.specs.Answers.{bound, demanded, after, same-answer}
-use Rattle.safety.specs.Every.{Every, every-none, every-more, every-append, every-implies}
+use Rattle.safety.specs.Every.{Every, every-none, every-append, every-all, every-implies}
 use Rattle.safety.specs.Constants.{Fitting, ConstantsFit, ClosedYoke}
-use Rattle.safety.specs.Stored.{Settled, Kept, StoreKept, replaced}
+use Rattle.safety.specs.Stored.{StoreKept, replaced}
 use Rattle.safety.specs.Everywhere.{Everywhere, everywhere-implies, everywhere-both}
-use Rattle.safety.specs.Runs.{Stable, Keeps, KeepsReading, readings-keep}
+use Rattle.safety.specs.Runs.{Stable, Keeps, KeepsReading, exec-keeps, readings-keep}
 use Rattle.safety.specs.Invariant.{WellMade, WellMadeProfile, declaredStore, StateKept, well-made-keeps, reading-keeps, start-kept, declared-body}
-use Rattle.safety.specs.RunErrors.{RunErrors, Good, gives, answer-met, truth-met, truth-answer-met, unless-met, unless-run-error, good-as}
-use Rattle.safety.specs.TypeSound.{VariablesFit, Safe, check-sound}
+use Rattle.safety.specs.RunErrors.{RunErrors, gives, answer-met, truth-met, truth-answer-met, unless-met, unless-run-error}
+use Rattle.safety.specs.TypeSound.{VariablesFit, Safe, derived-sound}
+use Rattle.safety.specs.Derivation.{Derived, DerivedYoke, DerivedRow}
 use Rattle.safety.specs.Quiet.{Quiet, QuietReading, on-true-met, exec-quiet, readings-quiet}
 
--- ---- what passes
--- a yoke on a variable of the body
-pub record YokePasses (vars : Bodies) (b : Body) (y : Yoke) : Type 0 where
-  pub place : ℕ
-  pub entries : List Entry
-  pub passes : checkYoke y vars b place ≡ ok entries
-
--- an instruction's own row
-pub record Passes (vars : Bodies) (i : Instruction) : Type 0 where
-  pub entries : List Entry
-  pub passes : checkInstruction vars i ≡ ok entries
-
+-- ---- what the type check passes
 -- every yoke of a store, on its variable's declared body
-unfoldable pub YokesPass : Bodies → List Variable → Type 0
-YokesPass vars vs = (n : ℕ) → YokePasses vars (vars n) (variableAt vs n .current)
+unfoldable pub YokesDerived : (Entry → Type 0) → Bodies → List Variable → Type 0
+YokesDerived H vars vs = (n : ℕ) → DerivedYoke H vars (variableAt vs n .current) (vars n)
 
-pub record PassedProfile (p : Profile) : Type 0 where
-  pub yokes : YokesPass (bodiesOf (p .declarations)) (declaredStore p)
-  pub instructions : Everywhere (Passes (bodiesOf (p .declarations))) (p .program)
+-- declared yokes, and every instruction of the program; H holds of the entry of each expression row
+pub record TypedProfile (H : Entry → Type 0) (p : Profile) : Type 0 where
+  pub yokes : YokesDerived H (bodiesOf (p .declarations)) (declaredStore p)
+  pub instructions : Everywhere (DerivedRow H (bodiesOf (p .declarations))) (p .program)
 
 -- ---- the states of a run
-pub record StateTyped (ds : List Declaration) (s : State) : Type 0 where
+pub record StateTyped (H : Entry → Type 0) (ds : List Declaration) (s : State) : Type 0 where
   pub kept : StoreKept (map unfilled ds) (s .store)
-  pub yokes : YokesPass (bodiesOf ds) (s .store)
+  pub yokes : YokesDerived H (bodiesOf ds) (s .store)
 
-pub typed-stable : (ds : List Declaration) → Stable (StateTyped ds)
-typed-stable ds =
+pub typed-stable : (H : Entry → Type 0) (ds : List Declaration) → Stable (StateTyped H ds)
+typed-stable H ds =
     record { marked = λ s n p h. record { kept = h .kept; yokes = h .yokes }; stepped = λ s n e h. record { kept = h .kept; yokes = h .yokes } }
 
 pub kept-body : (ds : List Declaration) (vs : List Variable) → StoreKept (map unfilled ds) vs → (n : ℕ) → variableAt vs n .body ≡ bodiesOf ds n
@@ -69,124 +57,130 @@ unfolding VariablesFit StoreKept
 variables-fit ds vs h n x e = let s = h n .settled x e in (s .coherent ∙ kept-body ds vs h n, s .fits)
 
 -- ---- yokes, tests and assignments
-module _ (ds : List Declaration) (vs : List Variable) (kept : StoreKept (map unfilled ds) vs) where
-  pub yoke-safe : (y : Yoke) → ClosedYoke y → (x : Composite) → Fitting x → YokePasses (bodiesOf ds) (x .body) y → Safe boolean (evalYoke y (contents vs) x) (yokeMet y (contents vs) x)
-  unfolding evalYoke yokeMet ClosedYoke checkYoke
-  yoke-safe always c x h k = record { good = gives refl fit-truth; meets = every-none }
-  yoke-safe (yoke e) c x h k =
-      let a = bound (check e (bodiesOf ds) (x .body)) _ (k .entries) (k .passes) in
-      let t = a .0 in
-      let b = demanded (isBoolean (t .body)) (typeError yoke-expected (k .place)) _ (k .entries) (a .2) in
-      let s = check-sound (bodiesOf ds) (contents vs) (variables-fit ds vs kept) e (c .constants) x h t (a .1) in
-      record { good = good-as (is-boolean (t .body) (b .0)) (s .good); meets = s .meets }
+module _ (H : Entry → Type 0) (ds : List Declaration) (vs : List Variable) (kept : StoreKept (map unfilled ds) vs) where
+  pub yoke-safe : (y : Yoke) → ClosedYoke y → (x : Composite) → Fitting x → DerivedYoke H (bodiesOf ds) y (x .body) → Safe boolean (evalYoke y (contents vs) x) (yokeMet y (contents vs) x)
+  unfolding evalYoke yokeMet ClosedYoke DerivedYoke
+  yoke-safe always c x h d = record { good = gives refl fit-truth; meets = every-none }
+  yoke-safe (yoke e) c x h d = derived-sound (bodiesOf ds) (contents vs) (variables-fit ds vs kept) e (c .constants) x h d
 
-  pub yoke-checks-safe : (y : Yoke) → ClosedYoke y → (x : Composite) → Fitting x → YokePasses (bodiesOf ds) (x .body) y → RunErrors (yokeChecksMet y (contents vs) x)
+  pub yoke-checks-safe : (y : Yoke) → ClosedYoke y → (x : Composite) → Fitting x → DerivedYoke H (bodiesOf ds) y (x .body) → RunErrors (yokeChecksMet y (contents vs) x)
   unfolding yokeChecksMet
-  yoke-checks-safe y c x h k =
-      let s = yoke-safe y c x h k in
+  yoke-checks-safe y c x h d =
+      let s = yoke-safe y c x h d in
       every-append (s .meets) (answer-met (s .good) (λ r e f. every-append (truth-met yoke-expected r e)
       (truth-answer-met yoke-expected r _ e (λ t. unless-run-error t yoke-not-satisfied (omega arith)))))
 
-  pub test-safe : (e : Expression) → ConstantsFit e → (p : ℕ) (es : List Entry) → checkTest e (bodiesOf ds) p ≡ ok es → RunErrors (testMet e (contents vs))
-  unfolding checkTest testMet
-  test-safe e c p es q =
-      let a = bound (check e (bodiesOf ds) no-current-body) _ es q in
-      let t = a .0 in
-      let b = demanded (isBoolean (t .body)) (typeError boolean-expected p) _ es (a .2) in
-      let s = check-sound (bodiesOf ds) (contents vs) (variables-fit ds vs kept) e c no-current fit-truth t (a .1) in
-      every-append (s .meets) (answer-met (s .good) (λ x u f. truth-met boolean-expected x (u ∙ is-boolean (t .body) (b .0))))
+  pub test-safe : (e : Expression) → ConstantsFit e → Derived H (bodiesOf ds) e no-current-body boolean → RunErrors (testMet e (contents vs))
+  unfolding testMet
+  test-safe e c d =
+      let s = derived-sound (bodiesOf ds) (contents vs) (variables-fit ds vs kept) e c no-current fit-truth d in
+      every-append (s .meets) (answer-met (s .good) (λ x u f. truth-met boolean-expected x u))
 
   -- a value of the declared body
-  pub assign-safe : YokesPass (bodiesOf ds) vs → (n : ℕ) (x : Composite) → Fitting x → x .body ≡ bodiesOf ds n → RunErrors (assignMet vs n x)
-  unfolding assignMet YokesPass StoreKept
+  pub assign-safe : YokesDerived H (bodiesOf ds) vs → (n : ℕ) (x : Composite) → Fitting x → x .body ≡ bodiesOf ds n → RunErrors (assignMet vs n x)
+  unfolding assignMet YokesDerived StoreKept
   assign-safe ys n x h e =
       every-append
       (every-append
-      (yoke-checks-safe (variableAt vs n .current) (kept n .closed) x h (subst (λ (b : Body). YokePasses (bodiesOf ds) b (variableAt vs n .current)) (sym e) (ys n)))
+      (yoke-checks-safe (variableAt vs n .current) (kept n .closed) x h (subst (λ (b : Body). DerivedYoke H (bodiesOf ds) (variableAt vs n .current) b) (sym e) (ys n)))
       (unless-met (sameBody (variableAt vs n .body) (x .body)) no-coherence
       (subst (λ (b : Body). sameBody (variableAt vs n .body) b ≡ true) (kept-body ds vs kept n ∙ sym e) (body-same (variableAt vs n .body)))))
       (unless-run-error (within (variableAt vs n .limit) (asWhole (x .value))) yoke-not-satisfied (omega arith))
 
 -- ---- instructions
--- an assignment changes no yoke
-assigned-yokes : (vars : Bodies) (vs : List Variable) → YokesPass vars vs → (n : ℕ) (x : Composite) (ws : List Variable) → assigned vs n x ≡ ok ws → YokesPass vars ws
-unfolding assigned YokesPass
-assigned-yokes vars vs h n x ws e =
-    let p = after (admitted vs (variableAt vs n) x) _ ws e in
-    subst (λ (us : List Variable). (m : ℕ) → YokePasses vars (vars m) (variableAt us m .current)) (same-answer (p .1))
-    (replaced (λ m v. YokePasses vars (vars m) (v .current)) vs n (withContent (variableAt vs n) x) (h n) h)
+module _ (H : Entry → Type 0) (vars : Bodies) (vs : List Variable) (derived : YokesDerived H vars vs) where
+  -- an assignment changes no yoke
+  pub assigned-yokes : (n : ℕ) (x : Composite) (ws : List Variable) → assigned vs n x ≡ ok ws → YokesDerived H vars ws
+  unfolding assigned YokesDerived
+  assigned-yokes n x ws e =
+      let p = after (admitted vs (variableAt vs n) x) _ ws e in
+      subst (λ (us : List Variable). (m : ℕ) → DerivedYoke H vars (variableAt us m .current) (vars m)) (same-answer (p .1))
+      (replaced (λ m v. DerivedYoke H vars (v .current) (vars m)) vs n (withContent (variableAt vs n) x) (derived n) derived)
 
-changed-yokes : (vars : Bodies) (vs : List Variable) → YokesPass vars vs → (n : ℕ) (y : Yoke) → YokePasses vars (vars n) y → (ws : List Variable) → yokeChanged vs n y ≡ ok ws → YokesPass vars ws
-unfolding yokeChanged YokesPass
-changed-yokes vars vs h n y k ws e =
-    let p = after (yokeHolds vs y (variableAt vs n .content)) _ ws e in
-    subst (λ (us : List Variable). (m : ℕ) → YokePasses vars (vars m) (variableAt us m .current)) (same-answer (p .1))
-    (replaced (λ m v. YokePasses vars (vars m) (v .current)) vs n (withYoke (variableAt vs n) y) k h)
-
-set-yoke-passes : (vars : Bodies) (r n : ℕ) (y : Yoke) → Passes vars (set-yoke r n y) → YokePasses vars (vars n) y
-unfolding checkInstruction
-set-yoke-passes vars r n y h = record { place = instruction-place + r; entries = h .entries; passes = h .passes }
-
-pub passed-keeps : (ds : List Declaration) (i : Instruction) → WellMade i × Passes (bodiesOf ds) i → Keeps (StateTyped ds) i
-unfolding Keeps StateKept WellMade
-passed-keeps ds (skip r) h = tt
-passed-keeps ds (assign r n e) h = λ s k ws q.
-    let p = bound (eval e (contents (s .store)) no-current) _ ws q in
-    record { kept = well-made-keeps (map unfilled ds) (assign r n e) (h .0) s (k .kept) ws q; yokes = assigned-yokes (bodiesOf ds) (s .store) (k .yokes) n (p .0) ws (p .2) }
-passed-keeps ds (set-yoke r n y) h = λ s k ws q.
-    record { kept = well-made-keeps (map unfilled ds) (set-yoke r n y) (h .0) s (k .kept) ws q; yokes = changed-yokes (bodiesOf ds) (s .store) (k .yokes) n y (set-yoke-passes (bodiesOf ds) r n y (h .1)) ws q }
-passed-keeps ds (sequence r i j) h = tt
-passed-keeps ds (branch r e i j) h = tt
-passed-keeps ds (loop r e i) h = tt
-passed-keeps ds (handle r n i) h = tt
+  pub changed-yokes : (n : ℕ) (y : Yoke) → DerivedYoke H vars y (vars n) → (ws : List Variable) → yokeChanged vs n y ≡ ok ws → YokesDerived H vars ws
+  unfolding yokeChanged YokesDerived
+  changed-yokes n y d ws e =
+      let p = after (yokeHolds vs y (variableAt vs n .content)) _ ws e in
+      subst (λ (us : List Variable). (m : ℕ) → DerivedYoke H vars (variableAt us m .current) (vars m)) (same-answer (p .1))
+      (replaced (λ m v. DerivedYoke H vars (v .current) (vars m)) vs n (withYoke (variableAt vs n) y) d derived)
 
 filled-met : (c : Option Composite) (f : Composite → List ℕ) → ((x : Composite) → c ≡ some x → RunErrors (f x)) → RunErrors (onFilled c f)
 filled-met none f h = every-none
 filled-met (some x) f h = h x refl
 
-pub passed-quiet : (ds : List Declaration) (i : Instruction) → WellMade i × Passes (bodiesOf ds) i → Quiet (StateTyped ds) i
-unfolding Quiet WellMade checkInstruction StoreKept
-passed-quiet ds (skip r) h = tt
-passed-quiet ds (assign r n e) h = λ s k.
-    let a = bound (check e (bodiesOf ds) no-current-body) _ (h .1 .entries) (h .1 .passes) in
-    let t = a .0 in
-    let b = demanded (sameBody (bodiesOf ds n) (t .body)) (typeError no-coherence (instruction-place + r)) _ (h .1 .entries) (a .2) in
-    let c = check-sound (bodiesOf ds) (contents (s .store)) (variables-fit ds (s .store) (k .kept)) e (h .0) no-current fit-truth t (a .1) in
-    every-append (c .meets)
-    (answer-met (c .good) (λ x u f. assign-safe ds (s .store) (k .kept) (k .yokes) n x f (u ∙ sym (same-body (bodiesOf ds n) (t .body) (b .0)))))
-passed-quiet ds (set-yoke r n y) h = λ s k.
-    filled-met (variableAt (s .store) n .content) _ (λ x e. let v = k .kept n .settled x e in
-    yoke-checks-safe ds (s .store) (k .kept) y (h .0) x (v .fits)
-    (subst (λ (b : Body). YokePasses (bodiesOf ds) b y) (sym (v .coherent ∙ kept-body ds (s .store) (k .kept) n)) (set-yoke-passes (bodiesOf ds) r n y (h .1))))
-passed-quiet ds (sequence r i j) h = tt
-passed-quiet ds (branch r e i j) h = λ s k. test-safe ds (s .store) (k .kept) e (h .0) (instruction-place + r) (h .1 .entries) (h .1 .passes)
-passed-quiet ds (loop r e i) h = λ s k. test-safe ds (s .store) (k .kept) e (h .0) (instruction-place + r) (h .1 .entries) (h .1 .passes)
-passed-quiet ds (handle r n i) h = tt
+module _ (H : Entry → Type 0) (ds : List Declaration) where
+  pub derived-keeps : (i : Instruction) → WellMade i × DerivedRow H (bodiesOf ds) i → Keeps (StateTyped H ds) i
+  unfolding Keeps StateKept WellMade DerivedRow
+  derived-keeps (skip r) h = tt
+  derived-keeps (assign r n e) h = λ s k ws q.
+      let p = bound (eval e (contents (s .store)) no-current) _ ws q in
+      record { kept = well-made-keeps (map unfilled ds) (assign r n e) (h .0) s (k .kept) ws q; yokes = assigned-yokes H (bodiesOf ds) (s .store) (k .yokes) n (p .0) ws (p .2) }
+  derived-keeps (set-yoke r n y) h = λ s k ws q.
+      record { kept = well-made-keeps (map unfilled ds) (set-yoke r n y) (h .0) s (k .kept) ws q; yokes = changed-yokes H (bodiesOf ds) (s .store) (k .yokes) n y (h .1) ws q }
+  derived-keeps (sequence r i j) h = tt
+  derived-keeps (branch r e i j) h = tt
+  derived-keeps (loop r e i) h = tt
+  derived-keeps (handle r n i) h = tt
+
+  pub derived-quiet : (i : Instruction) → WellMade i × DerivedRow H (bodiesOf ds) i → Quiet (StateTyped H ds) i
+  unfolding Quiet WellMade DerivedRow StoreKept
+  derived-quiet (skip r) h = tt
+  derived-quiet (assign r n e) h = λ s k.
+      let c = derived-sound (bodiesOf ds) (contents (s .store)) (variables-fit ds (s .store) (k .kept)) e (h .0) no-current fit-truth (h .1) in
+      every-append (c .meets) (answer-met (c .good) (λ x u f. assign-safe H ds (s .store) (k .kept) (k .yokes) n x f u))
+  derived-quiet (set-yoke r n y) h = λ s k.
+      filled-met (variableAt (s .store) n .content) _ (λ x e. let v = k .kept n .settled x e in
+      yoke-checks-safe H ds (s .store) (k .kept) y (h .0) x (v .fits)
+      (subst (λ (b : Body). DerivedYoke H (bodiesOf ds) y b) (sym (v .coherent ∙ kept-body ds (s .store) (k .kept) n)) (h .1)))
+  derived-quiet (sequence r i j) h = tt
+  derived-quiet (branch r e i j) h = λ s k. test-safe H ds (s .store) (k .kept) e (h .0) (h .1)
+  derived-quiet (loop r e i) h = λ s k. test-safe H ds (s .store) (k .kept) e (h .0) (h .1)
+  derived-quiet (handle r n i) h = tt
 
 -- ---- readings of number variables
 unfoldable pub ReadsNumber : List Declaration → Reading → Type 0
 ReadsNumber ds r = bodiesOf ds (r .variable) ≡ number
 
-typed-reading : (ds : List Declaration) (r : Reading) → KeepsReading (StateTyped ds) r
-unfolding KeepsReading StateKept readingTaken
-typed-reading ds r s k ws e =
-    let p = demanded (inRange (r .number)) overflow _ ws e in
-    record { kept = reading-keeps (map unfilled ds) r s (k .kept) ws e; yokes = assigned-yokes (bodiesOf ds) (s .store) (k .yokes) (r .variable) (composite number (whole (r .number))) ws (p .1) }
+module _ (H : Entry → Type 0) (ds : List Declaration) (r : Reading) where
+  pub typed-reading : KeepsReading (StateTyped H ds) r
+  unfolding KeepsReading StateKept readingTaken
+  typed-reading s k ws e =
+      let p = demanded (inRange (r .number)) overflow _ ws e in
+      record { kept = reading-keeps (map unfilled ds) r s (k .kept) ws e; yokes = assigned-yokes H (bodiesOf ds) (s .store) (k .yokes) (r .variable) (composite number (whole (r .number))) ws (p .1) }
 
-quiet-reading : (ds : List Declaration) (r : Reading) → ReadsNumber ds r → QuietReading (StateTyped ds) r
-unfolding QuietReading ReadsNumber readingMet
-quiet-reading ds r h s k =
-    every-append (unless-run-error (inRange (r .number)) overflow (omega arith))
-    (on-true-met (inRange (r .number)) _ (λ e. assign-safe ds (s .store) (k .kept) (k .yokes) (r .variable) (composite number (whole (r .number))) (fit-whole e) (sym h)))
+  quiet-reading : ReadsNumber ds r → QuietReading (StateTyped H ds) r
+  unfolding QuietReading ReadsNumber readingMet
+  quiet-reading h s k =
+      every-append (unless-run-error (inRange (r .number)) overflow (omega arith))
+      (on-true-met (inRange (r .number)) _ (λ e. assign-safe H ds (s .store) (k .kept) (k .yokes) (r .variable) (composite number (whole (r .number))) (fit-whole e) (sym h)))
 
 -- ---- whole runs
-pub run-safe : (p : Profile) → WellMadeProfile p → PassedProfile p → (readings : List Reading) → Every (ReadsNumber (p .declarations)) readings → (budget : ℕ) → RunErrors (runMet p readings budget)
-unfolding runMet started
-run-safe p w h readings ns budget =
-    let ds = p .declarations in
-    let start : StateTyped ds (started p budget) = record { kept = start-kept (w .yokes); yokes = h .yokes } in
-    let both = everywhere-both (p .program) (w .instructions) (h .instructions) in
-    let ks = every-implies {Q = KeepsReading (StateTyped ds)} (λ r q. typed-reading ds r) ns in
-    every-append (readings-quiet (StateTyped ds) (typed-stable ds) 0 readings ks (every-implies (quiet-reading ds) ns) (started p budget) start)
-    (exec-quiet (StateTyped ds) (typed-stable ds) (p .program) (everywhere-implies (passed-keeps ds) both) (everywhere-implies (passed-quiet ds) both)
-    (takeReadings 0 readings (started p budget)) (readings-keep (StateTyped ds) (typed-stable ds) 0 readings ks (started p budget) start))
+module _ {H : Entry → Type 0} (p : Profile) (made : WellMadeProfile p) (passed : TypedProfile H p) where
+  both : Everywhere (λ i. WellMade i × DerivedRow H (bodiesOf (p .declarations)) i) (p .program)
+  both = everywhere-both (p .program) (made .instructions) (passed .instructions)
+
+  pub start-typed : (budget : ℕ) → StateTyped H (p .declarations) (started p budget)
+  unfolding started
+  start-typed budget = record { kept = start-kept (made .yokes); yokes = passed .yokes }
+
+  pub readings-typed : (readings : List Reading) (budget : ℕ) → StateTyped H (p .declarations) (takeReadings 0 readings (started p budget))
+  readings-typed readings budget =
+      readings-keep (StateTyped H (p .declarations)) (typed-stable H (p .declarations)) 0 readings (every-all (typed-reading H (p .declarations)) readings) (started p budget) (start-typed budget)
+
+  -- every instruction of the program keeps what is known of the states
+  pub program-keeps : Everywhere (Keeps (StateTyped H (p .declarations))) (p .program)
+  program-keeps = everywhere-implies (derived-keeps H (p .declarations)) both
+
+  pub run-typed : (readings : List Reading) (budget : ℕ) → StateTyped H (p .declarations) (lastState (run p readings budget))
+  unfolding run
+  run-typed readings budget =
+      exec-keeps (StateTyped H (p .declarations)) (typed-stable H (p .declarations)) (p .program) program-keeps (takeReadings 0 readings (started p budget)) (readings-typed readings budget)
+
+  pub run-safe : (readings : List Reading) → Every (ReadsNumber (p .declarations)) readings → (budget : ℕ) → RunErrors (runMet p readings budget)
+  unfolding runMet
+  run-safe readings ns budget =
+      let ds = p .declarations in
+      every-append
+      (readings-quiet (StateTyped H ds) (typed-stable H ds) 0 readings (every-all (typed-reading H ds) readings) (every-implies (quiet-reading H ds) ns) (started p budget) (start-typed budget))
+      (exec-quiet (StateTyped H ds) (typed-stable H ds) (p .program) program-keeps (everywhere-implies (derived-quiet H ds) both)
+      (takeReadings 0 readings (started p budget)) (readings-typed readings budget))

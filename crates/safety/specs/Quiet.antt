@@ -6,14 +6,14 @@ use mathlib.Core.List.{List, [], _∷_, _++_}
 use Prim.Native.Nat.{ℕ, zero, suc}
 use lib.Dec.{eqb}
 use Rattle.lingua.specs.Errors.{no-error}
-use Rattle.lingua.specs.Outcome.{Outcome, ok, fail, Result}
-use Rattle.lingua.specs.Expression.{Expression, Yoke, Instruction, skip, assign, set-yoke, sequence, branch, loop, handle}
+use Rattle.lingua.specs.Outcome.{ok, fail, Result}
+use Rattle.lingua.specs.Expression.{Expression, Instruction, skip, assign, set-yoke, sequence, branch, loop, handle}
 use Rattle.lingua.specs.Evaluation.{eval, evalTest, no-current}
-use Rattle.lingua.specs.Store.{Variable, variableAt, contents, Reading}
+use Rattle.lingua.specs.Store.{variableAt, contents, Reading}
 use Rattle.lingua.specs.Run.{State, Progress, going, out, withLeft, withError, exec, takenUnless, lastState}
 use Rattle.lingua.specs.Meets.{onAnswer, onTrue, met, yokeChecksMet, assignMet, testMet, onFilled, stepMet, actMet, onActing, onGoing, onDecided, onHandled, repeatMet, execMet, readingMet, readingsMet}
 use Rattle.safety.specs.Every.{Every, every-none, every-more, every-append}
-use Rattle.safety.specs.Everywhere.{Everywhere, at-skip, at-assign, at-set-yoke, at-sequence, at-branch, at-loop, at-handle}
+use Rattle.safety.specs.Everywhere.{Everywhere, at-assign, at-set-yoke, at-sequence, at-branch, at-loop, at-handle}
 use Rattle.safety.specs.Runs.{Stable, Keeps, KeepsReading, exec-keeps, taken-keeps}
 use Rattle.safety.specs.RunErrors.{RunErrors}
 

@@ -2,27 +2,27 @@
 -- passes, applying it gives no type error, and neither do the checks of one operand alone. Assumes nothing.
 use mathlib.Core.Path.{_≡_, refl, sym, ap, _∙_, subst}
 use mathlib.Core.Bool.{Bool, true, false, not, _&&_, _||_}
-use mathlib.Core.List.{List, [], _∷_, _++_}
-use mathlib.Core.Option.{Option, some, none}
-use Prim.Native.Nat.{ℕ, zero, suc, _+_, _≤_, _<_}
+use mathlib.Core.List.{List}
+use mathlib.Core.Option.{Option, some}
+use Prim.Native.Nat.{ℕ, suc, _+_, _<_}
 use native.Mathlib.Omega.{arith}
-use lib.Dec.{eqb, ltb, leb}
+use lib.Dec.{ltb, leb}
 use lib.ListN.{length}
 use lib.IntN.{ℤ, pos, _+ℤ_, _-ℤ_, _*ℤ_}
 use borrow.Author.Tests.{ltb-false, lt-ltb, not-true}
 use Rattle.lingua.specs.Numbers.{word-length, list-places, body-cells, body-nodes, body-depth, record-attributes}
-use Rattle.lingua.specs.Errors.{first-type-error, overflow, division-by-zero, list-full, word-too-long, number-expected, boolean-expected, word-expected, list-expected, record-expected, no-such-attribute, attribute-present, no-coherence, not-comparable, body-too-large}
-use Rattle.lingua.specs.Outcome.{Outcome, ok, fail, Result, _>>=_, _>>_, require, orFail, if_then_else_}
-use Rattle.lingua.specs.Body.{Body, boolean, number, list-of, record-of, Attributes, end, attribute, size, nodes, depth, countAttributes, width, tooLarge, isBoolean, isNumber, isWord, isSimple, sameBody, elementBody, attributesOf, attributeBody, insertAttribute}
+use Rattle.lingua.specs.Errors.{first-type-error, overflow, division-by-zero, list-full, word-too-long, number-expected, word-expected, list-expected, record-expected, no-such-attribute, attribute-present, not-comparable, body-too-large}
+use Rattle.lingua.specs.Outcome.{ok, fail, Result, _>>=_, _>>_, require, orFail, if_then_else_}
+use Rattle.lingua.specs.Body.{Body, boolean, number, record-of, Attributes, end, attribute, size, nodes, depth, countAttributes, width, tooLarge, isBoolean, isNumber, isWord, isSimple, sameBody, elementBody, attributesOf, attributeBody, insertAttribute}
 use Rattle.lingua.specs.Value.{Value, Fits, Values, no-items, item, countValues, inRange, asTruth, asWhole, asText, asItems, Composite, composite}
 use Rattle.lingua.specs.Operation.{Unary, negation, make-record, select, make-list, top, pop, Binary, add, subtract, multiply, divide, less, equal, glue, expand, change, push, bounded, present, unaryBody, numbersTo, binaryBody}
-use Rattle.lingua.specs.Compute.{ranged, sameNumber, quotient, divided, glued, pushed, topOf, popOf, withLast, unaryValue, binaryValue}
+use Rattle.lingua.specs.Compute.{ranged, sameNumber, divided, glued, pushed, topOf, popOf, unaryValue, binaryValue}
 use Rattle.lingua.specs.Evaluation.{applyUnary, applyBinary, truthOr}
 use Rattle.lingua.specs.Meets.{errorIn, onAnswer, unlessMet, expandMet, changeMet, pushMet, firstMet, divisorMet, secondMet, binaryMet}
 use Rattle.laws.specs.Outcomes.{false-is-true, required, asked, and-left, and-right, same-body}
 use Rattle.laws.specs.Sound.{unary-sound, binary-sound}
 use Rattle.safety.specs.Answers.{same-answer, never-ok, or-right}
-use Rattle.safety.specs.Every.{Every, every-none, every-more, every-append, every-one}
+use Rattle.safety.specs.Every.{Every, every-none, every-append, every-one}
 use Rattle.safety.specs.Constants.{Fitting}
 
 -- errors 1 to 7 only, no type error

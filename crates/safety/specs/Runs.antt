@@ -1,19 +1,19 @@
 -- What every assignment, yoke change and reading keeps, a whole run keeps, wherever the budget stops it: `exec-keeps`, `readings-keep`.
 -- Assumes nothing.
-use mathlib.Core.Path.{_≡_, refl, sym, ap, _∙_, subst}
+use mathlib.Core.Path.{_≡_, refl}
 use mathlib.Core.Bool.{Bool, true, false}
 use mathlib.Core.List.{List, [], _∷_}
 use Prim.Native.Nat.{ℕ, zero, suc, _+_}
 use lib.Dec.{eqb}
 use Rattle.lingua.specs.Numbers.{reading-place}
 use Rattle.lingua.specs.Errors.{no-error}
-use Rattle.lingua.specs.Outcome.{Outcome, ok, fail, Result, _>>=_}
-use Rattle.lingua.specs.Expression.{Expression, Yoke, Instruction, skip, assign, set-yoke, sequence, branch, loop, handle}
+use Rattle.lingua.specs.Outcome.{ok, fail, Result, _>>=_}
+use Rattle.lingua.specs.Expression.{Instruction, skip, assign, set-yoke, sequence, branch, loop, handle}
 use Rattle.lingua.specs.Evaluation.{eval, evalTest, no-current}
 use Rattle.lingua.specs.Store.{Variable, contents, assigned, yokeChanged, Reading, readingTaken}
 use Rattle.lingua.specs.Run.{State, Progress, going, out, withStore, withError, withLeft, settled, proceed, stepWith, step, unlessError, act, decided, handled, repeat, exec, takenUnless, takeReadings, lastState}
-use Rattle.safety.specs.Everywhere.{Everywhere, at-skip, at-assign, at-set-yoke, at-sequence, at-branch, at-loop, at-handle}
-use Rattle.safety.specs.Every.{Every, every-none, every-more}
+use Rattle.safety.specs.Everywhere.{Everywhere, at-assign, at-set-yoke, at-sequence, at-branch, at-loop, at-handle}
+use Rattle.safety.specs.Every.{Every, every-more}
 
 -- a property of states that recorded errors and steps taken leave alone
 pub record Stable (P : State → Type 0) : Type 0 where

@@ -1,16 +1,15 @@
 -- Where sections ascend, the rows of a section's table are rows of the file in that section: `row-in-section`. Assumes nothing.
-use mathlib.Core.Path.{_≡_, refl, sym, ap, _∙_, subst}
+use mathlib.Core.Path.{_≡_, refl, sym, ap, subst}
 use mathlib.Core.Logic.{_≢_}
 use mathlib.Core.Bool.{Bool, true, false}
 use mathlib.Core.List.{List}
 use Prim.Native.Nat.{ℕ, zero, suc, _+_, _-_, _≤_, _<_}
 use native.Mathlib.Numerals.{add-one}
 use native.Mathlib.Omega.{arith}
-use lib.Dec.{eqb, ltb, leb}
-use borrow.Author.Tests.{eqb-true, eqb-false, ltb-true, ltb-false, leb-true, lt-ltb, le-ltb}
+use lib.Dec.{eqb, ltb}
+use borrow.Author.Tests.{eqb-true, eqb-false, ltb-true, ltb-false, leb-true, lt-ltb}
 use Rattle.lingua.specs.Outcome.{if_then_else_}
 use Rattle.lingua.specs.Rows.{rowCount, sectionAt, countBelow, tableStart, tableCount, rowIn}
-use Rattle.lingua.specs.Format.{everyBelow}
 use Rattle.lingua.specs.Rules.{ascending}
 use Rattle.safety.specs.Every.{below-true}
 
@@ -56,10 +55,7 @@ module _ (sec : ℕ → ℕ) where
   count-split zero s = refl
   count-split (suc n) s = omega (arith, count-split n s, split-one (sec n) s)
 
-  -- sections ascend, so those below s come first
-  pub Ascends : ℕ → Type 0
-  Ascends n = (i : ℕ) → suc i < n → sec i ≤ sec (suc i)
-
+-- sections ascend, so those below s come first
 module _ (sec : ℕ → ℕ) (s : ℕ) where
   upwards : (n : ℕ) → ((i : ℕ) → suc i < n → sec i ≤ sec (suc i)) → (i k : ℕ) → i + k < n → sec i ≤ sec (i + k)
   upwards n h i zero l = subst (λ (j : ℕ). sec i ≤ sec j) (let e : i ≡ i + zero = omega arith in e) (omega arith)

@@ -5,15 +5,14 @@ use mathlib.Core.Bool.{Bool, true, false, _&&_}
 use mathlib.Core.List.{List, [], _∷_}
 use mathlib.Core.Option.{Option, some, none}
 use Prim.Native.Nat.{ℕ, zero, suc}
-use lib.ListN.{getD, set}
-use lib.IntN.{ℤ}
+use lib.ListN.{set}
 use Rattle.lingua.specs.Errors.{overflow, yoke-not-satisfied, no-coherence, yoke-expected}
-use Rattle.lingua.specs.Outcome.{Outcome, ok, fail, Result, _>>=_, _>>_, require}
-use Rattle.lingua.specs.Body.{Body, number, sameBody}
-use Rattle.lingua.specs.Value.{Value, whole, fit-whole, inRange, asWhole, Composite, composite}
+use Rattle.lingua.specs.Outcome.{ok, Result, _>>=_, require}
+use Rattle.lingua.specs.Body.{number, sameBody}
+use Rattle.lingua.specs.Value.{whole, fit-whole, inRange, asWhole, Composite, composite}
 use Rattle.lingua.specs.Expression.{Yoke}
 use Rattle.lingua.specs.Evaluation.{Variables, truthOr, booleanOf, evalYoke}
-use Rattle.lingua.specs.Store.{Variable, no-variable, variableAt, contents, withContent, withYoke, within, admitted, assigned, yokeHolds, yokeChanged, Reading, readingTaken}
+use Rattle.lingua.specs.Store.{Variable, variableAt, contents, withContent, withYoke, within, admitted, assigned, yokeHolds, yokeChanged, Reading, readingTaken}
 use Rattle.laws.specs.Outcomes
 use Rattle.laws.specs.Outcomes.{and-left, and-right}
 use Rattle.safety.specs.Answers.{same-answer, never-ok, bound, demanded, after, none-is-some}

@@ -1,26 +1,26 @@
 -- The type check is sound for expressions: what it passes gives a value that fits the body it found, or a run error, and meets no type
--- error, on any store whose filled variables fit their declared bodies and any current value that fits: `check-sound`. Assumes nothing.
+-- error, on any store whose filled variables fit their declared bodies and any current value that fits: `derived-sound`, `check-sound`.
+-- Assumes nothing.
 use mathlib.Core.Path.{_≡_, refl, sym, ap, _∙_, subst}
-use mathlib.Core.Bool.{Bool, true, false, not, _&&_, Bool·beq}
-use mathlib.Core.List.{List, [], _∷_, _++_, map}
+use mathlib.Core.Bool.{Bool, true, false, not, Bool·beq}
+use mathlib.Core.List.{List, _∷_, _++_, map}
 use mathlib.Core.Option.{Option, some, none}
-use Prim.Native.Nat.{ℕ, _≤_, _<_}
+use Prim.Native.Nat.{ℕ, _<_}
 use native.Mathlib.Omega.{arith}
-use Rattle.lingua.specs.Errors.{first-type-error, boolean-expected, list-expected, no-coherence, yoke-expected, not-filled}
-use Rattle.lingua.specs.Outcome.{Outcome, ok, fail, Result, _>>=_, _>>_, require, orFail, if_then_else_, allAnswers}
-use Rattle.lingua.specs.Body.{Body, boolean, list-of, size, sameBody, isBoolean, elementBody}
-use Rattle.lingua.specs.Value.{Value, truth, Values, no-items, item, Fits, fit-truth, AllFit, fit-none, fit-item, asTruth, asItems, valueList, allOf, Composite, composite}
+use Rattle.lingua.specs.Errors.{first-type-error, boolean-expected, list-expected, yoke-expected, not-filled}
+use Rattle.lingua.specs.Outcome.{ok, fail, Result, _>>=_, _>>_, require, orFail, if_then_else_, allAnswers}
+use Rattle.lingua.specs.Body.{Body, boolean, isBoolean, elementBody}
+use Rattle.lingua.specs.Value.{Values, Fits, fit-truth, AllFit, fit-none, fit-item, asTruth, asItems, valueList, allOf, Composite, composite}
 use Rattle.lingua.specs.Operation.{unaryBody, binaryBody}
 use Rattle.lingua.specs.Expression.{settledBy, Expression, constant, variable, current, unary, binary, lazy, choice, all-list}
-use Rattle.lingua.specs.Evaluation.{Variables, applyUnary, applyBinary, truthOr, booleanOf, allTrue, elementsOf, eval}
-use Rattle.lingua.specs.Typing.{TypeError, typeError, Entry, Typed, located, typed, unarySecond, binarySecond, Bodies, check}
+use Rattle.lingua.specs.Evaluation.{Variables, applyUnary, truthOr, booleanOf, allTrue, elementsOf, eval}
+use Rattle.lingua.specs.Typing.{Entry, Typed, Bodies, check, joined}
 use Rattle.lingua.specs.Meets.{errorIn, onAnswer, onTrue, notBoolean, met}
-use Rattle.lingua.specs.Typing.{joined}
-use Rattle.laws.specs.Outcomes.{orFail-ok, and-both, same-body, is-boolean, is-list}
+use Rattle.laws.specs.Outcomes.{and-both, is-list}
 use Rattle.laws.specs.Sound.{fit-list}
-use Rattle.safety.specs.Answers.{same-answer, bound, demanded, located-answer}
 use Rattle.safety.specs.Every.{Every, every-none, every-more, every-append, every-map, every-implies, every-joined}
-use Rattle.safety.specs.Constants.{Fitting, ConstantsFit}
+use Rattle.safety.specs.Constants.{Fitting, ConstantsHave, ConstantsFit}
+use Rattle.safety.specs.Derivation.{anything, Derived, of-constant, of-variable, of-current, of-unary, of-binary, of-lazy, of-choice, of-all-list, check-derives}
 use Rattle.safety.specs.RunErrors.{RunErrors, Good, gives, stops, good-as, good-then, answer-met, error-met, truth-then, truth-met, truth-answer-met, unary-good, binary-good, binary-met}
 
 -- every filled variable fits its declared body
@@ -31,9 +31,6 @@ VariablesFit vars st = (n : ℕ) (x : Composite) → st n ≡ some x → (x .bod
 pub record Safe (b : Body) (r : Result Composite) (ns : List ℕ) : Type 0 where
   pub good : Good b r
   pub meets : RunErrors ns
-
-pub typed-body : (r : ℕ) (cur b : Body) (second : ℕ) (es : List Entry) (t : Typed) → typed r cur b second es ≡ ok t → b ≡ t .body
-typed-body r cur b second es t e = ap (λ (u : Typed). u .body) (same-answer e)
 
 safe-as : {b c : Body} {r : Result Composite} {ns : List ℕ} → b ≡ c → Safe b r ns → Safe c r ns
 safe-as e s = record { good = good-as e (s .good); meets = s .meets }
@@ -112,72 +109,39 @@ module _ (vars : Bodies) (st : Variables) (fit : VariablesFit vars st) where
   chosen-good true b p q g h = g
   chosen-good false b p q g h = h
 
+  pub derived-sound : {H : Entry → Type 0} (e : Expression) → ConstantsFit e → (cur : Composite) → Fitting cur → {b : Body} → Derived H vars e (cur .body) b → Safe b (eval e st cur) (met e st cur)
+  unfolding ConstantsHave eval met
+  derived-sound (constant r c) h cur k (of-constant q x) = record { good = gives q h; meets = every-none }
+  derived-sound (variable r n) h cur k (of-variable q x) = let g = good-as q (variable-good n) in record { good = g; meets = error-met g }
+  derived-sound (current r) h cur k (of-current q x) = record { good = gives q k; meets = every-none }
+  derived-sound (unary r o e) h cur k {b} (of-unary {c = c} d q x) =
+      let s = derived-sound e h cur k d in
+      let g : (y : Composite) → y .body ≡ c → Fitting y → Good b (applyUnary o y) = λ y u f. unary-good o y b f (ap (λ (a : Body). unaryBody o a) u ∙ q) in
+      record { good = good-then (s .good) g; meets = every-append (s .meets) (answer-met (s .good) (λ y u f. error-met (g y u f))) }
+  derived-sound (binary r o e f) h cur k {b} (of-binary {c = c} d g q x) =
+      let s = derived-sound e (h .0) cur k d in
+      let t = derived-sound f (h .1) cur k g in
+      record { good = good-then (s .good) (λ u p m. good-then (t .good) (λ w v n. binary-good o u w b m n (ap (λ (a : Body). binaryBody o a (w .body)) p ∙ ap (λ (a : Body). binaryBody o c a) v ∙ q))); meets = every-append (every-append (s .meets) (t .meets)) (binary-met o b (s .good) (t .good) q) }
+  derived-sound (lazy r c e f) h cur k (of-lazy d g q x) =
+      let s = derived-sound e (h .0) cur k d in
+      let t = derived-sound f (h .1) cur k g in
+      safe-as q (record { good = good-then (s .good) (λ z u i. truth-then (Good boolean) boolean-expected z _ u (λ v. lazy-good (Bool·beq v (settledBy c)) v (eval f st cur) (t .good))); meets = every-append (s .meets) (answer-met (s .good) (λ z u i. every-append (truth-met boolean-expected z u) (truth-answer-met boolean-expected z _ u (λ v. on-true (not (Bool·beq v (settledBy c))) _ (every-append (t .meets) (answer-met (t .good) (λ w p j. truth-met boolean-expected w p))))))) })
+  derived-sound (choice r c e f) h cur k {b} (of-choice p d g x) =
+      let a = derived-sound c (h .0) cur k p in
+      let s = derived-sound e (h .1) cur k d in
+      let t = derived-sound f (h .2) cur k g in
+      record { good = good-then (a .good) (λ z u i. truth-then (Good b) boolean-expected z _ u (λ v. chosen-good v b (eval e st cur) (eval f st cur) (s .good) (t .good))); meets = every-append (a .meets) (answer-met (a .good) (λ z u i. every-append (truth-met boolean-expected z u) (truth-answer-met boolean-expected z _ u (λ v. every-append (on-true v _ (s .meets)) (on-true (not v) _ (t .meets)))))) }
+  derived-sound {H} (all-list r e) h cur k (of-all-list {c = c} is d q x) =
+      let elements : List Composite = map (λ v. composite c v) (valueList (asItems (cur .value))) in
+      let each : Every (λ w. Safe boolean (eval e st w) (met e st w)) elements =
+      every-implies (λ w p. derived-sound e h w (p .1) (subst (λ (a : Body). Derived H vars e a boolean) (sym (p .0)) d)) (elements-fitting cur c is k) in
+      let goods = every-map (λ w. eval e st w) (λ w s. s .good) each in
+      safe-as q
+      (subst (λ (o : Result (List Composite)). Safe boolean (o >>= λ ws. allTrue (map (λ w. eval e st w) ws)) (errorIn o ++ onAnswer o (λ ws. joined (map (λ w. met e st w) ws) ++ notBoolean (map (λ w. eval e st w) ws))))
+      (sym (elements-are cur c is))
+      (record { good = all-good (map (λ w. eval e st w) elements) goods; meets = every-append (every-joined (every-map (λ w. met e st w) (λ w s. s .meets) each)) (not-boolean-met goods) }))
+
   pub check-sound : (e : Expression) → ConstantsFit e → (cur : Composite) → Fitting cur → (t : Typed) → check e vars (cur .body) ≡ ok t
       → Safe (t .body) (eval e st cur) (met e st cur)
-  unfolding ConstantsFit check eval met
-  check-sound (constant r c) h cur k t q =
-      record { good = gives (typed-body r (cur .body) (c .body) 0 [] t q) h; meets = every-none }
-  check-sound (variable r n) h cur k t q =
-      let g = good-as (typed-body r (cur .body) (vars n) 0 [] t q) (variable-good n) in
-      record { good = g; meets = error-met g }
-  check-sound (current r) h cur k t q =
-      record { good = gives (typed-body r (cur .body) (cur .body) 0 [] t q) k; meets = every-none }
-  check-sound (unary r o e) h cur k t q =
-      let a = bound (check e vars (cur .body)) _ t q in
-      let x = a .0 in
-      let b = bound (located r (unaryBody o (x .body))) _ t (a .2) in
-      let made = located-answer r (unaryBody o (x .body)) (b .0) (b .1) in
-      let ih = check-sound e h cur k x (a .1) in
-      let g : (y : Composite) → y .body ≡ x .body → Fitting y → Good (b .0) (applyUnary o y) = λ y u f. unary-good o y (b .0) f (ap (λ (c : Body). unaryBody o c) u ∙ made) in
-      safe-as (typed-body r (cur .body) (b .0) (unarySecond o (x .body)) (x .entries) t (b .2))
-      (record { good = good-then (ih .good) g; meets = every-append (ih .meets) (answer-met (ih .good) (λ y u f. error-met (g y u f))) })
-  check-sound (binary r o e f) h cur k t q =
-      let a = bound (check e vars (cur .body)) _ t q in
-      let x = a .0 in
-      let b = bound (check f vars (cur .body)) _ t (a .2) in
-      let y = b .0 in
-      let c = bound (located r (binaryBody o (x .body) (y .body))) _ t (b .2) in
-      let made = located-answer r (binaryBody o (x .body) (y .body)) (c .0) (c .1) in
-      let ih = check-sound e (h .0) cur k x (a .1) in
-      let jh = check-sound f (h .1) cur k y (b .1) in
-      safe-as (typed-body r (cur .body) (c .0) (binarySecond o (c .0)) (x .entries ++ y .entries) t (c .2))
-      (record { good = good-then (ih .good) (λ u p m. good-then (jh .good) (λ w s n. binary-good o u w (c .0) m n (ap (λ (d : Body). binaryBody o d (w .body)) p ∙ ap (λ (d : Body). binaryBody o (x .body) d) s ∙ made))); meets = every-append (every-append (ih .meets) (jh .meets)) (binary-met o (c .0) (ih .good) (jh .good) made) })
-  check-sound (lazy r c e f) h cur k t q =
-      let a = bound (check e vars (cur .body)) _ t q in
-      let x = a .0 in
-      let m = demanded (isBoolean (x .body)) (typeError boolean-expected r) _ t (a .2) in
-      let b = bound (check f vars (cur .body)) _ t (m .1) in
-      let y = b .0 in
-      let n = demanded (isBoolean (y .body)) (typeError boolean-expected r) _ t (b .2) in
-      let ih = safe-as (is-boolean (x .body) (m .0)) (check-sound e (h .0) cur k x (a .1)) in
-      let jh = safe-as (is-boolean (y .body) (n .0)) (check-sound f (h .1) cur k y (b .1)) in
-      safe-as (typed-body r (cur .body) boolean 0 (x .entries ++ y .entries) t (n .1))
-      (record { good = good-then (ih .good) (λ z u i. truth-then (Good boolean) boolean-expected z _ u (λ s. lazy-good (Bool·beq s (settledBy c)) s (eval f st cur) (jh .good))); meets = every-append (ih .meets) (answer-met (ih .good) (λ z u i. every-append (truth-met boolean-expected z u) (truth-answer-met boolean-expected z _ u (λ s. on-true (not (Bool·beq s (settledBy c))) _ (every-append (jh .meets) (answer-met (jh .good) (λ w v j. truth-met boolean-expected w v))))))) })
-  check-sound (choice r c e f) h cur k t q =
-      let a = bound (check c vars (cur .body)) _ t q in
-      let x = a .0 in
-      let m = demanded (isBoolean (x .body)) (typeError boolean-expected r) _ t (a .2) in
-      let b = bound (check e vars (cur .body)) _ t (m .1) in
-      let y = b .0 in
-      let d = bound (check f vars (cur .body)) _ t (b .2) in
-      let z = d .0 in
-      let n = demanded (sameBody (y .body) (z .body)) (typeError no-coherence r) _ t (d .2) in
-      let ih = safe-as (is-boolean (x .body) (m .0)) (check-sound c (h .0) cur k x (a .1)) in
-      let jh = check-sound e (h .1) cur k y (b .1) in
-      let kh = safe-as (sym (same-body (y .body) (z .body) (n .0))) (check-sound f (h .2) cur k z (d .1)) in
-      safe-as (typed-body r (cur .body) (y .body) 0 (x .entries ++ (y .entries ++ z .entries)) t (n .1))
-      (record { good = good-then (ih .good) (λ u p i. truth-then (Good (y .body)) boolean-expected u _ p (λ s. chosen-good s (y .body) (eval e st cur) (eval f st cur) (jh .good) (kh .good))); meets = every-append (ih .meets) (answer-met (ih .good) (λ u p i. every-append (truth-met boolean-expected u p) (truth-answer-met boolean-expected u _ p (λ s. every-append (on-true s _ (jh .meets)) (on-true (not s) _ (kh .meets)))))) })
-  check-sound (all-list r e) h cur k t q =
-      let a = bound (located r (orFail (elementBody (cur .body)) list-expected)) _ t q in
-      let b = a .0 in
-      let is = orFail-ok (elementBody (cur .body)) list-expected b (located-answer r (orFail (elementBody (cur .body)) list-expected) b (a .1)) in
-      let c = bound (check e vars b) _ t (a .2) in
-      let x = c .0 in
-      let n = demanded (isBoolean (x .body)) (typeError yoke-expected r) _ t (c .2) in
-      let each : Every (λ w. Safe boolean (eval e st w) (met e st w)) (map (λ v. composite b v) (valueList (asItems (cur .value)))) =
-      every-implies (λ w p. safe-as (is-boolean (x .body) (n .0)) (check-sound e h w (p .1) x (ap (λ (d : Body). check e vars d) (p .0) ∙ c .1))) (elements-fitting cur b is k) in
-      let goods = every-map (λ w. eval e st w) (λ w s. s .good) each in
-      safe-as (typed-body r (cur .body) boolean (size b) (x .entries) t (n .1))
-      (subst (λ (o : Result (List Composite)). Safe boolean (o >>= λ ws. allTrue (map (λ w. eval e st w) ws)) (errorIn o ++ onAnswer o (λ ws. joined (map (λ w. met e st w) ws) ++ notBoolean (map (λ w. eval e st w) ws))))
-      (sym (elements-are cur b is))
-      (record { good = all-good _ goods; meets = every-append (every-joined (every-map (λ w. met e st w) (λ w s. s .meets) each)) (not-boolean-met goods) }))
+  check-sound e h cur k t q =
+      derived-sound e h cur k (check-derives vars e (cur .body) t q (anything (t .entries)))

@@ -1,5 +1,5 @@
 -- `arith::checked` meets its contract: each of its three ends has its law in `Range`. Assumes nothing.
-use mathlib.Core.Path.{_≡_, ap, sym, _∙_}
+use mathlib.Core.Path.{ap, _∙_}
 use mir.ValLaws.{toZ-ofZ}
 use Rattle.arith.specs.declared.Number.the-variants.{Whole}
 use Rattle.arith.proofs.Range.{checked-low, checked-high, checked-within}

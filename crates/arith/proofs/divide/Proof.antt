@@ -1,6 +1,5 @@
 -- `arith::divide` meets its contract: the bits of a divisor are 0 for 0 alone. Assumes nothing.
-use mathlib.Core.Path.{_≡_, ap, _∙_}
-use lib.IntN.{pos}
+use mathlib.Core.Path.{ap, _∙_}
 use mir.Syntax.{w64}
 use mir.Val.{ofZ}
 use mir.ValLaws.{toZ-ofZ}

@@ -1,5 +1,4 @@
 -- `arith::quotient` meets its contract: the machine cuts toward zero, and the quotient fits. Assumes nothing.
-use mathlib.Core.Path.{_≡_, ap, _∙_}
 use mir.ValLaws.{toZ-ofZ}
 use Rattle.lingua.specs.Compute.{quotient}
 use Rattle.arith.proofs.Range.{quotient-fits, zero-bits}

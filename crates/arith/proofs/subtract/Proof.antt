@@ -1,5 +1,5 @@
 -- `arith::subtract` meets its contract: the machine's result fits, so it is the exact one. Assumes nothing.
-use mathlib.Core.Path.{_≡_, ap, _∙_}
+use mathlib.Core.Path.{ap, _∙_}
 use lib.IntN.{ℤ}
 use borrow.Author.Needs.{needs}
 use mir.ValLaws.{toZ-ofZ}

@@ -6,13 +6,15 @@ use Prim.Native.Nat.{ℕ, _-_, _*_, _≤_, _+_}
 use native.Mathlib.Omega.{arith}
 use lib.ListN.{length, drop}
 use borrow.Rule.Slice.PartMut.{same-len-mid}
+use Rattle.lingua.specs.Numbers.{area-bytes}
 use Rattle.lingua.specs.Format.{areasFrom, blockCount}
-use Rattle.blocks.proofs.Steps.{length-source, length-target, gather-next}
+use Rattle.laws.specs.Parts.{length-part}
+use Rattle.blocks.proofs.Steps.{length-source, gather-next}
 use Rattle.blocks.proofs.rows.gather.Statement.{statement}
 use Rattle.blocks.proofs.rows.gather.Tie as tie
 
 abbrev Inv-loop : tie.InvT-loop
-Inv-loop file areas₀ count k₀ areas k = (k ≤ count) × (length areas ≡ length areas₀) × (areas ≡ areasFrom 0 k file ++ drop (500 * k) areas₀)
+Inv-loop file areas₀ count k₀ areas k = (k ≤ count) × (length areas ≡ length areas₀) × (areas ≡ areasFrom 0 k file ++ drop (area-bytes * k) areas₀)
 
 abbrev μ-loop : tie.MeasureT-loop
 μ-loop file areas₀ count k₀ areas k = count - k
@@ -57,7 +59,7 @@ part-copy-end-2 c = search needs
 
 copy-requires : tie.Need-copy-requires Inv-loop μ-loop
 unfolding blockCount
-copy-requires c κs = omega (arith, length-source (c .before .before .before .before .before .before .args .file .now) (c .before .before .before .loop .k) (omega arith), length-target (c .before .before .before .loop .areas) (c .before .before .before .loop .k) (omega arith))
+copy-requires c κs = omega (arith, length-source (c .before .before .before .before .before .before .args .file .now) (c .before .before .before .loop .k) (omega arith), length-part (c .before .before .before .loop .areas) (area-bytes * c .before .before .before .loop .k) area-bytes (omega arith))
 
 add-k : tie.Need-add-k Inv-loop μ-loop
 add-k c = search needs
@@ -69,7 +71,7 @@ loop-again : tie.Need-loop-again Inv-loop μ-loop
 unfolding blockCount
 loop-again c = (
   omega arith,
-  same-len-mid (500 * c .before .before .before .before .before .before .loop .k) (500 * c .before .before .before .before .before .before .loop .k + 500 - 500 * c .before .before .before .before .before .before .loop .k) (c .before .before .before .before .before .before .loop .areas) (c .before .before .copy .last .1 .0) (c .before .before .copy .kept .1 .0) ∙ c .before .before .before .before .before .before .loop .inv .1,
+  same-len-mid (area-bytes * c .before .before .before .before .before .before .loop .k) (area-bytes * c .before .before .before .before .before .before .loop .k + area-bytes - area-bytes * c .before .before .before .before .before .before .loop .k) (c .before .before .before .before .before .before .loop .areas) (c .before .before .copy .last .1 .0) (c .before .before .copy .kept .1 .0) ∙ c .before .before .before .before .before .before .loop .inv .1,
   gather-next (c .before .before .before .before .before .before .before .before .before .args .file .now) (c .before .before .before .before .before .before .before .before .before .args .areas .now) (c .before .before .before .before .before .before .loop .areas) (c .before .before .copy .last .1 .0) (c .before .before .before .before .before .before .loop .k) (omega arith) (omega arith) (c .before .before .before .before .before .before .loop .inv .2) (c .before .before .copy .ensures .1),
 )
 
@@ -80,7 +82,7 @@ returns : tie.Need-returns Inv-loop μ-loop
 unfolding blockCount
 returns c =
     let n : c .before .loop .k ≡ blockCount (c .before .before .before .before .args .file .now) = omega arith in
-    c .before .loop .inv .2 ∙ ap (λ (m : ℕ). areasFrom 0 m (c .before .before .before .before .args .file .now) ++ drop (500 * m) (c .before .before .before .before .args .areas .now)) n
+    c .before .loop .inv .2 ∙ ap (λ (m : ℕ). areasFrom 0 m (c .before .before .before .before .args .file .now) ++ drop (area-bytes * m) (c .before .before .before .before .args .areas .now)) n
 
 pub gather-spec : {M : Type 1} → statement M
 gather-spec =

@@ -5,6 +5,7 @@ use native.Mathlib.Omega.{arith}
 use Prim.Native.Nat.{_-_, _*_, _/_}
 use lib.ListN.{length}
 use lib.Seq.{length-take-le}
+use Rattle.lingua.specs.Numbers.{area-bytes, block-bytes}
 use Rattle.lingua.specs.Format.{blockCount}
 use Rattle.blocks.proofs.Steps.{gathered}
 use Rattle.blocks.proofs.rows.gather_rows.Statement.{statement}
@@ -22,7 +23,7 @@ slice-reshare-prefix-used-rows c = omega (arith, c .before .before .gather .kept
 
 slice-aggregate-used-rows : tie.Need-slice-aggregate-used-rows
 unfolding blockCount
-slice-aggregate-used-rows c = sym (length-take-le (500 * (length (c .before .before .before .before .before .before .before .args .file .now) / 512)) (c .before .before .before .gather .last .1 .0) (omega (arith, c .before .before .before .gather .kept .1 .0, c .before .before .before .before .before .before .before .pre)))
+slice-aggregate-used-rows c = sym (length-take-le (area-bytes * (length (c .before .before .before .before .before .before .before .args .file .now) / block-bytes)) (c .before .before .before .gather .last .1 .0) (omega (arith, c .before .before .before .gather .kept .1 .0, c .before .before .before .before .before .before .before .pre)))
 
 used-rows-requires : tie.Need-used-rows-requires
 used-rows-requires c κs = search needs

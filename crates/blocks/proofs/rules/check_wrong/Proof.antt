@@ -6,6 +6,7 @@ use mathlib.Core.List.{List}
 use Prim.Native.Nat.{ℕ, _-_, _≤_}
 use lib.Dec.{eqb}
 use lib.ListN.{length}
+use Rattle.lingua.specs.Numbers.{check-place}
 use Rattle.lingua.specs.Rows.{word32}
 use Rattle.lingua.specs.Format.{everyBelow, blockAt, blockCheck, blockCount, checkWrong}
 use Rattle.laws.specs.Blocks.{part-block, length-block}
@@ -15,7 +16,7 @@ use Rattle.blocks.proofs.rules.check_wrong.Tie as tie
 
 -- a block has the check that its words give
 abbrev right : ℕ → List ℕ → Bool
-right j block = eqb (word32 block 508) (blockCheck block)
+right j block = eqb (word32 block check-place) (blockCheck block)
 
 abbrev Inv-loop : tie.InvT-loop
 Inv-loop file count k₀ k = (k ≤ count) × (everyBelow k (λ j. right j (blockAt file j)) ≡ true)

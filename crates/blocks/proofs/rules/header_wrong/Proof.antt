@@ -6,6 +6,7 @@ use mathlib.Core.List.{List}
 use Prim.Native.Nat.{ℕ, _-_, _≤_, _/_}
 use native.Mathlib.Omega.{arith}
 use lib.ListN.{length}
+use Rattle.lingua.specs.Numbers.{block-bytes}
 use Rattle.lingua.specs.Format.{File, everyBelow, blockAt, blockCount}
 use Rattle.lingua.specs.Answers.{fileMeaning}
 use Rattle.laws.specs.Blocks.{part-block, length-block}
@@ -58,7 +59,7 @@ header-fits-requires c κs =
 returns-2 : tie.Need-returns-2 Inv-loop μ-loop
 unfolding blockCount
 returns-2 c =
-    sym (wrong-at (c .before .before .before .before .before .before .before .before .args .file .now) (right (fileMeaning (c .before .before .before .before .before .before .before .before .args .kind)) (length (c .before .before .before .before .before .before .before .before .args .file .now) / 512) (c .before .before .before .before .before .word16-at .result)) (c .before .before .before .before .loop .k) (c .before .header-fits .result) (c .before .header-fits .ensures) (c .if2 .taken) (search needs))
+    sym (wrong-at (c .before .before .before .before .before .before .before .before .args .file .now) (right (fileMeaning (c .before .before .before .before .before .before .before .before .args .kind)) (length (c .before .before .before .before .before .before .before .before .args .file .now) / block-bytes) (c .before .before .before .before .before .word16-at .result)) (c .before .before .before .before .loop .k) (c .before .header-fits .result) (c .before .header-fits .ensures) (c .if2 .taken) (search needs))
     ∙ header-is (fileMeaning (c .before .before .before .before .before .before .before .before .args .kind)) (c .before .before .before .before .before .before .before .before .args .file .now) (c .before .before .before .before .before .word16-at .result) (c .before .before .before .before .before .word16-at .ensures)
 
 add-k : tie.Need-add-k Inv-loop μ-loop
@@ -68,12 +69,12 @@ loop-less : tie.Need-loop-less Inv-loop μ-loop
 loop-less c = search needs
 
 loop-again : tie.Need-loop-again Inv-loop μ-loop
-loop-again c = (search needs, right-at (c .before .before .before .before .before .before .before .before .args .file .now) (right (fileMeaning (c .before .before .before .before .before .before .before .before .args .kind)) (length (c .before .before .before .before .before .before .before .before .args .file .now) / 512) (c .before .before .before .before .before .word16-at .result)) (c .before .before .before .before .loop .k) (c .before .header-fits .result) (c .before .header-fits .ensures) (c .if2 .left) (c .before .before .before .before .loop .inv .1))
+loop-again c = (search needs, right-at (c .before .before .before .before .before .before .before .before .args .file .now) (right (fileMeaning (c .before .before .before .before .before .before .before .before .args .kind)) (length (c .before .before .before .before .before .before .before .before .args .file .now) / block-bytes) (c .before .before .before .before .before .word16-at .result)) (c .before .before .before .before .loop .k) (c .before .header-fits .result) (c .before .header-fits .ensures) (c .if2 .left) (c .before .before .before .before .loop .inv .1))
 
 returns-3 : tie.Need-returns-3 Inv-loop μ-loop
 unfolding blockCount
 returns-3 c =
-    sym (all-right (c .before .before .before .before .before .args .file .now) (right (fileMeaning (c .before .before .before .before .before .args .kind)) (length (c .before .before .before .before .before .args .file .now) / 512) (c .before .before .word16-at .result)) (c .before .loop .k) (search needs) (search needs) (c .before .loop .inv .1))
+    sym (all-right (c .before .before .before .before .before .args .file .now) (right (fileMeaning (c .before .before .before .before .before .args .kind)) (length (c .before .before .before .before .before .args .file .now) / block-bytes) (c .before .before .word16-at .result)) (c .before .loop .k) (search needs) (search needs) (c .before .loop .inv .1))
     ∙ header-is (fileMeaning (c .before .before .before .before .before .args .kind)) (c .before .before .before .before .before .args .file .now) (c .before .before .word16-at .result) (c .before .before .word16-at .ensures)
 
 pub header-wrong-spec : {M : Type 1} → statement M

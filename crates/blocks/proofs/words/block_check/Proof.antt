@@ -4,15 +4,16 @@ use mathlib.Core.Path.{_≡_, ap, ap₂, _∙_}
 use Prim.Native.Nat.{ℕ, _+_, _-_, _≤_, _%_, _^_}
 use native.Mathlib.Numerals.{add-one}
 use native.Mathlib.Omega.{arith}
+use Rattle.lingua.specs.Numbers.{checked-words}
 use Rattle.lingua.specs.Format.{rotated, mixed, checkOver, blockCheck}
 use Rattle.blocks.proofs.words.block_check.Statement.{statement}
 use Rattle.blocks.proofs.words.block_check.Tie as tie
 
 abbrev Inv-loop : tie.InvT-loop
-Inv-loop block sum₀ i₀ sum i = (i ≤ 127) × (sum ≡ checkOver i block)
+Inv-loop block sum₀ i₀ sum i = (i ≤ checked-words) × (sum ≡ checkOver i block)
 
 abbrev μ-loop : tie.MeasureT-loop
-μ-loop block sum₀ i₀ sum i = 127 - i
+μ-loop block sum₀ i₀ sum i = checked-words - i
 
 loop-holds : tie.Need-loop-holds Inv-loop μ-loop
 unfolding checkOver

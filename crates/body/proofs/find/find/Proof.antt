@@ -1,7 +1,7 @@
 -- `body::find::find` meets its contract. The invariant is that what is asked of the whole record may be asked of the
 -- attributes ahead. Assumes nothing.
 use mathlib.Core.Path.{_≡_}
-use Prim.Native.Nat.{ℕ, _+_, _-_}
+use Prim.Native.Nat.{_+_, _-_}
 use native.Mathlib.Omega.{arith}
 use lib.ListN.{length}
 use Rattle.body.proofs.Places.{at-below}
@@ -25,56 +25,80 @@ loop-holds c = search-start (c .args .t1) (c .args .n) (c .pre)
 
 array-read-if1 : tie.Need-array-read-if1 Inv-loop μ-loop
 array-read-if1 c =
+    let args = c .before .before .args in
     let l = c .before .loop in
     let s = l .inv .state in
-    let n : length (c .before .before .args .t1) ≡ 96 = search needs in
-    omega (arith, n, at-below (c .before .before .args .t1) (l .at + 1) _ (next-body (c .before .before .args .t1) (l .left) (l .at) (c .loop-test .taken) s))
+    let n : length (args .t1) ≡ 96 = search needs in
+    omega (arith, n, at-below (args .t1) (l .at + 1) _ (next-body (args .t1) (l .left) (l .at) (c .loop-test .taken) s))
 
 add-t15 : tie.Need-add-t15 Inv-loop μ-loop
 add-t15 c =
-    let l = c .before .before .loop in
+    let loop = c .before .before .loop in
+    let args = c .before .before .before .args in
+    let l = loop in
     let s = l .inv .state in
-    let n : length (c .before .before .before .args .t1) ≡ 96 = search needs in
-    omega (arith, n, at-below (c .before .before .before .args .t1) (l .at + 1) _ (next-body (c .before .before .before .args .t1) (l .left) (l .at) (c .before .loop-test .taken) s))
+    let n : length (args .t1) ≡ 96 = search needs in
+    omega (arith, n, at-below (args .t1) (l .at + 1) _ (next-body (args .t1) (l .left) (l .at) (c .before .loop-test .taken) s))
 
 returns : tie.Need-returns Inv-loop μ-loop
 returns c =
-    let l = c .before .before .loop in
-    search-hit (c .before .before .before .args .t1) (c .before .before .before .args .n) (l .left) (l .at) (l .offset) (l .inv) (c .before .loop-test .taken) (c .if1 .taken)
+    let loop = c .before .before .loop in
+    let args = c .before .before .before .args in
+    let l = loop in
+    search-hit (args .t1) (args .n) (l .left) (l .at) (l .offset) (l .inv) (c .before .loop-test .taken) (c .if1 .taken)
 
 add-measure-at : tie.Need-add-measure-at Inv-loop μ-loop
 add-measure-at c =
-    let l = c .before .before .loop in
+    let loop = c .before .before .loop in
+    let args = c .before .before .before .args in
+    let l = loop in
     let s = l .inv .state in
-    let n : length (c .before .before .before .args .t1) ≡ 96 = search needs in
-    omega (arith, n, at-below (c .before .before .before .args .t1) (l .at + 1) _ (next-body (c .before .before .before .args .t1) (l .left) (l .at) (c .before .loop-test .taken) s))
+    let n : length (args .t1) ≡ 96 = search needs in
+    omega (arith, n, at-below (args .t1) (l .at + 1) _ (next-body (args .t1) (l .left) (l .at) (c .before .loop-test .taken) s))
 
 measure-at-requires : tie.Need-measure-at-requires Inv-loop μ-loop
 measure-at-requires c κs =
-    let l = c .before .before .loop in
-    first-at (c .before .before .before .args .t1) (l .at) (l .left) (c .before .loop-test .taken) (some-ahead (c .before .before .before .args .t1) (l .left) (l .at) (l .inv .state))
+    let loop = c .before .before .loop in
+    let args = c .before .before .before .args in
+    let l = loop in
+    first-at (args .t1) (l .at) (l .left) (c .before .loop-test .taken) (some-ahead (args .t1) (l .left) (l .at) (l .inv .state))
 
 add-offset : tie.Need-add-offset Inv-loop μ-loop
 add-offset c =
-    let l = c .before .before .before .before .loop in
-    omega (arith, search-on (c .before .before .before .before .before .args .t1) (c .before .before .before .before .before .args .n) (l .left) (l .at) (l .offset) (l .inv) (c .before .before .before .loop-test .taken) (c .before .before .if1 .left) (c .before .measure-at .result) (c .before .measure-at .ensures) .few-cells)
+    let loop = c .before .before .before .before .loop in
+    let args = c .before .before .before .before .before .args in
+    let loop-test = c .before .before .before .loop-test in
+    let if1 = c .before .before .if1 in
+    let measure-at = c .before .measure-at in
+    let l = loop in
+    omega (arith, search-on (args .t1) (args .n) (l .left) (l .at) (l .offset) (l .inv) (loop-test .taken) (if1 .left) (measure-at .result) (measure-at .ensures) .few-cells)
 
 sub-left : tie.Need-sub-left Inv-loop μ-loop
-sub-left c = let f = c .before .before .before .loop-test .taken in omega (arith, f)
+sub-left c =
+    let loop-test = c .before .before .before .loop-test in
+    let f = loop-test .taken in omega (arith, f)
 
 loop-less : tie.Need-loop-less Inv-loop μ-loop
-loop-less c = let f = c .before .before .before .loop-test .taken in omega (arith, f)
+loop-less c =
+    let loop-test = c .before .before .before .loop-test in
+    let f = loop-test .taken in omega (arith, f)
 
 loop-again : tie.Need-loop-again Inv-loop μ-loop
 loop-again c =
-    let l = c .before .before .before .before .loop in
-    search-on (c .before .before .before .before .before .args .t1) (c .before .before .before .before .before .args .n) (l .left) (l .at) (l .offset) (l .inv) (c .before .before .before .loop-test .taken) (c .before .before .if1 .left)
-    (c .before .measure-at .result) (c .before .measure-at .ensures)
+    let loop = c .before .before .before .before .loop in
+    let args = c .before .before .before .before .before .args in
+    let loop-test = c .before .before .before .loop-test in
+    let if1 = c .before .before .if1 in
+    let measure-at = c .before .measure-at in
+    let l = loop in
+    search-on (args .t1) (args .n) (l .left) (l .at) (l .offset) (l .inv) (loop-test .taken) (if1 .left)
+    (measure-at .result) (measure-at .ensures)
 
 returns-2 : tie.Need-returns-2 Inv-loop μ-loop
 returns-2 c =
+    let args = c .before .before .args in
     let l = c .before .loop in
-    search-miss (c .before .before .args .t1) (c .before .before .args .n) (l .left) (l .at) (l .offset) (l .inv) (c .loop-test .left)
+    search-miss (args .t1) (args .n) (l .left) (l .at) (l .offset) (l .inv) (c .loop-test .left)
 
 pub find-spec : {M : Type 1} → statement M
 find-spec =

@@ -1,7 +1,7 @@
 -- `body::find::place` meets its contract. The invariant is that the bytes passed and those still to pass are the bytes
 -- below the new attribute. Assumes nothing.
 use mathlib.Core.Path.{_≡_}
-use Prim.Native.Nat.{ℕ, _+_, _-_}
+use Prim.Native.Nat.{_+_, _-_}
 use native.Mathlib.Omega.{arith}
 use lib.ListN.{length}
 use Rattle.body.proofs.Places.{at-below}
@@ -25,44 +25,59 @@ loop-holds c = place-start (c .args .t1) (c .args .n) (c .pre)
 
 array-read-if1 : tie.Need-array-read-if1 Inv-loop μ-loop
 array-read-if1 c =
+    let args = c .before .before .args in
     let l = c .before .loop in
     let s = l .inv .state in
-    let n : length (c .before .before .args .t1) ≡ 96 = search needs in
-    omega (arith, n, at-below (c .before .before .args .t1) (l .at + 1) _ (next-body (c .before .before .args .t1) (l .left) (l .at) (c .loop-test .taken) s))
+    let n : length (args .t1) ≡ 96 = search needs in
+    omega (arith, n, at-below (args .t1) (l .at + 1) _ (next-body (args .t1) (l .left) (l .at) (c .loop-test .taken) s))
 
 returns : tie.Need-returns Inv-loop μ-loop
 returns c =
-    let l = c .before .before .loop in
-    place-here (c .before .before .before .args .t1) (c .before .before .before .args .n) (l .left) (l .at) (l .inv) (c .before .loop-test .taken) (c .if1 .taken)
+    let loop = c .before .before .loop in
+    let args = c .before .before .before .args in
+    let l = loop in
+    place-here (args .t1) (args .n) (l .left) (l .at) (l .inv) (c .before .loop-test .taken) (c .if1 .taken)
 
 add-measure-at : tie.Need-add-measure-at Inv-loop μ-loop
 add-measure-at c =
-    let l = c .before .before .loop in
+    let loop = c .before .before .loop in
+    let args = c .before .before .before .args in
+    let l = loop in
     let s = l .inv .state in
-    let n : length (c .before .before .before .args .t1) ≡ 96 = search needs in
-    omega (arith, n, at-below (c .before .before .before .args .t1) (l .at + 1) _ (next-body (c .before .before .before .args .t1) (l .left) (l .at) (c .before .loop-test .taken) s))
+    let n : length (args .t1) ≡ 96 = search needs in
+    omega (arith, n, at-below (args .t1) (l .at + 1) _ (next-body (args .t1) (l .left) (l .at) (c .before .loop-test .taken) s))
 
 measure-at-requires : tie.Need-measure-at-requires Inv-loop μ-loop
 measure-at-requires c κs =
-    let l = c .before .before .loop in
-    first-at (c .before .before .before .args .t1) (l .at) (l .left) (c .before .loop-test .taken) (some-ahead (c .before .before .before .args .t1) (l .left) (l .at) (l .inv .state))
+    let loop = c .before .before .loop in
+    let args = c .before .before .before .args in
+    let l = loop in
+    first-at (args .t1) (l .at) (l .left) (c .before .loop-test .taken) (some-ahead (args .t1) (l .left) (l .at) (l .inv .state))
 
 sub-left : tie.Need-sub-left Inv-loop μ-loop
-sub-left c = let f = c .before .before .loop-test .taken in omega (arith, f)
+sub-left c =
+    let loop-test = c .before .before .loop-test in
+    let f = loop-test .taken in omega (arith, f)
 
 loop-less : tie.Need-loop-less Inv-loop μ-loop
-loop-less c = let f = c .before .before .loop-test .taken in omega (arith, f)
+loop-less c =
+    let loop-test = c .before .before .loop-test in
+    let f = loop-test .taken in omega (arith, f)
 
 loop-again : tie.Need-loop-again Inv-loop μ-loop
 loop-again c =
-    let l = c .before .before .before .loop in
-    place-on (c .before .before .before .before .args .t1) (c .before .before .before .before .args .n) (l .left) (l .at) (l .inv) (c .before .before .loop-test .taken) (c .before .if1 .left)
+    let loop = c .before .before .before .loop in
+    let args = c .before .before .before .before .args in
+    let loop-test = c .before .before .loop-test in
+    let l = loop in
+    place-on (args .t1) (args .n) (l .left) (l .at) (l .inv) (loop-test .taken) (c .before .if1 .left)
     (c .measure-at .result) (c .measure-at .ensures)
 
 returns-2 : tie.Need-returns-2 Inv-loop μ-loop
 returns-2 c =
+    let args = c .before .before .args in
     let l = c .before .loop in
-    place-last (c .before .before .args .t1) (c .before .before .args .n) (l .left) (l .at) (l .inv) (c .loop-test .left)
+    place-last (args .t1) (args .n) (l .left) (l .at) (l .inv) (c .loop-test .left)
 
 pub place-spec : {M : Type 1} → statement M
 place-spec =

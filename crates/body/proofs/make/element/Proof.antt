@@ -1,12 +1,7 @@
 -- `body::make::element` meets its contract: a list's element is what stands after its tag. Assumes nothing.
-use mathlib.Core.Path.{_≡_, refl, sym, ap, _∙_}
-use mathlib.Core.List.{List, [], _∷_}
-use Prim.Native.Nat.{ℕ, _+_, _-_, _≤_, _<_}
-use native.Mathlib.Omega.{arith}
-use lib.ListN.{length, drop, take}
-use lib.Seq.{paste}
-use Rattle.lingua.specs.Value.{pad}
-use mathlib.Core.Path.{subst}
+use mathlib.Core.Path.{sym, subst}
+use mathlib.Core.List.{List}
+use Prim.Native.Nat.{ℕ, _-_}
 use Rattle.body.specs.Encode.{Holds}
 use Rattle.body.proofs.Making.{element-taken}
 use borrow.Author.Needs.{needs}

@@ -1,11 +1,6 @@
 -- `body::make::record_of` meets its contract: the body goes after a record's tag, the count and the number. Assumes nothing.
-use mathlib.Core.Path.{_≡_, refl, sym, ap, _∙_}
-use mathlib.Core.List.{List, [], _∷_}
-use Prim.Native.Nat.{ℕ, _+_, _-_, _≤_, _<_}
-use native.Mathlib.Omega.{arith}
-use lib.ListN.{length, drop, take}
-use lib.Seq.{paste}
-use Rattle.lingua.specs.Value.{pad}
+use mathlib.Core.Path.{_∙_}
+use Prim.Native.Nat.{_-_}
 use Rattle.body.proofs.Making.{record-made}
 use borrow.Author.Needs.{needs}
 use Rattle.body.proofs.make.record_of.Statement.{statement}
@@ -25,8 +20,8 @@ pasted-requires c κs = search needs
 
 returns : tie.Need-returns
 returns c = λ b h f.
-    let l : length (c .before .args .body) ≡ 96 = search needs in
-    c .pasted .ensures ∙ record-made (c .before .args .body) (c .before .args .n) b l h f
+    let args = c .before .args in
+    c .pasted .ensures ∙ record-made (args .body) (args .n) b h f
 
 pub record-of-spec : {M : Type 1} → statement M
 record-of-spec =

@@ -1,10 +1,6 @@
 -- `body::make::simple` meets its contract: what is stored computes. Assumes nothing.
-use mathlib.Core.Path.{_≡_, refl, sym, ap, _∙_}
-use mathlib.Core.List.{List, [], _∷_}
-use Prim.Native.Nat.{ℕ, _+_, _-_, _≤_, _<_}
-use native.Mathlib.Omega.{arith}
-use lib.ListN.{length, drop, take}
-use lib.Seq.{paste}
+use mathlib.Core.Path.{refl}
+use Prim.Native.Nat.{_-_}
 use Rattle.lingua.specs.Value.{pad}
 use borrow.Author.Needs.{needs}
 use Rattle.body.proofs.make.simple.Statement.{statement}

@@ -39,19 +39,22 @@ loop-less c = search needs
 
 loop-again : tie.Need-loop-again Inv-loop μ-loop
 loop-again c =
+    let args = c .before .before .args in
     let l = c .before .loop in
-    let lb : length (c .before .before .args .body) ≡ 96 = search needs in
-    let lo : length (c .before .before .args .t3) ≡ 96 = search needs in (
+    let lb : length (args .body) ≡ 96 = search needs in
+    let lo : length (args .t3) ≡ 96 = search needs in (
       omega arith,
-      ap (λ (o : List ℕ). set o (c .before .before .args .at + l .i) (getD (c .before .before .args .t3) (c .before .before .args .from + l .i) 0)) (l .inv .1)
-          ∙ paste-more (c .before .before .args .body) (c .before .before .args .at) (c .before .before .args .t3) (c .before .before .args .from) (l .i) (omega arith) (omega arith),
+      ap (λ (o : List ℕ). set o (args .at + l .i) (getD (args .t3) (args .from + l .i) 0)) (l .inv .1)
+          ∙ paste-more (args .body) (args .at) (args .t3) (args .from) (l .i) (omega arith) (omega arith),
       length-set (l .out) _ _ ∙ l .inv .2,
     )
 
 returns : tie.Need-returns Inv-loop μ-loop
 returns c =
-    let e : c .before .loop .i ≡ c .before .before .args .n = omega arith in
-    c .before .loop .inv .1 ∙ ap (λ (k : ℕ). paste (c .before .before .args .body) (c .before .before .args .at) (drop (c .before .before .args .from) (c .before .before .args .t3)) k) e
+    let loop-call = c .before .loop in
+    let args = c .before .before .args in
+    let e : loop-call .i ≡ args .n = omega arith in
+    loop-call .inv .1 ∙ ap (λ (k : ℕ). paste (args .body) (args .at) (drop (args .from) (args .t3)) k) e
 
 pub pasted-spec : {M : Type 1} → statement M
 pasted-spec =

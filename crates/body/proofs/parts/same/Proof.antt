@@ -27,7 +27,10 @@ array-read-if1-2 : tie.Need-array-read-if1-2 Inv-loop μ-loop
 array-read-if1-2 c = search needs
 
 returns : tie.Need-returns Inv-loop μ-loop
-returns c = other-held (c .before .before .before .args .t1) (c .before .before .before .args .t2) (λ e. c .if1 .taken (ap (λ (l : List ℕ). getD l (c .before .before .loop .i) 0) e))
+returns c =
+    let args = c .before .before .before .args in
+    let loop = c .before .before .loop in
+    other-held (args .t1) (args .t2) (λ e. c .if1 .taken (ap (λ (l : List ℕ). getD l (loop .i) 0) e))
 
 add-i : tie.Need-add-i Inv-loop μ-loop
 add-i c = search needs
@@ -36,14 +39,17 @@ loop-less : tie.Need-loop-less Inv-loop μ-loop
 loop-less c = search needs
 
 loop-again : tie.Need-loop-again Inv-loop μ-loop
-loop-again c = (search needs, below-more _ _ (c .before .before .loop .inv .1) (c .if1 .left))
+loop-again c =
+    let loop = c .before .before .loop in
+    (search needs, below-more _ _ (loop .inv .1) (c .if1 .left))
 
 returns-2 : tie.Need-returns-2 Inv-loop μ-loop
 returns-2 c =
-    let lx : length (c .before .before .args .t1) ≡ 96 = search needs in
-    let ly : length (c .before .before .args .t2) ≡ 96 = search needs in
-    same-held (c .before .before .args .t1) (c .before .before .args .t2)
-    (ext-getD 0 (c .before .before .args .t1) (c .before .before .args .t2) (omega arith) (λ i h. c .before .loop .inv .1 i (omega arith)))
+    let args = c .before .before .args in
+    let lx : length (args .t1) ≡ 96 = search needs in
+    let ly : length (args .t2) ≡ 96 = search needs in
+    same-held (args .t1) (args .t2)
+    (ext-getD 0 (args .t1) (args .t2) (omega arith) (λ i h. c .before .loop .inv .1 i (omega arith)))
 
 pub same-spec : {M : Type 1} → statement M
 same-spec =

@@ -53,21 +53,26 @@ measure-at-calls t = (measure-at-below t, measure-at.Post, attributes-at-below t
 
 -- src/walk.rt:69:9
 attributes-at-returns : (t : ℕ) → attributes-at-lts.Need-returns (attributes-at-calls t) (attributes-at-at t) attributes-at.Post
-attributes-at-returns t c = λ fs h e. measured-none (c .before .args .at) (c .before .args .n) fs (c .if1 .taken) e
+attributes-at-returns t c = λ fs h e.
+    let args = c .before .args in
+    measured-none (args .at) (args .n) fs (c .if1 .taken) e
 
 -- src/walk.rt:76:34
 attributes-at-add-measure-at : (t : ℕ) → attributes-at-lts.Need-add-measure-at (attributes-at-calls t) (attributes-at-at t) attributes-at.Post
 attributes-at-add-measure-at t c =
-    let l : length (c .before .args .body) ≡ 96 = search needs in
-    let b = first-at (c .before .args .body) (c .before .args .at) (c .before .args .n) (c .if1 .left) (c .before .pre .1) in
-    omega (arith, l, at-below (c .before .args .body) (c .before .args .at + 1) (b .body) (b .here))
+    let args = c .before .args in
+    let l : length (args .body) ≡ 96 = search needs in
+    let b = first-at (args .body) (args .at) (args .n) (c .if1 .left) (c .before .pre .1) in
+    omega (arith, l, at-below (args .body) (args .at + 1) (b .body) (b .here))
 
 -- src/walk.rt:76:9
 attributes-at-measure-at-requires : (t : ℕ) → attributes-at-lts.Need-measure-at-requires (attributes-at-calls t) (attributes-at-at t) attributes-at.Post
 attributes-at-measure-at-requires t c κs =
-    let l : length (c .before .args .body) ≡ 96 = search needs in
-    let b = first-at (c .before .args .body) (c .before .args .at) (c .before .args .n) (c .if1 .left) (c .before .pre .1) in
-    (omega (arith, l, at-below (c .before .args .body) (c .before .args .at + 1) (b .body) (b .here), c .before .pre .0), b)
+    let args = c .before .args in
+    let pre = c .before .pre in
+    let l : length (args .body) ≡ 96 = search needs in
+    let b = first-at (args .body) (args .at) (args .n) (c .if1 .left) (pre .1) in
+    (omega (arith, l, at-below (args .body) (args .at + 1) (b .body) (b .here), pre .0), b)
 
 -- src/walk.rt:78:42
 attributes-at-sub-attributes-at : (t : ℕ) → attributes-at-lts.Need-sub-attributes-at (attributes-at-calls t) (attributes-at-at t) attributes-at.Post
@@ -76,25 +81,38 @@ attributes-at-sub-attributes-at t c = let f = c .before .if1 .left in omega (ari
 -- src/walk.rt:78:9
 attributes-at-attributes-at-requires : (t : ℕ) → attributes-at-lts.Need-attributes-at-requires (attributes-at-calls t) (attributes-at-at t) attributes-at.Post
 attributes-at-attributes-at-requires t c κs =
-    let l : length (c .before .before .args .body) ≡ 96 = search needs in
-    let m = moves (c .before .before .args .body) (c .before .before .args .at) (c .before .before .args .n) (c .before .if1 .left) (c .measure-at .result) (c .measure-at .ensures) (c .before .before .pre .1) in (
-      omega (arith, l, m .0, m .1, c .before .before .pre .0),
-      others-at (c .before .before .args .body) (c .before .before .args .at) (c .before .before .args .n) (c .before .if1 .left) (c .measure-at .result) (c .measure-at .ensures) (c .before .before .pre .1),
+    let args = c .before .before .args in
+    let if1 = c .before .if1 in
+    let pre = c .before .before .pre in
+    let l : length (args .body) ≡ 96 = search needs in
+    let m = moves (args .body) (args .at) (args .n) (if1 .left) (c .measure-at .result) (c .measure-at .ensures) (pre .1) in (
+      omega (arith, l, m .0, m .1, pre .0),
+      others-at (args .body) (args .at) (args .n) (if1 .left) (c .measure-at .result) (c .measure-at .ensures) (pre .1),
     )
 
 -- src/walk.rt:80:16
 attributes-at-add-t8 : (t : ℕ) → attributes-at-lts.Need-add-t8 (attributes-at-calls t) (attributes-at-at t) attributes-at.Post
 attributes-at-add-t8 t c =
-    let s = c .before .before .before .before .before .pre .1 in
-    let o = others-at (c .before .before .before .before .before .args .body) (c .before .before .before .before .before .args .at) (c .before .before .before .before .before .args .n) (c .before .before .before .before .if1 .left) (c .before .before .before .measure-at .result) (c .before .before .before .measure-at .ensures) s in
-    omega (arith, few-measured (c .before .before .before .before .before .args .body) (c .before .before .before .before .before .args .at + 1) (c .before .before .before .measure-at .result) (c .before .before .before .measure-at .ensures) (first-at (c .before .before .before .before .before .args .body) (c .before .before .before .before .before .args .at) (c .before .before .before .before .before .args .n) (c .before .before .before .before .if1 .left) s), few-attributes (c .before .before .before .before .before .args .body) _ _ (c .before .before .attributes-at .result) (c .before .before .attributes-at .ensures) o)
+    let pre = c .before .before .before .before .before .pre in
+    let args = c .before .before .before .before .before .args in
+    let if1 = c .before .before .before .before .if1 in
+    let measure-at-call = c .before .before .before .measure-at in
+    let attributes-at-call = c .before .before .attributes-at in
+    let s = pre .1 in
+    let o = others-at (args .body) (args .at) (args .n) (if1 .left) (measure-at-call .result) (measure-at-call .ensures) s in
+    omega (arith, few-measured (args .body) (args .at + 1) (measure-at-call .result) (measure-at-call .ensures) (first-at (args .body) (args .at) (args .n) (if1 .left) s), few-attributes (args .body) _ _ (attributes-at-call .result) (attributes-at-call .ensures) o)
 
 -- src/walk.rt:81:16
 attributes-at-add-t10 : (t : ℕ) → attributes-at-lts.Need-add-t10 (attributes-at-calls t) (attributes-at-at t) attributes-at.Post
 attributes-at-add-t10 t c =
-    let s = c .before .before .before .before .before .before .before .pre .1 in
-    let o = others-at (c .before .before .before .before .before .before .before .args .body) (c .before .before .before .before .before .before .before .args .at) (c .before .before .before .before .before .before .before .args .n) (c .before .before .before .before .before .before .if1 .left) (c .before .before .before .before .before .measure-at .result) (c .before .before .before .before .before .measure-at .ensures) s in
-    omega (arith, few-measured (c .before .before .before .before .before .before .before .args .body) (c .before .before .before .before .before .before .before .args .at + 1) (c .before .before .before .before .before .measure-at .result) (c .before .before .before .before .before .measure-at .ensures) (first-at (c .before .before .before .before .before .before .before .args .body) (c .before .before .before .before .before .before .before .args .at) (c .before .before .before .before .before .before .before .args .n) (c .before .before .before .before .before .before .if1 .left) s), few-attributes (c .before .before .before .before .before .before .before .args .body) _ _ (c .before .before .before .before .attributes-at .result) (c .before .before .before .before .attributes-at .ensures) o)
+    let pre = c .before .before .before .before .before .before .before .pre in
+    let args = c .before .before .before .before .before .before .before .args in
+    let if1 = c .before .before .before .before .before .before .if1 in
+    let measure-at-call = c .before .before .before .before .before .measure-at in
+    let attributes-at-call = c .before .before .before .before .attributes-at in
+    let s = pre .1 in
+    let o = others-at (args .body) (args .at) (args .n) (if1 .left) (measure-at-call .result) (measure-at-call .ensures) s in
+    omega (arith, few-measured (args .body) (args .at + 1) (measure-at-call .result) (measure-at-call .ensures) (first-at (args .body) (args .at) (args .n) (if1 .left) s), few-attributes (args .body) _ _ (attributes-at-call .result) (attributes-at-call .ensures) o)
 
 -- src/walk.rt:82:16
 attributes-at-larger-requires : (t : ℕ) → attributes-at-lts.Need-larger-requires (attributes-at-calls t) (attributes-at-at t) attributes-at.Post
@@ -103,8 +121,12 @@ attributes-at-larger-requires t c κs = search needs
 -- src/walk.rt:64:1
 attributes-at-returns-2 : (t : ℕ) → attributes-at-lts.Need-returns-2 (attributes-at-calls t) (attributes-at-at t) attributes-at.Post
 attributes-at-returns-2 t c =
-    measured-more (c .before .before .before .before .before .before .before .before .args .body) (c .before .before .before .before .before .before .before .before .args .at) (c .before .before .before .before .before .before .before .before .args .n) (c .before .before .before .before .before .before .before .if1 .left) (c .before .before .before .before .before .before .measure-at .result) (c .before .before .before .before .before .before .measure-at .ensures)
-    (c .before .before .before .before .before .attributes-at .result) (c .before .before .before .before .before .attributes-at .ensures) (c .larger .result) (c .larger .ensures)
+    let args = c .before .before .before .before .before .before .before .before .args in
+    let if1 = c .before .before .before .before .before .before .before .if1 in
+    let measure-at-call = c .before .before .before .before .before .before .measure-at in
+    let attributes-at-call = c .before .before .before .before .before .attributes-at in
+    measured-more (args .body) (args .at) (args .n) (if1 .left) (measure-at-call .result) (measure-at-call .ensures)
+    (attributes-at-call .result) (attributes-at-call .ensures) (c .larger .result) (c .larger .ensures)
 
 -- src/walk.rt:35:15
 measure-at-array-read-tag : (t : ℕ) → measure-at-lts.Need-array-read-tag (measure-at-calls t) (measure-at-at t) measure-at.Post
@@ -115,84 +137,138 @@ measure-at-array-read-tag t c =
 -- src/walk.rt:37:34
 measure-at-add-measure-at : (t : ℕ) → measure-at-lts.Need-add-measure-at (measure-at-calls t) (measure-at-at t) measure-at.Post
 measure-at-add-measure-at t c =
-    let l : length (c .before .args .t1) ≡ 96 = search needs in
-    omega (arith, l, at-below (c .before .args .t1) (c .before .args .at) (c .before .pre .1 .body) (c .before .pre .1 .here))
+    let args = c .before .args in
+    let pre = c .before .pre in
+    let l : length (args .t1) ≡ 96 = search needs in
+    omega (arith, l, at-below (args .t1) (args .at) (pre .1 .body) (pre .1 .here))
 
 -- src/walk.rt:37:13
 measure-at-measure-at-requires : (t : ℕ) → measure-at-lts.Need-measure-at-requires (measure-at-calls t) (measure-at-at t) measure-at.Post
 measure-at-measure-at-requires t c κs =
-    let l : length (c .before .args .t1) ≡ 96 = search needs in (
-      omega (arith, l, at-below (c .before .args .t1) (c .before .args .at) (c .before .pre .1 .body) (c .before .pre .1 .here), c .before .pre .0),
-      some-list (c .before .args .t1) (c .before .args .at) (c .if1 .taken) (c .before .pre .1),
+    let args = c .before .args in
+    let pre = c .before .pre in
+    let l : length (args .t1) ≡ 96 = search needs in (
+      omega (arith, l, at-below (args .t1) (args .at) (pre .1 .body) (pre .1 .here), pre .0),
+      some-list (args .t1) (args .at) (c .if1 .taken) (pre .1),
     )
 
 -- src/walk.rt:39:24
 measure-at-mul-t13 : (t : ℕ) → measure-at-lts.Need-mul-t13 (measure-at-calls t) (measure-at-at t) measure-at.Post
-measure-at-mul-t13 t c = omega (arith, few-measured (c .before .before .before .args .t1) (c .before .before .before .args .at + 1) (c .before .measure-at .result) (c .before .measure-at .ensures) (some-list (c .before .before .before .args .t1) (c .before .before .before .args .at) (c .before .before .if1 .taken) (c .before .before .before .pre .1)))
+measure-at-mul-t13 t c =
+    let args = c .before .before .before .args in
+    let measure-at-call = c .before .measure-at in
+    let if1 = c .before .before .if1 in
+    let pre = c .before .before .before .pre in
+    omega (arith, few-measured (args .t1) (args .at + 1) (measure-at-call .result) (measure-at-call .ensures) (some-list (args .t1) (args .at) (if1 .taken) (pre .1)))
 
 -- src/walk.rt:39:20
 measure-at-add-t14 : (t : ℕ) → measure-at-lts.Need-add-t14 (measure-at-calls t) (measure-at-at t) measure-at.Post
-measure-at-add-t14 t c = omega (arith, few-measured (c .before .before .before .args .t1) (c .before .before .before .args .at + 1) (c .before .measure-at .result) (c .before .measure-at .ensures) (some-list (c .before .before .before .args .t1) (c .before .before .before .args .at) (c .before .before .if1 .taken) (c .before .before .before .pre .1)))
+measure-at-add-t14 t c =
+    let args = c .before .before .before .args in
+    let measure-at-call = c .before .measure-at in
+    let if1 = c .before .before .if1 in
+    let pre = c .before .before .before .pre in
+    omega (arith, few-measured (args .t1) (args .at + 1) (measure-at-call .result) (measure-at-call .ensures) (some-list (args .t1) (args .at) (if1 .taken) (pre .1)))
 
 -- src/walk.rt:40:20
 measure-at-add-t15 : (t : ℕ) → measure-at-lts.Need-add-t15 (measure-at-calls t) (measure-at-at t) measure-at.Post
-measure-at-add-t15 t c = omega (arith, few-measured (c .before .before .before .before .args .t1) (c .before .before .before .before .args .at + 1) (c .before .before .measure-at .result) (c .before .before .measure-at .ensures) (some-list (c .before .before .before .before .args .t1) (c .before .before .before .before .args .at) (c .before .before .before .if1 .taken) (c .before .before .before .before .pre .1)))
+measure-at-add-t15 t c =
+    let args = c .before .before .before .before .args in
+    let measure-at-call = c .before .before .measure-at in
+    let if1 = c .before .before .before .if1 in
+    let pre = c .before .before .before .before .pre in
+    omega (arith, few-measured (args .t1) (args .at + 1) (measure-at-call .result) (measure-at-call .ensures) (some-list (args .t1) (args .at) (if1 .taken) (pre .1)))
 
 -- src/walk.rt:41:20
 measure-at-add-t16 : (t : ℕ) → measure-at-lts.Need-add-t16 (measure-at-calls t) (measure-at-at t) measure-at.Post
-measure-at-add-t16 t c = omega (arith, few-measured (c .before .before .before .before .before .args .t1) (c .before .before .before .before .before .args .at + 1) (c .before .before .before .measure-at .result) (c .before .before .before .measure-at .ensures) (some-list (c .before .before .before .before .before .args .t1) (c .before .before .before .before .before .args .at) (c .before .before .before .before .if1 .taken) (c .before .before .before .before .before .pre .1)))
+measure-at-add-t16 t c =
+    let args = c .before .before .before .before .before .args in
+    let measure-at-call = c .before .before .before .measure-at in
+    let if1 = c .before .before .before .before .if1 in
+    let pre = c .before .before .before .before .before .pre in
+    omega (arith, few-measured (args .t1) (args .at + 1) (measure-at-call .result) (measure-at-call .ensures) (some-list (args .t1) (args .at) (if1 .taken) (pre .1)))
 
 -- src/walk.rt:38:9
 measure-at-returns : (t : ℕ) → measure-at-lts.Need-returns (measure-at-calls t) (measure-at-at t) measure-at.Post
-measure-at-returns t c = measured-list (c .before .before .before .before .before .args .t1) (c .before .before .before .before .before .args .at) (c .before .before .before .measure-at .result) (c .before .before .before .before .if1 .taken) (c .before .before .before .measure-at .ensures)
+measure-at-returns t c =
+    let args = c .before .before .before .before .before .args in
+    let measure-at-call = c .before .before .before .measure-at in
+    let if1 = c .before .before .before .before .if1 in
+    measured-list (args .t1) (args .at) (measure-at-call .result) (if1 .taken) (measure-at-call .ensures)
 
 -- src/walk.rt:46:22
 measure-at-add-n : (t : ℕ) → measure-at-lts.Need-add-n (measure-at-calls t) (measure-at-at t) measure-at.Post
 measure-at-add-n t c =
-    let l : length (c .before .before .args .t1) ≡ 96 = search needs in
-    omega (arith, l, at-below (c .before .before .args .t1) (c .before .before .args .at) (c .before .before .pre .1 .body) (c .before .before .pre .1 .here))
+    let args = c .before .before .args in
+    let pre = c .before .before .pre in
+    let l : length (args .t1) ≡ 96 = search needs in
+    omega (arith, l, at-below (args .t1) (args .at) (pre .1 .body) (pre .1 .here))
 
 -- src/walk.rt:46:17
 measure-at-array-read-n : (t : ℕ) → measure-at-lts.Need-array-read-n (measure-at-calls t) (measure-at-at t) measure-at.Post
 measure-at-array-read-n t c =
-    let l : length (c .before .before .args .t1) ≡ 96 = search needs in
-    omega (arith, l, some-record-below (c .before .before .args .t1) (c .before .before .args .at) (c .if2 .taken) (c .before .before .pre .1))
+    let args = c .before .before .args in
+    let pre = c .before .before .pre in
+    let l : length (args .t1) ≡ 96 = search needs in
+    omega (arith, l, some-record-below (args .t1) (args .at) (c .if2 .taken) (pre .1))
 
 -- src/walk.rt:47:37
 measure-at-add-attributes-at : (t : ℕ) → measure-at-lts.Need-add-attributes-at (measure-at-calls t) (measure-at-at t) measure-at.Post
 measure-at-add-attributes-at t c =
-    let l : length (c .before .before .args .t1) ≡ 96 = search needs in
-    omega (arith, l, at-below (c .before .before .args .t1) (c .before .before .args .at) (c .before .before .pre .1 .body) (c .before .before .pre .1 .here))
+    let args = c .before .before .args in
+    let pre = c .before .before .pre in
+    let l : length (args .t1) ≡ 96 = search needs in
+    omega (arith, l, at-below (args .t1) (args .at) (pre .1 .body) (pre .1 .here))
 
 -- src/walk.rt:47:13
 measure-at-attributes-at-requires : (t : ℕ) → measure-at-lts.Need-attributes-at-requires (measure-at-calls t) (measure-at-at t) measure-at.Post
 measure-at-attributes-at-requires t c κs =
-    let l : length (c .before .before .args .t1) ≡ 96 = search needs in (
-      omega (arith, l, at-below (c .before .before .args .t1) (c .before .before .args .at) (c .before .before .pre .1 .body) (c .before .before .pre .1 .here), c .before .before .pre .0),
-      some-record (c .before .before .args .t1) (c .before .before .args .at) (c .if2 .taken) (c .before .before .pre .1),
+    let args = c .before .before .args in
+    let pre = c .before .before .pre in
+    let l : length (args .t1) ≡ 96 = search needs in (
+      omega (arith, l, at-below (args .t1) (args .at) (pre .1 .body) (pre .1 .here), pre .0),
+      some-record (args .t1) (args .at) (c .if2 .taken) (pre .1),
     )
 
 -- src/walk.rt:50:20
 measure-at-add-t17 : (t : ℕ) → measure-at-lts.Need-add-t17 (measure-at-calls t) (measure-at-at t) measure-at.Post
-measure-at-add-t17 t c = omega (arith, few-attributes (c .before .before .before .before .args .t1) (c .before .before .before .before .args .at + 2) (getD (c .before .before .before .before .args .t1) (c .before .before .before .before .args .at + 1) 0) (c .before .attributes-at .result) (c .before .attributes-at .ensures) (some-record (c .before .before .before .before .args .t1) (c .before .before .before .before .args .at) (c .before .before .if2 .taken) (c .before .before .before .before .pre .1)))
+measure-at-add-t17 t c =
+    let args = c .before .before .before .before .args in
+    let attributes-at-call = c .before .attributes-at in
+    let if2 = c .before .before .if2 in
+    let pre = c .before .before .before .before .pre in
+    omega (arith, few-attributes (args .t1) (args .at + 2) (getD (args .t1) (args .at + 1) 0) (attributes-at-call .result) (attributes-at-call .ensures) (some-record (args .t1) (args .at) (if2 .taken) (pre .1)))
 
 -- src/walk.rt:51:20
 measure-at-add-t22 : (t : ℕ) → measure-at-lts.Need-add-t22 (measure-at-calls t) (measure-at-at t) measure-at.Post
-measure-at-add-t22 t c = omega (arith, few-attributes (c .before .before .before .before .before .args .t1) (c .before .before .before .before .before .args .at + 2) (getD (c .before .before .before .before .before .args .t1) (c .before .before .before .before .before .args .at + 1) 0) (c .before .before .attributes-at .result) (c .before .before .attributes-at .ensures) (some-record (c .before .before .before .before .before .args .t1) (c .before .before .before .before .before .args .at) (c .before .before .before .if2 .taken) (c .before .before .before .before .before .pre .1)))
+measure-at-add-t22 t c =
+    let args = c .before .before .before .before .before .args in
+    let attributes-at-call = c .before .before .attributes-at in
+    let if2 = c .before .before .before .if2 in
+    let pre = c .before .before .before .before .before .pre in
+    omega (arith, few-attributes (args .t1) (args .at + 2) (getD (args .t1) (args .at + 1) 0) (attributes-at-call .result) (attributes-at-call .ensures) (some-record (args .t1) (args .at) (if2 .taken) (pre .1)))
 
 -- src/walk.rt:48:9
 measure-at-returns-2 : (t : ℕ) → measure-at-lts.Need-returns-2 (measure-at-calls t) (measure-at-at t) measure-at.Post
-measure-at-returns-2 t c = measured-record (c .before .before .before .before .before .args .t1) (c .before .before .before .before .before .args .at) (c .before .before .attributes-at .result) (c .before .before .before .if2 .taken) (c .before .before .attributes-at .ensures)
+measure-at-returns-2 t c =
+    let args = c .before .before .before .before .before .args in
+    let attributes-at-call = c .before .before .attributes-at in
+    let if2 = c .before .before .before .if2 in
+    measured-record (args .t1) (args .at) (attributes-at-call .result) (if2 .taken) (attributes-at-call .ensures)
 
 -- src/walk.rt:59:15
 measure-at-add-t23 : (t : ℕ) → measure-at-lts.Need-add-t23 (measure-at-calls t) (measure-at-at t) measure-at.Post
 measure-at-add-t23 t c =
-    let l : length (c .before .before .args .t1) ≡ 96 = search needs in
-    omega (arith, l, at-below (c .before .before .args .t1) (c .before .before .args .at) (c .before .before .pre .1 .body) (c .before .before .pre .1 .here))
+    let args = c .before .before .args in
+    let pre = c .before .before .pre in
+    let l : length (args .t1) ≡ 96 = search needs in
+    omega (arith, l, at-below (args .t1) (args .at) (pre .1 .body) (pre .1 .here))
 
 -- src/walk.rt:31:1
 measure-at-returns-3 : (t : ℕ) → measure-at-lts.Need-returns-3 (measure-at-calls t) (measure-at-at t) measure-at.Post
-measure-at-returns-3 t c = measured-simple (c .before .before .args .t1) (c .before .before .args .at) (c .before .if1 .left) (c .if2 .left)
+measure-at-returns-3 t c =
+    let args = c .before .before .args in
+    measured-simple (args .t1) (args .at) (c .before .if1 .left) (c .if2 .left)
 
 pub +attributes-at+measure-at-spec : {M : Type 1} → statement M
 +attributes-at+measure-at-spec = close μ-attributes-at μ-measure-at (λ t. attributes-at-lts.spec (attributes-at-calls t) (attributes-at-at t)

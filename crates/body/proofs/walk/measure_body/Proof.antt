@@ -1,13 +1,6 @@
 -- `body::walk::measure_body` meets its contract: an array that holds a body has its bytes at the start. Assumes nothing.
-use mathlib.Core.Path.{_≡_, refl, sym, ap, _∙_}
-use mathlib.Core.List.{List, [], _∷_}
-use Prim.Native.Nat.{ℕ, _+_, _-_, _≤_, _<_}
-use native.Mathlib.Omega.{arith}
-use lib.ListN.{length, drop, take}
-use lib.Seq.{paste}
-use Rattle.lingua.specs.Value.{pad}
+use Prim.Native.Nat.{_-_}
 use Rattle.body.proofs.Making.{held-at, held-some}
-use borrow.Author.Needs.{needs}
 use Rattle.body.proofs.walk.measure_body.Statement.{statement}
 use Rattle.body.proofs.walk.measure_body.Tie as tie
 

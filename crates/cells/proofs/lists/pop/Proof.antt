@@ -4,15 +4,10 @@ use Rattle.cells.proofs.Elements.{count-back, counted-cell, counted-few
 use borrow.Author.Needs.{needs}
 use Rattle.cells.proofs.lists.pop.Statement.{statement}
 use Rattle.cells.proofs.lists.pop.Tie as tie
-use Rattle.cells.proofs.lists.pop.Reads as reads
-use Rattle.cells.proofs.lists.pop.Lts as lts
-use Rattle.cells.proofs.parts.clear.Reads as clear-reads
 
--- src/lists.rt:65:17
 slice-copy-out-count : tie.Need-slice-copy-out-count
 slice-copy-out-count c = search needs
 
--- src/lists.rt:65:17
 cast-count : tie.Need-cast-count
 cast-count c =
     let a = c .before in
@@ -21,7 +16,6 @@ cast-count c =
     let k = a .pre .0 in
     rw (count-back s w k) (tt, omega (arith, k .few))
 
--- src/lists.rt:67:9
 returns : tie.Need-returns
 returns c = λ b x z h.
     let a = c .before .before in
@@ -30,11 +24,9 @@ returns c = λ b x z h.
     let k = a .pre .0 in
     pop-empty s b x _ h (counted-cell s w k) (c .if1 .taken)
 
--- src/lists.rt:69:16
 sub-last : tie.Need-sub-last
 sub-last c = search needs
 
--- src/lists.rt:70:29
 mul-clear : tie.Need-mul-clear
 mul-clear c =
     let a = c .before .before .before in
@@ -43,7 +35,6 @@ mul-clear c =
     let k = a .pre .0 in
     omega (arith, last-room s w k (c .before .if1 .left))
 
--- src/lists.rt:70:25
 add-clear : tie.Need-add-clear
 add-clear c =
     let a = c .before .before .before in
@@ -52,7 +43,6 @@ add-clear c =
     let k = a .pre .0 in
     omega (arith, last-room s w k (c .before .if1 .left))
 
--- src/lists.rt:70:5
 clear-requires : tie.Need-clear-requires
 clear-requires c κs =
     let a = c .before .before .before in
@@ -61,7 +51,6 @@ clear-requires c κs =
     let k = a .pre .0 in
     omega (arith, last-room s w k (c .before .if1 .left))
 
--- src/lists.rt:71:16
 cast-stack : tie.Need-cast-stack
 cast-stack c =
     let a = c .before .before .before .before .before in
@@ -70,15 +59,12 @@ cast-stack c =
     let k = a .pre .0 in
     omega (arith, counted-few s w k)
 
--- src/lists.rt:71:5
 slice-set-from-stack : tie.Need-slice-set-from-stack
 slice-set-from-stack c = search needs
 
--- src/lists.rt:60:1
 same-length : tie.Need-same-length
 same-length c = search needs
 
--- src/lists.rt:60:1
 returns-2 : tie.Need-returns-2
 returns-2 c = λ b x z h.
     let a = c .before .before .before .before .before in

@@ -1,20 +1,13 @@
 -- `push` meets its contract, by `push-full` and `push-law`. Assumes nothing.
-use mathlib.Core.Path.{_≡_, refl, sym, ap, _∙_}
 use native.Mathlib.Omega.{arith}
-use lib.ListN.{length-set}
 use Rattle.cells.proofs.Elements.{count-back, counted-cell, counted-room, push-full, push-law}
 use borrow.Author.Needs.{needs}
 use Rattle.cells.proofs.lists.push.Statement.{statement}
 use Rattle.cells.proofs.lists.push.Tie as tie
-use Rattle.cells.proofs.lists.push.Reads as reads
-use Rattle.cells.proofs.lists.push.Lts as lts
-use Rattle.cells.proofs.parts.copy_down.Reads as copy-down-reads
 
--- src/lists.rt:32:17
 slice-copy-out-count : tie.Need-slice-copy-out-count
 slice-copy-out-count c = search needs
 
--- src/lists.rt:32:17
 cast-count : tie.Need-cast-count
 cast-count c =
     let a = c .before in
@@ -23,7 +16,6 @@ cast-count c =
     let k = a .pre .0 in
     rw (count-back s w k) (tt, omega (arith, k .few))
 
--- src/lists.rt:34:9
 returns : tie.Need-returns
 returns c = λ b x y z h j.
     let a = c .before .before in
@@ -32,7 +24,6 @@ returns c = λ b x y z h j.
     let k = a .pre .0 in
     push-full s b x y _ h (counted-cell s w k) (omega (arith, c .if1 .taken))
 
--- src/lists.rt:36:41
 mul-copy-down : tie.Need-mul-copy-down
 mul-copy-down c =
     let a = c .before .before .before in
@@ -41,7 +32,6 @@ mul-copy-down c =
     let k = a .pre .0 in
     omega (arith, counted-room s w k)
 
--- src/lists.rt:36:37
 add-copy-down : tie.Need-add-copy-down
 add-copy-down c =
     let a = c .before .before .before in
@@ -50,7 +40,6 @@ add-copy-down c =
     let k = a .pre .0 in
     omega (arith, counted-room s w k)
 
--- src/lists.rt:36:5
 copy-down-requires : tie.Need-copy-down-requires
 copy-down-requires c κs =
     let a = c .before .before .before in
@@ -59,23 +48,18 @@ copy-down-requires c κs =
     let k = a .pre .0 in
     (counted-room s w k, omega arith)
 
--- src/lists.rt:37:17
 add-stack : tie.Need-add-stack
 add-stack c = search needs
 
--- src/lists.rt:37:16
 cast-stack : tie.Need-cast-stack
 cast-stack c = search needs
 
--- src/lists.rt:37:5
 slice-set-from-stack : tie.Need-slice-set-from-stack
 slice-set-from-stack c = search needs
 
--- src/lists.rt:26:1
 same-length : tie.Need-same-length
 same-length c = search needs
 
--- src/lists.rt:26:1
 returns-2 : tie.Need-returns-2
 returns-2 c = λ b x y z h j.
     let a = c .before .before .before .before .before in

@@ -4,15 +4,10 @@ use Rattle.cells.proofs.Elements.{count-back, counted-cell, last-room, 
 use borrow.Author.Needs.{needs}
 use Rattle.cells.proofs.lists.top.Statement.{statement}
 use Rattle.cells.proofs.lists.top.Tie as tie
-use Rattle.cells.proofs.lists.top.Reads as reads
-use Rattle.cells.proofs.lists.top.Lts as lts
-use Rattle.cells.proofs.parts.copy_down.Reads as copy-down-reads
 
--- src/lists.rt:50:17
 slice-copy-out-count : tie.Need-slice-copy-out-count
 slice-copy-out-count c = search needs
 
--- src/lists.rt:50:17
 cast-count : tie.Need-cast-count
 cast-count c =
     let a = c .before in
@@ -21,7 +16,6 @@ cast-count c =
     let k = a .pre .0 in
     rw (count-back s w k) (tt, omega (arith, k .few))
 
--- src/lists.rt:52:9
 returns : tie.Need-returns
 returns c = λ b x z h.
     let a = c .before .before in
@@ -30,11 +24,9 @@ returns c = λ b x z h.
     let k = a .pre .0 in
     top-empty s b x _ h (counted-cell s w k) (c .if1 .taken)
 
--- src/lists.rt:54:16
 sub-last : tie.Need-sub-last
 sub-last c = search needs
 
--- src/lists.rt:55:33
 mul-copy-down : tie.Need-mul-copy-down
 mul-copy-down c =
     let a = c .before .before .before in
@@ -43,7 +35,6 @@ mul-copy-down c =
     let k = a .pre .0 in
     omega (arith, last-room s w k (c .before .if1 .left))
 
--- src/lists.rt:55:29
 add-copy-down : tie.Need-add-copy-down
 add-copy-down c =
     let a = c .before .before .before in
@@ -52,7 +43,6 @@ add-copy-down c =
     let k = a .pre .0 in
     omega (arith, last-room s w k (c .before .if1 .left))
 
--- src/lists.rt:55:5
 copy-down-requires : tie.Need-copy-down-requires
 copy-down-requires c κs =
     let a = c .before .before .before in
@@ -61,11 +51,9 @@ copy-down-requires c κs =
     let k = a .pre .0 in
     (omega arith, omega (arith, last-room s w k (c .before .if1 .left)))
 
--- src/lists.rt:45:1
 same-length : tie.Need-same-length
 same-length c = search needs
 
--- src/lists.rt:45:1
 returns-2 : tie.Need-returns-2
 returns-2 c = λ b x z h.
     let a = c .before .before .before .before .before in

@@ -1,17 +1,14 @@
 -- `clear` meets its contract: after i turns the first i cells are zeros. Carried by `fill-turn`. Assumes nothing.
-use borrow.Author.Needs.{needs}
 use native.Mathlib.Omega.{arith}
-use mathlib.Core.Path.{_≡_, refl, sym, ap, _∙_}
+use mathlib.Core.Path.{_≡_, refl, ap, _∙_}
 use mathlib.Core.List.{List}
-use Prim.Native.Nat.{ℕ, _+_, _-_, _≤_, _<_}
-use lib.ListN.{length, drop, getD, set, replicate, length-set}
+use Prim.Native.Nat.{ℕ, _+_, _-_, _≤_}
+use lib.ListN.{length, set, replicate, length-set}
 use lib.Seq.{paste, paste-zero}
 use lib.IntN.{ℤ, pos}
-use Rattle.cells.proofs.Moves.{cell-back, down-turn, up-turn, fill-turn}
+use Rattle.cells.proofs.Moves.{fill-turn}
 use Rattle.cells.proofs.parts.clear.Statement.{statement}
 use Rattle.cells.proofs.parts.clear.Tie as tie
-use Rattle.cells.proofs.parts.clear.Reads as reads
-use Rattle.cells.proofs.parts.clear.Lts as lts
 
 abbrev Inv-loop : tie.InvT-loop
 Inv-loop stack₀ at n i₀ stack i = (i ≤ n) × (length stack ≡ length stack₀) × (stack ≡ paste stack₀ at (replicate n (pos 0)) i)
@@ -19,31 +16,24 @@ Inv-loop stack₀ at n i₀ stack i = (i ≤ n) × (length stack ≡ length stac
 abbrev μ-loop : tie.MeasureT-loop
 μ-loop stack₀ at n i₀ stack i = n - i
 
--- src/parts.rt:40:5
 loop-holds : tie.Need-loop-holds Inv-loop μ-loop
 loop-holds c = (omega arith, refl, paste-zero (c .args .stack .now) (c .args .at) (replicate (c .args .n) (pos 0)))
 
--- src/parts.rt:41:15
 add-stack : tie.Need-add-stack Inv-loop μ-loop
 add-stack c = omega arith
 
--- src/parts.rt:41:9
 mul-stack : tie.Need-mul-stack Inv-loop μ-loop
 mul-stack c = omega arith
 
--- src/parts.rt:41:9
 slice-set-of-stack : tie.Need-slice-set-of-stack Inv-loop μ-loop
 slice-set-of-stack c = omega arith
 
--- src/parts.rt:42:9
 add-i : tie.Need-add-i Inv-loop μ-loop
 add-i c = omega arith
 
--- src/parts.rt:40:5
 loop-less : tie.Need-loop-less Inv-loop μ-loop
 loop-less c = omega arith
 
--- src/parts.rt:40:5
 loop-again : tie.Need-loop-again Inv-loop μ-loop
 loop-again c =
     let l = c .before .loop in
@@ -54,11 +44,9 @@ loop-again c =
           ∙ fill-turn (a .stack .now) (a .at) (l .i) (a .n) (pos 0) (omega arith) (omega arith),
     )
 
--- src/parts.rt:35:1
 same-length : tie.Need-same-length Inv-loop μ-loop
 same-length c = c .before .loop .inv .1
 
--- src/parts.rt:35:1
 returns : tie.Need-returns Inv-loop μ-loop
 returns c =
     let a = c .before .before .args in

@@ -1,17 +1,14 @@
 -- `copy_down` meets its contract: after i turns the first i cells are pasted. Carried by `down-turn`. Assumes nothing.
-use borrow.Author.Needs.{needs}
 use native.Mathlib.Omega.{arith}
-use mathlib.Core.Path.{_≡_, refl, sym, ap, _∙_}
+use mathlib.Core.Path.{_≡_, refl, ap, _∙_}
 use mathlib.Core.List.{List}
-use Prim.Native.Nat.{ℕ, _+_, _-_, _≤_, _<_}
-use lib.ListN.{length, drop, getD, set, replicate, length-set}
+use Prim.Native.Nat.{ℕ, _+_, _-_, _≤_}
+use lib.ListN.{length, drop, getD, set, length-set}
 use lib.Seq.{paste, paste-zero}
 use lib.IntN.{ℤ, pos}
-use Rattle.cells.proofs.Moves.{cell-back, down-turn, up-turn, fill-turn}
+use Rattle.cells.proofs.Moves.{cell-back, down-turn}
 use Rattle.cells.proofs.parts.copy_down.Statement.{statement}
 use Rattle.cells.proofs.parts.copy_down.Tie as tie
-use Rattle.cells.proofs.parts.copy_down.Reads as reads
-use Rattle.cells.proofs.parts.copy_down.Lts as lts
 
 abbrev Inv-loop : tie.InvT-loop
 Inv-loop stack₀ from to n i₀ stack i = (i ≤ n) × (length stack ≡ length stack₀) × (stack ≡ paste stack₀ to (drop from stack₀) i)
@@ -19,43 +16,33 @@ Inv-loop stack₀ from to n i₀ stack i = (i ≤ n) × (length stack ≡ length
 abbrev μ-loop : tie.MeasureT-loop
 μ-loop stack₀ from to n i₀ stack i = n - i
 
--- src/parts.rt:15:5
 loop-holds : tie.Need-loop-holds Inv-loop μ-loop
 loop-holds c = (omega arith, refl, paste-zero (c .args .stack .now) (c .args .to) (drop (c .args .from) (c .args .stack .now)))
 
--- src/parts.rt:16:31
 add-stack : tie.Need-add-stack Inv-loop μ-loop
 add-stack c = omega arith
 
--- src/parts.rt:16:25
 mul-stack : tie.Need-mul-stack Inv-loop μ-loop
 mul-stack c = omega arith
 
--- src/parts.rt:16:25
 slice-copy-out-stack : tie.Need-slice-copy-out-stack Inv-loop μ-loop
 slice-copy-out-stack c = omega arith
 
--- src/parts.rt:16:15
 add-t11 : tie.Need-add-t11 Inv-loop μ-loop
 add-t11 c = omega arith
 
--- src/parts.rt:16:9
 mul-t12 : tie.Need-mul-t12 Inv-loop μ-loop
 mul-t12 c = omega arith
 
--- src/parts.rt:16:9
 slice-set-from-stack : tie.Need-slice-set-from-stack Inv-loop μ-loop
 slice-set-from-stack c = omega arith
 
--- src/parts.rt:17:9
 add-i : tie.Need-add-i Inv-loop μ-loop
 add-i c = omega arith
 
--- src/parts.rt:15:5
 loop-less : tie.Need-loop-less Inv-loop μ-loop
 loop-less c = omega arith
 
--- src/parts.rt:15:5
 loop-again : tie.Need-loop-again Inv-loop μ-loop
 loop-again c =
     let l = c .before .before .loop in
@@ -67,11 +54,9 @@ loop-again c =
           ∙ down-turn (a .stack .now) (a .from) (a .to) (l .i) (pos 0) (omega arith) (omega arith),
     )
 
--- src/parts.rt:9:1
 same-length : tie.Need-same-length Inv-loop μ-loop
 same-length c = c .before .loop .inv .1
 
--- src/parts.rt:9:1
 returns : tie.Need-returns Inv-loop μ-loop
 returns c =
     let a = c .before .before .args in

@@ -1,17 +1,14 @@
 -- `copy_up` meets its contract: with i cells left, those above them are pasted. Carried by `up-turn`. Assumes nothing.
-use borrow.Author.Needs.{needs}
 use native.Mathlib.Omega.{arith}
-use mathlib.Core.Path.{_≡_, refl, sym, ap, _∙_}
+use mathlib.Core.Path.{_≡_, refl, ap, _∙_}
 use mathlib.Core.List.{List}
-use Prim.Native.Nat.{ℕ, _+_, _-_, _≤_, _<_}
-use lib.ListN.{length, drop, getD, set, replicate, length-set}
+use Prim.Native.Nat.{ℕ, _+_, _-_, _≤_}
+use lib.ListN.{length, drop, getD, set, length-set}
 use lib.Seq.{paste, paste-zero}
 use lib.IntN.{ℤ, pos}
-use Rattle.cells.proofs.Moves.{cell-back, down-turn, up-turn, fill-turn}
+use Rattle.cells.proofs.Moves.{cell-back, up-turn}
 use Rattle.cells.proofs.parts.copy_up.Statement.{statement}
 use Rattle.cells.proofs.parts.copy_up.Tie as tie
-use Rattle.cells.proofs.parts.copy_up.Reads as reads
-use Rattle.cells.proofs.parts.copy_up.Lts as lts
 
 abbrev Inv-loop : tie.InvT-loop
 Inv-loop stack₀ from to n i₀ stack i = (i ≤ n) × (length stack ≡ length stack₀) × (stack ≡ paste stack₀ (to + i) (drop (from + i) stack₀) (n - i))
@@ -19,7 +16,6 @@ Inv-loop stack₀ from to n i₀ stack i = (i ≤ n) × (length stack ≡ length
 abbrev μ-loop : tie.MeasureT-loop
 μ-loop stack₀ from to n i₀ stack i = i
 
--- src/parts.rt:28:5
 loop-holds : tie.Need-loop-holds Inv-loop μ-loop
 loop-holds c =
     let a = c .args in (
@@ -29,39 +25,30 @@ loop-holds c =
           ∙ ap (λ (k : ℕ). paste (a .stack .now) (a .to + a .n) (drop (a .from + a .n) (a .stack .now)) k) (let e : 0 ≡ a .n - a .n = omega arith in e),
     )
 
--- src/parts.rt:29:9
 sub-i : tie.Need-sub-i Inv-loop μ-loop
 sub-i c = omega arith
 
--- src/parts.rt:30:31
 add-stack : tie.Need-add-stack Inv-loop μ-loop
 add-stack c = omega arith
 
--- src/parts.rt:30:25
 mul-stack : tie.Need-mul-stack Inv-loop μ-loop
 mul-stack c = omega arith
 
--- src/parts.rt:30:25
 slice-copy-out-stack : tie.Need-slice-copy-out-stack Inv-loop μ-loop
 slice-copy-out-stack c = omega arith
 
--- src/parts.rt:30:15
 add-t11 : tie.Need-add-t11 Inv-loop μ-loop
 add-t11 c = omega arith
 
--- src/parts.rt:30:9
 mul-t12 : tie.Need-mul-t12 Inv-loop μ-loop
 mul-t12 c = omega arith
 
--- src/parts.rt:30:9
 slice-set-from-stack : tie.Need-slice-set-from-stack Inv-loop μ-loop
 slice-set-from-stack c = omega arith
 
--- src/parts.rt:28:5
 loop-less : tie.Need-loop-less Inv-loop μ-loop
 loop-less c = omega arith
 
--- src/parts.rt:28:5
 loop-again : tie.Need-loop-again Inv-loop μ-loop
 loop-again c =
     let l = c .before .before .loop in
@@ -73,11 +60,9 @@ loop-again c =
           ∙ up-turn (a .stack .now) (a .from) (a .to) (l .i) (l .i - 1) (a .n) (pos 0) (omega arith) (omega arith) (omega arith) (omega arith),
     )
 
--- src/parts.rt:22:1
 same-length : tie.Need-same-length Inv-loop μ-loop
 same-length c = c .before .loop .inv .1
 
--- src/parts.rt:22:1
 returns : tie.Need-returns Inv-loop μ-loop
 returns c =
     let a = c .before .before .args in

@@ -4,32 +4,22 @@ use Rattle.cells.proofs.Fields.{expand-law}
 use borrow.Author.Needs.{needs}
 use Rattle.cells.proofs.records.expand.Statement.{statement}
 use Rattle.cells.proofs.records.expand.Tie as tie
-use Rattle.cells.proofs.records.expand.Reads as reads
-use Rattle.cells.proofs.records.expand.Lts as lts
-use Rattle.cells.proofs.parts.copy_down.Reads as copy-down-reads
-use Rattle.cells.proofs.parts.copy_up.Reads as copy-up-reads
 
--- src/records.rt:43:16
 add-next : tie.Need-add-next
 add-next c = search needs
 
--- src/records.rt:44:41
 sub-copy-up : tie.Need-sub-copy-up
 sub-copy-up c = search needs
 
--- src/records.rt:44:5
 copy-up-requires : tie.Need-copy-up-requires
 copy-up-requires c κs = search needs
 
--- src/records.rt:45:5
 copy-down-requires : tie.Need-copy-down-requires
 copy-down-requires c κs = search needs
 
--- src/records.rt:35:1
 same-length : tie.Need-same-length
 same-length c = search needs
 
--- src/records.rt:35:1
 returns : tie.Need-returns
 returns c = λ n fs d x y e o t w h k.
     let a = c .before .before .before .before .before .before .args in

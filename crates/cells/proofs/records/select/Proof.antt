@@ -1,22 +1,15 @@
 -- `select` meets its contract, by `select-law`. Assumes nothing.
-use native.Mathlib.Omega.{arith}
 use Rattle.cells.proofs.Fields.{select-law}
 use borrow.Author.Needs.{needs}
 use Rattle.cells.proofs.records.select.Statement.{statement}
 use Rattle.cells.proofs.records.select.Tie as tie
-use Rattle.cells.proofs.records.select.Reads as reads
-use Rattle.cells.proofs.records.select.Lts as lts
-use Rattle.cells.proofs.parts.copy_down.Reads as copy-down-reads
 
--- src/records.rt:23:5
 copy-down-requires : tie.Need-copy-down-requires
 copy-down-requires c κs = search needs
 
--- src/records.rt:18:1
 same-length : tie.Need-same-length
 same-length c = search needs
 
--- src/records.rt:18:1
 returns : tie.Need-returns
 returns c = λ n fs d x e o w h.
     let a = c .before .before .before .args in

@@ -7,38 +7,28 @@ use Rattle.cells.proofs.Singles.{less-law}
 use borrow.Author.Needs.{needs}
 use Rattle.cells.proofs.simple.less.Statement.{statement}
 use Rattle.cells.proofs.simple.less.Tie as tie
-use Rattle.cells.proofs.simple.less.Reads as reads
-use Rattle.cells.proofs.simple.less.Lts as lts
 
--- src/simple.rt:31:17
 slice-copy-out-first : tie.Need-slice-copy-out-first
 slice-copy-out-first c = search needs
 
--- src/simple.rt:32:18
 slice-copy-out-second : tie.Need-slice-copy-out-second
 slice-copy-out-second c = search needs
 
--- src/simple.rt:34:9
 slice-set-of-stack : tie.Need-slice-set-of-stack
 slice-set-of-stack c = search needs
 
--- src/simple.rt:36:9
 slice-set-of-stack-2 : tie.Need-slice-set-of-stack-2
 slice-set-of-stack-2 c = search needs
 
--- src/simple.rt:26:1
 same-length : tie.Need-same-length
 same-length c = search needs
 
--- src/simple.rt:26:1
 returns : tie.Need-returns
 returns c = λ x y h k. less-law (c .before .before .before .args .stack .now) x y true (pos 1) (omega arith) h k (c .before .before .first .given) (c .before .second .given) (c .if1 .taken) refl
 
--- src/simple.rt:26:1
 same-length-2 : tie.Need-same-length-2
 same-length-2 c = search needs
 
--- src/simple.rt:26:1
 returns-2 : tie.Need-returns-2
 returns-2 c = λ x y h k. less-law (c .before .before .before .args .stack .now) x y false (pos 0) (omega arith) h k (c .before .before .first .given) (c .before .second .given) (c .if1 .left) refl
 

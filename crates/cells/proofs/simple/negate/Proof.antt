@@ -1,40 +1,27 @@
 -- `negate` meets its contract, by `negate-zero` and `negate-other`. Assumes nothing.
-use mathlib.Core.Path.{refl}
-use mathlib.Core.Bool.{true, false}
-use native.Mathlib.Omega.{arith}
-use lib.IntN.{pos}
 use Rattle.cells.proofs.Singles.{negate-zero, negate-other}
 use borrow.Author.Needs.{needs}
 use Rattle.cells.proofs.simple.negate.Statement.{statement}
 use Rattle.cells.proofs.simple.negate.Tie as tie
-use Rattle.cells.proofs.simple.negate.Reads as reads
-use Rattle.cells.proofs.simple.negate.Lts as lts
 
--- src/simple.rt:18:16
 slice-copy-out-cell : tie.Need-slice-copy-out-cell
 slice-copy-out-cell c = search needs
 
--- src/simple.rt:20:9
 slice-set-of-stack : tie.Need-slice-set-of-stack
 slice-set-of-stack c = search needs
 
--- src/simple.rt:22:9
 slice-set-of-stack-2 : tie.Need-slice-set-of-stack-2
 slice-set-of-stack-2 c = search needs
 
--- src/simple.rt:14:1
 same-length : tie.Need-same-length
 same-length c = search needs
 
--- src/simple.rt:14:1
 returns : tie.Need-returns
 returns c = λ x h. negate-zero (c .before .before .args .stack .now) x (c .before .before .pre) h (c .if1 .taken)
 
--- src/simple.rt:14:1
 same-length-2 : tie.Need-same-length-2
 same-length-2 c = search needs
 
--- src/simple.rt:14:1
 returns-2 : tie.Need-returns-2
 returns-2 c = λ x h. negate-other (c .before .before .args .stack .now) x (c .before .before .pre) h (c .if1 .left)
 

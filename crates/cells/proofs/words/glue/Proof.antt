@@ -4,77 +4,61 @@ use Rattle.cells.proofs.Glue.{word-read, numbered-cell, numbered-word, 
 use borrow.Author.Needs.{needs}
 use Rattle.cells.proofs.words.glue.Statement.{statement}
 use Rattle.cells.proofs.words.glue.Tie as tie
-use Rattle.cells.proofs.words.glue.Reads as reads
-use Rattle.cells.proofs.words.glue.Lts as lts
-use Rattle.cells.proofs.words.moved_behind.Reads as moved-behind-reads
 
--- src/words.rt:54:17
 slice-copy-out-first : tie.Need-slice-copy-out-first
 slice-copy-out-first c = search needs
 
--- src/words.rt:54:17
 cast-first : tie.Need-cast-first
 cast-first c =
     let a = c .before in
     let s = a .args .stack .now in
     (rw (word-read s 0 (a .pre .1 .0)) tt, record { fits = numbered-fits s 0 (a .pre .1 .0) })
 
--- src/words.rt:55:18
 slice-copy-out-second : tie.Need-slice-copy-out-second
 slice-copy-out-second c = search needs
 
--- src/words.rt:55:18
 cast-second : tie.Need-cast-second
 cast-second c =
     let a = c .before .before in
     let s = a .args .stack .now in
     (rw (word-read s 64 (a .pre .1 .1)) tt, record { fits = numbered-fits s 64 (a .pre .1 .1) })
 
--- src/words.rt:56:28
 moved-behind-requires : tie.Need-moved-behind-requires
 moved-behind-requires c κs =
     let a = c .before .before in
     let s = a .args .stack .now in
     (numbered-word s 0 (a .pre .1 .0), numbered-word s 64 (a .pre .1 .1))
 
--- src/words.rt:56:19
 enum-known-moved : tie.Need-enum-known-moved
 enum-known-moved c = search needs
 
--- src/words.rt:57:9
 enum-told : tie.Need-enum-told
 enum-told c = search needs
 
--- src/words.rt:57:9
 returns : tie.Need-returns
 returns c = λ x y h k.
     let a = c .before .before .before .before .before in
     let s = a .args .stack .now in
     glue-none s x y _ _ (c .before .before .moved-behind .result) h k (numbered-cell s 0 (a .pre .1 .0)) (numbered-cell s 64 (a .pre .1 .1)) (c .before .before .moved-behind .ensures) (c .enum-told .given .1)
 
--- src/words.rt:59:17
 add-stack : tie.Need-add-stack
 add-stack c =
     let a = c .before .before .before .before .before .before in
     let s = a .args .stack .now in
     omega (arith, glued-fits _ _ (c .before .before .before .moved-behind .result) _ (numbered-word s 0 (a .pre .1 .0)) (numbered-word s 64 (a .pre .1 .1)) (c .before .before .before .moved-behind .ensures) (c .before .moved .given .1))
 
--- src/words.rt:59:16
 cast-stack : tie.Need-cast-stack
 cast-stack c =
     let a = c .before .before .before .before .before .before in
     let s = a .args .stack .now in
     omega (arith, glued-fits _ _ (c .before .before .before .moved-behind .result) _ (numbered-word s 0 (a .pre .1 .0)) (numbered-word s 64 (a .pre .1 .1)) (c .before .before .before .moved-behind .ensures) (c .before .moved .given .1))
 
--- src/words.rt:59:5
 slice-set-from-stack : tie.Need-slice-set-from-stack
 slice-set-from-stack c = search needs
 
--- src/words.rt:48:1
 same-length : tie.Need-same-length
 same-length c = search needs
 
--- src/words.rt:48:1
 returns-2 : tie.Need-returns-2
 returns-2 c = λ x y h k.
     let a = c .before .before .before .before .before .before in

@@ -11,8 +11,6 @@ use Rattle.cells.specs.Word.{Behind}
 use Rattle.cells.proofs.Glue.{Passed, passed-none, place-positive, no-room, passed-more, passed-all}
 use Rattle.cells.proofs.words.moved_behind.Statement.{statement}
 use Rattle.cells.proofs.words.moved_behind.Tie as tie
-use Rattle.cells.proofs.words.moved_behind.Reads as reads
-use Rattle.cells.proofs.words.moved_behind.Lts as lts
 
 abbrev Inv-loop : tie.InvT-loop
 Inv-loop first second rest₀ moved₀ place₀ rest moved place =
@@ -21,34 +19,28 @@ Inv-loop first second rest₀ moved₀ place₀ rest moved place =
 abbrev μ-loop : tie.MeasureT-loop
 μ-loop first second rest₀ moved₀ place₀ rest moved place = place
 
--- src/words.rt:36:5
 loop-holds : tie.Need-loop-holds Inv-loop μ-loop
 loop-holds c = λ cs ds h k e f. passed-none cs ds _ _ h k e f
 
--- src/words.rt:38:13
 returns : tie.Need-returns Inv-loop μ-loop
 unfolding Behind
 returns c = λ cs ds h k e f. no-room (c .before .before .loop .inv cs ds h k e f) (c .before .loop-test .taken) (c .if1 .taken)
 
--- src/words.rt:41:16
 rem-rest : tie.Need-rem-rest Inv-loop μ-loop
 rem-rest c =
     let p = c .before .before .before .pre in
     let q = c .before .before .loop .inv (p .0 .characters) (p .1 .characters) (p .0 .text) (p .1 .text) (p .0 .is) (p .1 .is) in
     place-positive q (c .before .loop-test .taken)
 
--- src/words.rt:36:5
 loop-less : tie.Need-loop-less Inv-loop μ-loop
 loop-less c =
     let p = c .before .before .before .pre in
     let q = c .before .before .loop .inv (p .0 .characters) (p .1 .characters) (p .0 .text) (p .1 .text) (p .0 .is) (p .1 .is) in
     omega (arith, place-positive q (c .before .loop-test .taken))
 
--- src/words.rt:36:5
 loop-again : tie.Need-loop-again Inv-loop μ-loop
 loop-again c = λ cs ds h k e f. passed-more k (c .before .before .loop .inv cs ds h k e f) (c .before .loop-test .taken) (c .if1 .left)
 
--- src/words.rt:28:1
 returns-2 : tie.Need-returns-2 Inv-loop μ-loop
 unfolding Behind
 returns-2 c = λ cs ds h k e f. passed-all (c .before .loop .inv cs ds h k e f) (c .loop-test .left)

@@ -1,0 +1,92 @@
+-- What the operations' half on bodies gives, as the code holds it. Assumes nothing: these are definitions.
+use mathlib.Core.Path.{_≡_}
+use mathlib.Core.Option.{Option, some, none}
+use Prim.Native.Nat.{ℕ, _≤_}
+use lib.Dec.{eqb}
+use lib.ListN.{replicate}
+use Rattle.lingua.specs.Numbers.{body-cells, body-nodes}
+use Rattle.lingua.specs.Outcome.{ok, fail, Result, if_then_else_}
+use Rattle.lingua.specs.Body.{Body, boolean, number, word, Attributes, attributesOf, attributeOffset, insertAttribute, size, nodes}
+use Rattle.lingua.specs.Operation.{Unary, negation, make-record, select, make-list, top, pop, Binary, add, subtract, multiply, divide, less, equal, glue, expand, change, push, unaryBody, binaryBody}
+use Rattle.body.specs.declared.typed.Typed.{Typed}
+use Rattle.body.specs.Encode.{encoded, body-bytes}
+
+-- no error, the body, its cells and the attribute's offset; or the error's number
+unfoldable pub typed : Result Body → ℕ → Typed
+typed (ok b) o = record { error = 0; body = encoded b; cells = size b; offset = o }
+typed (fail e) o = record { error = e; body = replicate body-bytes 0; cells = 0; offset = 0 }
+
+-- the body has few enough cells and nodes to be held; the error is one
+unfoldable pub Fit : Result Body → Type 0
+Fit (ok b) = (size b ≤ body-cells) × (nodes b ≤ body-nodes)
+Fit (fail e) = 1 ≤ e
+
+-- the code's answer is what the half on bodies gives
+pub record Types (t : Typed) (r : Result Body) (o : ℕ) : Type 0 where
+  pub is : t ≡ typed r o
+  pub fit : Fit r
+
+-- a simple body by its tag
+unfoldable pub simpleOf : ℕ → Body
+simpleOf t = if eqb t 1 then boolean else (if eqb t 2 then number else word)
+
+-- ---- the attribute's offset that the layout table keeps beside the cells
+unfoldable pub offsetIn : ℕ → Option Attributes → ℕ
+offsetIn n (some fs) = attributeOffset n fs
+offsetIn n none = 0
+
+-- of a new attribute, the offset in the widened record
+unfoldable pub offsetAfter : ℕ → Body → Option Attributes → ℕ
+offsetAfter n c (some fs) = attributeOffset n (insertAttribute n c fs)
+offsetAfter n c none = 0
+
+unfoldable pub unaryOffset : Unary → Body → ℕ
+unaryOffset negation b = 0
+unaryOffset (make-record n) b = 0
+unaryOffset (select n) b = offsetIn n (attributesOf b)
+unaryOffset make-list b = 0
+unaryOffset top b = 0
+unaryOffset pop b = 0
+
+unfoldable pub binaryOffset : Binary → Body → Body → ℕ
+binaryOffset add b c = 0
+binaryOffset subtract b c = 0
+binaryOffset multiply b c = 0
+binaryOffset divide b c = 0
+binaryOffset less b c = 0
+binaryOffset equal b c = 0
+binaryOffset glue b c = 0
+binaryOffset (expand n) b c = offsetAfter n c (attributesOf b)
+binaryOffset (change n) b c = offsetIn n (attributesOf b)
+binaryOffset push b c = 0
+
+-- ---- the operations by their kinds, with the attribute's number
+unfoldable pub unaryOf : ℕ → ℕ → Unary
+unaryOf kind n =
+    if eqb kind 14 then negation else
+    (if eqb kind 16 then make-record n else
+    (if eqb kind 18 then select n else
+    (if eqb kind 20 then make-list else
+    (if eqb kind 22 then top else pop))))
+
+unfoldable pub binaryOf : ℕ → ℕ → Binary
+binaryOf kind n =
+    if eqb kind 9 then less else
+    (if eqb kind 10 then equal else
+    (if eqb kind 13 then glue else
+    (if eqb kind 17 then expand n else
+    (if eqb kind 19 then change n else
+    (if eqb kind 21 then push else
+    (if eqb kind 5 then add else
+    (if eqb kind 6 then subtract else
+    (if eqb kind 7 then multiply else divide))))))))
+
+-- ---- the body of a type row, by its kind, from the bodies that it names (document 01, section 2)
+unfoldable pub typeBody : ℕ → ℕ → Body → Body → Result Body
+typeBody kind n b c =
+    if eqb kind 4 then unaryBody make-list b else
+    (if eqb kind 5 then unaryBody (make-record n) b else
+    (if eqb kind 6 then binaryBody (expand n) b c else ok (simpleOf kind)))
+
+unfoldable pub typeOffset : ℕ → ℕ → Body → Body → ℕ
+typeOffset kind n b c = if eqb kind 6 then binaryOffset (expand n) b c else 0

@@ -1,0 +1,161 @@
+// The half on bodies of the operations of one operand.
+use crate::find::find;
+use crate::make::body_at;
+use crate::make::element;
+use crate::make::list_of;
+use crate::make::record_of;
+use crate::typed::BODY_TOO_LARGE;
+use crate::typed::BOOLEAN_EXPECTED;
+use crate::typed::LIST_EXPECTED;
+use crate::typed::NO_SUCH_ATTRIBUTE;
+use crate::typed::RECORD_EXPECTED;
+use crate::typed::Typed;
+use crate::typed::failed;
+use crate::typed::scalar;
+use crate::typed::too_large;
+use crate::walk::BOOLEAN;
+use crate::walk::LIST;
+use crate::walk::RECORD;
+use crate::walk::measure_body;
+ghost use mathlib.Core.Path.{_≡_};
+ghost use Rattle.lingua.specs.Body.{Body, isBoolean};
+ghost use Rattle.lingua.specs.Operation.{negation, make-record, select, make-list, top, pop, unaryBody};
+ghost use Rattle.body.specs.Encode.{Holds, Held};
+ghost use Rattle.body.specs.Typed.{Types, unaryOffset, unaryOf};
+
+// What a test and a yoke are asked.
+pub fn is_boolean(x: [u8; 96]) -> bool
+    ensures { λ r. ⌜ ((b : Body) → Holds x b → r ≡ isBoolean b) ⌝ }
+{
+    if x[0] == BOOLEAN {
+        return true;
+    }
+    false
+}
+
+// Kind 14.
+pub fn negation(x: [u8; 96]) -> Typed
+    ensures { λ r. ⌜ ((b : Body) → Holds x b → Types r (unaryBody negation b) 0) ⌝ }
+{
+    if x[0] != BOOLEAN {
+        return failed(BOOLEAN_EXPECTED);
+    }
+    scalar(BOOLEAN)
+}
+
+// Kind 16. The bounds are asked before the record is made: within them it fits its 96 bytes.
+pub fn make_record(n: u8, x: [u8; 96]) -> Typed
+    requires { ⌜ Held x ⌝ }
+    ensures { λ r. ⌜ ((b : Body) → Holds x b → Types r (unaryBody (make-record n) b) 0) ⌝ }
+{
+    let m = measure_body(x);
+    if too_large(m.cells, 1 + m.nodes, 1 + m.depth, 1) {
+        return failed(BODY_TOO_LARGE);
+    }
+    let body = record_of(n, x);
+    Typed {
+        error: 0,
+        body: body,
+        cells: m.cells,
+        offset: 0,
+    }
+}
+
+// Kind 18.
+pub fn select(n: u8, x: [u8; 96]) -> Typed
+    requires { ⌜ Held x ⌝ }
+    ensures { λ r. ⌜ ((b : Body) → Holds x b → Types r (unaryBody (select n) b) (unaryOffset (select n) b)) ⌝ }
+{
+    if x[0] != RECORD {
+        return failed(RECORD_EXPECTED);
+    }
+    let f = find(x, n);
+    if !f.found {
+        return failed(NO_SUCH_ATTRIBUTE);
+    }
+    let body = body_at(x, f.at);
+    let m = measure_body(body);
+    Typed {
+        error: 0,
+        body: body,
+        cells: m.cells,
+        offset: f.offset,
+    }
+}
+
+// Kind 20.
+pub fn make_list(x: [u8; 96]) -> Typed
+    requires { ⌜ Held x ⌝ }
+    ensures { λ r. ⌜ ((b : Body) → Holds x b → Types r (unaryBody make-list b) 0) ⌝ }
+{
+    let m = measure_body(x);
+    let cells = 1 + 8 * m.cells;
+    if too_large(cells, 1 + m.nodes, 1 + m.depth, 0) {
+        return failed(BODY_TOO_LARGE);
+    }
+    let body = list_of(x);
+    Typed {
+        error: 0,
+        body: body,
+        cells: cells,
+        offset: 0,
+    }
+}
+
+// Kind 22.
+pub fn top(x: [u8; 96]) -> Typed
+    requires { ⌜ Held x ⌝ }
+    ensures { λ r. ⌜ ((b : Body) → Holds x b → Types r (unaryBody top b) 0) ⌝ }
+{
+    if x[0] != LIST {
+        return failed(LIST_EXPECTED);
+    }
+    let body = element(x);
+    let m = measure_body(body);
+    Typed {
+        error: 0,
+        body: body,
+        cells: m.cells,
+        offset: 0,
+    }
+}
+
+// Kind 23.
+pub fn pop(x: [u8; 96]) -> Typed
+    requires { ⌜ Held x ⌝ }
+    ensures { λ r. ⌜ ((b : Body) → Holds x b → Types r (unaryBody pop b) 0) ⌝ }
+{
+    if x[0] != LIST {
+        return failed(LIST_EXPECTED);
+    }
+    let m = measure_body(x);
+    Typed {
+        error: 0,
+        body: x,
+        cells: m.cells,
+        offset: 0,
+    }
+}
+
+// The operation of a kind: 14, 16, 18, 20, 22 or 23.
+pub fn unary(kind: u8, n: u8, x: [u8; 96]) -> Typed
+    requires { ⌜ Held x ⌝ }
+    ensures { λ r. ⌜ ((b : Body) → Holds x b → Types r (unaryBody (unaryOf kind n) b) (unaryOffset (unaryOf kind n) b)) ⌝ }
+{
+    if kind == 14 {
+        return negation(x);
+    }
+    if kind == 16 {
+        return make_record(n, x);
+    }
+    if kind == 18 {
+        return select(n, x);
+    }
+    if kind == 20 {
+        return make_list(x);
+    }
+    if kind == 22 {
+        return top(x);
+    }
+    pop(x)
+}

@@ -1,0 +1,93 @@
+-- An operation of one operand by its name: what each of them asks of the stack, and what it leaves. Assumes nothing.
+use mathlib.Core.Path.{_≡_, sym, ap, subst}
+use mathlib.Core.List.{List}
+use mathlib.Core.Option.{some}
+use Prim.Native.Nat.{ℕ, _+_, _-_, _*_, _/_, _≤_}
+use native.Mathlib.Omega.{arith}
+use lib.IntN.{ℤ}
+use Rattle.lingua.specs.Numbers.{body-cells, list-places}
+use Rattle.lingua.specs.Body.{Body, boolean, list-of, record-of, Attributes, size, attributesOf, attributeBody, attributeOffset}
+use Rattle.lingua.specs.Value.{Value}
+use Rattle.lingua.specs.Operation.{Unary, negation, make-record, select, make-list, top, pop}
+use Rattle.lingua.specs.Compute.{unaryValue}
+use Rattle.lingua.specs.Typing.{offsetIn, unarySecond}
+use Rattle.lingua.specs.Operations.{unaryMeaning}
+use Rattle.lingua.specs.declared.operations.UnaryOperation.{UnaryOperation}
+use Rattle.laws.specs.Halves.{unary-small, negation-body, make-record-body, select-body, make-list-body, top-body, pop-body, attribute-within}
+use Rattle.cells.specs.Stack.{Lies, Holds, Leaves, Counted}
+use Rattle.cells.specs.Operands.{Operand, HasOperand}
+use Rattle.cells.proofs.Elements.{leaves-answer, list-size}
+use Rattle.cells.proofs.Operands.{lies-as, leaves-as, lies-counted, make-record-law}
+
+offset-of : {b : Body} {offset : ℕ} {fs : Attributes} (n : ℕ) → b ≡ record-of fs → unarySecond (select n) b ≡ offset → attributeOffset n fs ≡ offset
+unfolding unarySecond offsetIn attributesOf
+offset-of {b} {offset} n q e = subst (λ (c : Body). offsetIn n c ≡ offset) q e
+
+-- an element's cells, from the list's
+element-cells : {b : Body} {cells : ℕ} (c : Body) → b ≡ list-of c → size b ≡ cells → size c ≡ (cells - 1) / 8
+element-cells c q e = omega (arith, ap size q, list-size c, e)
+
+module _ {s : List ℤ} {cells result offset : ℕ} {b d : Body} {x : Value} where
+  -- ---- what is asked
+  pub selected-room : (n : ℕ) → Operand (select n) s cells result offset b d x → offset + result ≤ cells
+  unfolding size
+  selected-room n h =
+      let p = select-body {n = n} (h .half) in
+      omega (arith, attribute-within n (p .attributes) d (p .has), offset-of n (p .is) (h .offset-is), h .result-is, h .cells-are, ap size (p .is))
+
+  pub listed-room : Operand make-list s cells result offset b d x → 1 + list-places * cells ≤ body-cells
+  listed-room h =
+      omega (arith, unary-small make-list b (h .small) (h .half), ap size (make-list-body (h .half)), list-size b, h .cells-are)
+
+  pub top-counted : Operand top s cells result offset b d x → Counted s result
+  top-counted h =
+      let q = top-body (h .half) in lies-counted result (h .result-is) (omega (arith, ap size q, h .small)) (lies-as q (h .lies))
+
+  pub pop-some : Operand pop s cells result offset b d x → 1 ≤ cells
+  pop-some h = let p = pop-body (h .half) in omega (arith, ap size (p .1), list-size (p .0), h .cells-are)
+
+  pub pop-counted : Operand pop s cells result offset b d x → Counted s ((cells - 1) / 8)
+  pop-counted h =
+      let p = pop-body (h .half) in
+      lies-counted ((cells - 1) / 8) (element-cells (p .0) (p .1) (h .cells-are)) (omega (arith, ap size (p .1), h .small)) (lies-as (p .1) (h .lies))
+
+  -- ---- what is left
+  module _ (last : List ℤ) where
+    pub negation-leaves : ((v : Value) → Lies s 0 boolean v → Holds last boolean (unaryValue negation v)) → Operand negation s cells result offset b d x → Leaves 0 last d (unaryValue negation x)
+    negation-leaves f h = let p = negation-body (h .half) in leaves-as (p .1) (leaves-answer (f x (lies-as (p .0) (h .lies))))
+
+    pub select-leaves : (n : ℕ) → ((m : ℕ) (fs : Attributes) (e : Body) (v : Value) → attributeBody m fs ≡ some e → attributeOffset m fs ≡ offset → size e ≡ result
+        → Lies s 0 (record-of fs) v → Holds last e (unaryValue (select m) v)) → Operand (select n) s cells result offset b d x → Leaves 0 last d (unaryValue (select n) x)
+    select-leaves n f h =
+        let p = select-body {n = n} (h .half) in
+        leaves-answer (f n (p .attributes) d x (p .has) (offset-of n (p .is) (h .offset-is)) (h .result-is) (lies-as (p .is) (h .lies)))
+
+    pub make-list-leaves : ((c : Body) (v : Value) → size c ≡ cells → Lies s 0 c v → Holds last (list-of c) (unaryValue make-list v)) → Operand make-list s cells result offset b d x
+        → Leaves 0 last d (unaryValue make-list x)
+    make-list-leaves f h = leaves-as (make-list-body (h .half)) (leaves-answer (f b x (h .cells-are) (h .lies)))
+
+    pub top-leaves : (r : ℕ) → ((c : Body) (v : Value) → size c ≡ result → Lies s 0 (list-of c) v → Leaves r last c (unaryValue top v)) → Operand top s cells result offset b d x
+        → Leaves r last d (unaryValue top x)
+    top-leaves r f h = f d x (h .result-is) (lies-as (top-body (h .half)) (h .lies))
+
+    pub pop-leaves : (r : ℕ) → ((c : Body) (v : Value) → size c ≡ (cells - 1) / 8 → Lies s 0 (list-of c) v → Leaves r last (list-of c) (unaryValue pop v)) → Operand pop s cells result offset b d x
+        → Leaves r last d (unaryValue pop x)
+    pop-leaves r f h =
+        let p = pop-body (h .half) in
+        leaves-as (p .2) (f (p .0) x (element-cells (p .0) (p .1) (h .cells-are)) (lies-as (p .1) (h .lies)))
+
+  pub make-record-leaves : (n : ℕ) → Operand (make-record n) s cells result offset b d x → Leaves 0 s d (unaryValue (make-record n) x)
+  make-record-leaves n h = leaves-as (make-record-body {n = n} (h .half)) (leaves-answer (make-record-law n (h .lies)))
+
+-- ---- by name
+pub named : {op : UnaryOperation} (v : UnaryOperation) → op ≡ v → unaryMeaning op ≡ unaryMeaning v
+named v e = ap unaryMeaning e
+
+module _ {s : List ℤ} {cells result offset : ℕ} {o p : Unary} (e : o ≡ p) where
+  pub has-named : HasOperand o s cells result offset → HasOperand p s cells result offset
+  has-named h = subst (λ (q : Unary). HasOperand q s cells result offset) e h
+
+  pub leaves-named : {b d : Body} {x : Value} {r : ℕ} {last : List ℤ} → (Operand p s cells result offset b d x → Leaves r last d (unaryValue p x))
+      → Operand o s cells result offset b d x → Leaves r last d (unaryValue o x)
+  leaves-named {b} {d} {x} {r} {last} f h =
+      subst (λ (q : Unary). Leaves r last d (unaryValue q x)) (sym e) (f (subst (λ (q : Unary). Operand q s cells result offset b d x) e h))

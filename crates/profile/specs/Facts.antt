@@ -1,0 +1,149 @@
+-- What acceptance shows of a row as the code has it: what it names is there, and its tree by those of the rows that it names.
+-- Assumes nothing.
+use mathlib.Core.Path.{_≡_, refl, sym, ap, ap₂, _∙_, subst}
+use mathlib.Core.Bool.{Bool, true, false}
+use mathlib.Core.List.{List, [], _∷_, _++_}
+use Prim.Native.Nat.{ℕ, zero, suc, _<_}
+use Rattle.lingua.specs.Numbers.{declaration-section, expression-section, instruction-section}
+use Rattle.lingua.specs.Errors.{last-error}
+use Rattle.lingua.specs.Value.{Composite}
+use Rattle.lingua.specs.Expression.{Expression, constant, variable, current, unary, binary, lazy, choice, all-list, Instruction, skip, assign, set-yoke, sequence, branch, loop, handle}
+use Rattle.lingua.specs.Operations.{unaryMeaning, binaryMeaning}
+use Rattle.lingua.specs.Rows.{tableCount, pairCount, ExpressionRow, expressionRow, operands, InstructionRow, instructionRow, parts, evaluated, yokeRoot, yokeSet}
+use Rattle.lingua.specs.Trees.{lower, no-expression, expressionOf, expressionTree, yokeTree, instructionOf, instructionTree}
+use Rattle.lingua.specs.Rules.{handledErrors}
+use Rattle.lingua.specs.References.{expressionVariables, instructionVariables}
+use Rattle.safety.specs.Every.{Every, every-none, every-more}
+use Rattle.safety.specs.Accepted.{AcceptedRows, instruction-roots}
+use Rattle.profile.specs.declared.row.ExpressionRow.the-variants as code
+use Rattle.profile.specs.declared.row.ExpressionRow.{ExpressionRow as CodeRow}
+use Rattle.profile.specs.declared.row.InstructionRow.the-variants as does
+use Rattle.profile.specs.declared.row.InstructionRow.{InstructionRow as CodeInstruction}
+use Rattle.profile.specs.Row.{connective, rowMeaning, constantOf, RowSays, instructionMeaning}
+use Rattle.profile.specs.Accepted.{Between, expression-operands, expression-variables, instruction-parts, instruction-variables, handled-errors}
+use Rattle.profile.specs.Constants.{ConstantRow, constant-row-is}
+use Rattle.profile.specs.Unrolled.{lower-is, expression-unrolled, instruction-unrolled}
+
+-- ---- expressions
+-- operands are lower rows, a variable is declared, and a constant is in range
+unfoldable pub RowFacts : List ℕ → ℕ → CodeRow → Type 0
+RowFacts rows r code.Constant = ConstantRow rows r
+RowFacts rows r (code.Variable n) = n < pairCount rows declaration-section
+RowFacts rows r code.Current = Unit {0}
+RowFacts rows r (code.Unary o a) = a < r
+RowFacts rows r (code.Binary o a b) = (a < r) × (b < r)
+RowFacts rows r (code.Lazy t a b) = (a < r) × (b < r)
+RowFacts rows r (code.Choice a b c) = (a < r) × (b < r) × (c < r)
+RowFacts rows r (code.AllList a) = a < r
+
+facts-by : (rows : List ℕ) (r : ℕ) (c : CodeRow) → (RowSays rows r code.Constant → ConstantRow rows r) → RowSays rows r c → Every (λ a. a < r) (operands (rowMeaning (constantOf rows r) c))
+    → Every (λ n. n < pairCount rows declaration-section) (expressionVariables (rowMeaning (constantOf rows r) c)) → RowFacts rows r c
+unfolding RowFacts rowMeaning operands expressionVariables
+facts-by rows r code.Constant f s o v = f s
+facts-by rows r (code.Variable n) f s o (every-more h v) = h
+facts-by rows r code.Current f s o v = tt
+facts-by rows r (code.Unary u a) f s (every-more h o) v = h
+facts-by rows r (code.Binary u a b) f s (every-more h (every-more k o)) v = (h, k)
+facts-by rows r (code.Lazy t a b) f s (every-more h (every-more k o)) v = (h, k)
+facts-by rows r (code.Choice a b c) f s (every-more h (every-more k (every-more l o))) v = (h, k, l)
+facts-by rows r (code.AllList a) f s (every-more h o) v = h
+
+pub row-facts : (rows : List ℕ) → AcceptedRows rows → (r : ℕ) → r < tableCount rows expression-section → (c : CodeRow) → RowSays rows r c → RowFacts rows r c
+row-facts rows accepted r l c s =
+    facts-by rows r c
+    (constant-row-is rows accepted r l) s
+    (subst (λ (e : ExpressionRow). Every (λ a. a < r) (operands e)) (sym (s .says)) (expression-operands rows (accepted .references) r l))
+    (subst (λ (e : ExpressionRow). Every (λ n. n < pairCount rows declaration-section) (expressionVariables e)) (sym (s .says)) (expression-variables rows (accepted .references) r l))
+
+-- the tree by those of the operands
+unfoldable pub rowTree : List ℕ → ℕ → CodeRow → Expression
+rowTree rows r code.Constant = constant r (constantOf rows r)
+rowTree rows r (code.Variable n) = variable r n
+rowTree rows r code.Current = current r
+rowTree rows r (code.Unary o a) = unary r (unaryMeaning o) (expressionTree rows a)
+rowTree rows r (code.Binary o a b) = binary r (binaryMeaning o) (expressionTree rows a) (expressionTree rows b)
+rowTree rows r (code.Lazy t a b) = lazy r (connective t) (expressionTree rows a) (expressionTree rows b)
+rowTree rows r (code.Choice a b c) = choice r (expressionTree rows a) (expressionTree rows b) (expressionTree rows c)
+rowTree rows r (code.AllList a) = all-list r (expressionTree rows a)
+
+module _ (rows : List ℕ) (r : ℕ) where
+  at-row : (a : ℕ) → a < r → lower r (λ k. expressionTree rows k) (no-expression r) a ≡ expressionTree rows a
+  at-row a l = lower-is r (λ k. expressionTree rows k) (no-expression r) a l
+
+  tree-by : (c : CodeRow) → RowFacts rows r c → expressionOf r (rowMeaning (constantOf rows r) c) (lower r (λ a. expressionTree rows a) (no-expression r)) ≡ rowTree rows r c
+  unfolding RowFacts rowMeaning rowTree expressionOf
+  tree-by code.Constant f = refl
+  tree-by (code.Variable n) f = refl
+  tree-by code.Current f = refl
+  tree-by (code.Unary o a) f = ap (unary r (unaryMeaning o)) (at-row a f)
+  tree-by (code.Binary o a b) f = ap₂ (binary r (binaryMeaning o)) (at-row a (f .0)) (at-row b (f .1))
+  tree-by (code.Lazy t a b) f = ap₂ (lazy r (connective t)) (at-row a (f .0)) (at-row b (f .1))
+  tree-by (code.Choice a b c) f = λ i. choice r (at-row a (f .0) i) (at-row b (f .1) i) (at-row c (f .2) i)
+  tree-by (code.AllList a) f = ap (all-list r) (at-row a f)
+
+pub row-tree : (rows : List ℕ) (r : ℕ) (c : CodeRow) → RowSays rows r c → RowFacts rows r c → expressionTree rows r ≡ rowTree rows r c
+row-tree rows r c s f =
+    expression-unrolled rows r
+    ∙ (ap (λ (e : ExpressionRow). expressionOf r e (lower r (λ a. expressionTree rows a) (no-expression r))) (sym (s .says)) ∙ tree-by rows r c f)
+
+-- ---- instructions
+-- parts are lower rows, a variable is declared, an expression or yoke is there, and a handled error is one
+unfoldable pub InstructionFacts : List ℕ → ℕ → CodeInstruction → Type 0
+InstructionFacts rows r does.Skip = Unit {0}
+InstructionFacts rows r (does.Assign n e) = (n < pairCount rows declaration-section) × (e < tableCount rows expression-section)
+InstructionFacts rows r (does.SetYoke n y) = (n < pairCount rows declaration-section) × Every (λ k. k < tableCount rows expression-section) (yokeRoot y)
+InstructionFacts rows r (does.Sequence i j) = (i < r) × (j < r)
+InstructionFacts rows r (does.Branch e i j) = (e < tableCount rows expression-section) × (i < r) × (j < r)
+InstructionFacts rows r (does.Loop e i) = (e < tableCount rows expression-section) × (i < r)
+InstructionFacts rows r (does.Handle n i) = Between 1 last-error n × (i < r)
+
+instruction-by : (rows : List ℕ) (r : ℕ) (c : CodeInstruction) → Every (λ a. a < r) (parts (instructionMeaning c))
+    → Every (λ n. n < pairCount rows declaration-section) (instructionVariables (instructionMeaning c))
+    → Every (λ k. k < tableCount rows expression-section) (evaluated (instructionMeaning c) ++ yokeSet (instructionMeaning c))
+    → Every (λ n. Between 1 last-error n) (handledErrors (instructionMeaning c)) → InstructionFacts rows r c
+unfolding InstructionFacts instructionMeaning parts instructionVariables evaluated yokeSet handledErrors
+instruction-by rows r does.Skip p v e h = tt
+instruction-by rows r (does.Assign n x) p (every-more k v) (every-more l e) h = (k, l)
+instruction-by rows r (does.SetYoke n y) p (every-more k v) e h = (k, e)
+instruction-by rows r (does.Sequence i j) (every-more k (every-more l p)) v e h = (k, l)
+instruction-by rows r (does.Branch x i j) (every-more k (every-more l p)) v (every-more m e) h = (m, k, l)
+instruction-by rows r (does.Loop x i) (every-more k p) v (every-more m e) h = (m, k)
+instruction-by rows r (does.Handle n i) (every-more k p) v e (every-more m h) = (m, k)
+
+pub instruction-facts : (rows : List ℕ) → AcceptedRows rows → (r : ℕ) → r < tableCount rows instruction-section → (c : CodeInstruction)
+    → instructionMeaning c ≡ instructionRow rows r → InstructionFacts rows r c
+instruction-facts rows accepted r l c s =
+    instruction-by rows r c
+    (subst (λ (e : InstructionRow). Every (λ a. a < r) (parts e)) (sym s) (instruction-parts rows (accepted .references) r l))
+    (subst (λ (e : InstructionRow). Every (λ n. n < pairCount rows declaration-section) (instructionVariables e)) (sym s) (instruction-variables rows (accepted .references) r l))
+    (subst (λ (e : InstructionRow). Every (λ k. k < tableCount rows expression-section) (evaluated e ++ yokeSet e)) (sym s) (instruction-roots rows accepted r l))
+    (subst (λ (e : InstructionRow). Every (λ n. Between 1 last-error n) (handledErrors e)) (sym s) (handled-errors rows (accepted .constants) r l))
+
+-- the tree by those of the parts
+unfoldable pub instructionRowTree : List ℕ → ℕ → CodeInstruction → Instruction
+instructionRowTree rows r does.Skip = skip r
+instructionRowTree rows r (does.Assign n e) = assign r n (expressionTree rows e)
+instructionRowTree rows r (does.SetYoke n y) = set-yoke r n (yokeTree rows y)
+instructionRowTree rows r (does.Sequence i j) = sequence r (instructionTree rows i) (instructionTree rows j)
+instructionRowTree rows r (does.Branch e i j) = branch r (expressionTree rows e) (instructionTree rows i) (instructionTree rows j)
+instructionRowTree rows r (does.Loop e i) = loop r (expressionTree rows e) (instructionTree rows i)
+instructionRowTree rows r (does.Handle n i) = handle r n (instructionTree rows i)
+
+module _ (rows : List ℕ) (r : ℕ) where
+  at-part : (a : ℕ) → a < r → lower r (λ k. instructionTree rows k) (skip r) a ≡ instructionTree rows a
+  at-part a l = lower-is r (λ k. instructionTree rows k) (skip r) a l
+
+  instruction-tree-by : (c : CodeInstruction) → InstructionFacts rows r c → instructionOf rows r (instructionMeaning c) (lower r (λ a. instructionTree rows a) (skip r)) ≡ instructionRowTree rows r c
+  unfolding InstructionFacts instructionMeaning instructionRowTree instructionOf
+  instruction-tree-by does.Skip f = refl
+  instruction-tree-by (does.Assign n e) f = refl
+  instruction-tree-by (does.SetYoke n y) f = refl
+  instruction-tree-by (does.Sequence i j) f = ap₂ (sequence r) (at-part i (f .0)) (at-part j (f .1))
+  instruction-tree-by (does.Branch e i j) f = ap₂ (branch r (expressionTree rows e)) (at-part i (f .1)) (at-part j (f .2))
+  instruction-tree-by (does.Loop e i) f = ap (loop r (expressionTree rows e)) (at-part i (f .1))
+  instruction-tree-by (does.Handle n i) f = ap (handle r n) (at-part i (f .1))
+
+pub instruction-row-tree : (rows : List ℕ) (r : ℕ) (c : CodeInstruction) → instructionMeaning c ≡ instructionRow rows r → InstructionFacts rows r c → instructionTree rows r ≡ instructionRowTree rows r c
+instruction-row-tree rows r c s f =
+    instruction-unrolled rows r
+    ∙ (ap (λ (e : InstructionRow). instructionOf rows r e (lower r (λ a. instructionTree rows a) (skip r))) (sym s) ∙ instruction-tree-by rows r c f)

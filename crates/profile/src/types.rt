@@ -1,0 +1,120 @@
+// Types to bodies: the body of each type row once, in a flat array of 96 bytes for each; rule 13.
+use body::binary::expand;
+use body::typed::Typed;
+use body::typed::scalar;
+use body::unary::make_list;
+use body::unary::make_record;
+use body::walk::BOOLEAN;
+use body::walk::NUMBER;
+use body::walk::WORD;
+use rules::fields::a_at;
+use rules::fields::b_at;
+use rules::fields::c_at;
+use rules::fields::kind_at;
+use rules::tables::Table;
+ghost use mathlib.Core.Path.{_≡_};
+ghost use mathlib.Core.Bool.{true, false};
+ghost use Prim.Native.Nat.{ℕ, _+_, _*_, _<_, _≤_};
+ghost use lib.ListN.{length};
+ghost use lib.Seq.{paste};
+ghost use Rattle.lingua.specs.Numbers.{type-section};
+ghost use Rattle.lingua.specs.Outcome.{Result};
+ghost use Rattle.lingua.specs.Body.{Body};
+ghost use Rattle.lingua.specs.Rows.{tableCount, typeKind};
+ghost use Rattle.lingua.specs.Rules.{attributesFit, typeAttributes};
+ghost use Rattle.lingua.specs.References.{typeParts, typeWrong};
+ghost use Rattle.lingua.specs.Trees.{typeBodyOf, typeBody};
+ghost use Rattle.safety.specs.Every.{Every};
+ghost use Rattle.rules.specs.Tables.{IsTable};
+ghost use Rattle.profile.specs.Types.{bodyAt, HeldAt, LooksUp, Answers, TypesReady, BodiesBelow};
+
+// The body of type row r, by itself.
+pub fn type_body(bodies: &[u8], r: usize) -> [u8; 96]
+    requires { ⌜ 96 * r + 96 ≤ length (now bodies) ⌝ }
+    ensures { λ x. ⌜ x ≡ bodyAt (now (bodies .entry)) r ⌝ }
+{
+    let from = 96 * r;
+    let mut out = [0u8; 96];
+    let mut i = 0;
+    while i < 96 {
+        out[i] = bodies[from + i];
+        i += 1;
+    }
+    out
+}
+
+// The body of type row r is kept in its place.
+fn keep_body(bodies: &mut [u8], r: usize, body: [u8; 96])
+    requires { ⌜ 96 * r + 96 ≤ length (now bodies) ⌝ }
+    ensures { λ u. ⌜ now (bodies .exit) ≡ paste (now (bodies .entry)) (96 * r) body 96 ⌝ }
+{
+    let at = 96 * r;
+    let mut i = 0;
+    while i < 96 {
+        bodies[at + i] = body[i];
+        i += 1;
+    }
+}
+
+// The body that a type row of a kind makes of those that it names.
+fn kind_body(kind: u8, a: usize, b: usize, c: usize, bodies: &[u8]) -> Typed
+    requires { ⌜ attributesFit (typeAttributes (typeKind kind a b c)) ≡ true ⌝ }
+    requires { ⌜ Every (λ p. HeldAt (now bodies) p) (typeParts (typeKind kind a b c)) ⌝ }
+    ensures { λ r. ⌜ ((look : ℕ → Result Body) → Every (λ p. LooksUp look (now (bodies .entry)) p) (typeParts (typeKind kind a b c)) → Answers r (typeBodyOf (typeKind kind a b c) look)) ⌝ }
+{
+    if kind == 1 {
+        return scalar(BOOLEAN);
+    }
+    if kind == 2 {
+        return scalar(NUMBER);
+    }
+    if kind == 3 {
+        return scalar(WORD);
+    }
+    if kind == 4 {
+        return make_list(type_body(bodies, a));
+    }
+    if kind == 5 {
+        return make_record(a as u8, type_body(bodies, b));
+    }
+    expand(b as u8, type_body(bodies, a), type_body(bodies, c))
+}
+
+// The body of type row r, from those of lower rows.
+fn row_body(rows: &[u8], t: Table, r: usize, bodies: &[u8]) -> Typed
+    requires { ⌜ IsTable (now rows) type-section t ⌝ }
+    requires { ⌜ r < t .count ⌝ }
+    requires { ⌜ TypesReady (now rows) ⌝ }
+    requires { ⌜ BodiesBelow (now rows) (now bodies) r ⌝ }
+    ensures { λ o. ⌜ Answers o (typeBody (now (rows .entry)) r) ⌝ }
+{
+    let start = t.start;
+    let i = start + r;
+    let kind = kind_at(rows, i);
+    let a = a_at(rows, i);
+    let b = b_at(rows, i);
+    let c = c_at(rows, i);
+    kind_body(kind, a, b, c, bodies)
+}
+
+// Whether a type row is wrong (rule 13); if none is, the array holds each row's body.
+pub fn type_bodies(rows: &[u8], t: Table, bodies: &mut [u8]) -> bool
+    requires { ⌜ IsTable (now rows) type-section t ⌝ }
+    requires { ⌜ TypesReady (now rows) ⌝ }
+    requires { ⌜ length (now bodies) ≡ 3072 ⌝ }
+    ensures { λ w. ⌜ w ≡ typeWrong (now (rows .entry)) ⌝ }
+    ensures { λ w. ⌜ (w ≡ false → BodiesBelow (now (rows .entry)) (now (bodies .exit)) (tableCount (now (rows .entry)) type-section)) ⌝ }
+{
+    let count = t.count;
+    let mut r = 0;
+    while r < count {
+        let made = row_body(rows, t, r, bodies);
+        if made.error != 0 {
+            return true;
+        }
+        let body = made.body;
+        keep_body(bodies, r, body);
+        r += 1;
+    }
+    false
+}

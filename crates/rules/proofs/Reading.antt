@@ -1,0 +1,220 @@
+-- Which expression rows read: a tree reads where its row does or one of its operands' trees, so a mark for each row is right once
+-- those of the lower rows are. Carried by the trees' fuel not mattering. Assumes nothing.
+use mathlib.Core.Path.{_≡_, refl, sym, ap, ap₂, _∙_, fun-ext}
+use mathlib.Core.Bool.{Bool, true, false, not, _&&_, _||_, and-assoc}
+use mathlib.Core.List.{List, [], _∷_, _++_, append-nil}
+use mathlib.Core.Logic.{_⊎_, ⊎-elim}
+use Prim.Native.Nat.{ℕ, zero, suc, _+_, _≤_, _<_, min}
+use native.Mathlib.Nat.{not-suc-le-zero, zero-add}
+use native.Mathlib.Numerals.{add-one}
+use native.Mathlib.Omega.{arith}
+use lib.Dec.{eqb, ltb, leb}
+use lib.ListN.{length, getD, set}
+use lib.Seq.{getD-set-same, getD-set-other}
+use borrow.Author.Tests.{ltb-true, not-false, eq-eqb, ne-eqb, le-leb, lt-leb}
+use Rattle.lingua.specs.Outcome.{if_then_else_}
+use Rattle.lingua.specs.Numbers.{declaration-section, type-section, expression-section, instruction-section}
+use Rattle.lingua.specs.Value.{allOf}
+use Rattle.lingua.specs.Expression.{Expression}
+use Rattle.lingua.specs.Rows.{kindAt, aAt, bAt, cAt, tableCount, pairCount, detailRow, typeRow, parts, ExpressionRow, constant-row, variable-row, current-row, unary-row, binary-row, lazy-row, choice-row, all-list-row, constantKind, expressionKind, expressionRow, operands, instructionRow, evaluated, yokeRoot, yokeSet}
+use Rattle.lingua.specs.Trees.{below, lower, no-expression, expressionOf, expressionIn, expressionTree, tabulateFrom, tabulate}
+use Rattle.lingua.specs.Typing.{joined}
+use Rattle.lingua.specs.Format.{everyBelow}
+use Rattle.lingua.specs.References.{allBelow, typeParts, instructionVariables, expressionRefers, readsVariable, readsCurrent, declaredYoke, declarationRefers, instructionRefers, referenceWrong, yokeRoots, plainRoots, placeWrong}
+use Rattle.rules.specs.Tables.{IsTable}
+use Rattle.rules.specs.Reads.{reads, readsRow, Marked}
+use Rattle.rules.specs.declared.tables.Table.{Table}
+use Rattle.rules.proofs.Counting.{order}
+use Rattle.rules.proofs.Every.{every-at, and-left, and-right, first-true, last-true}
+use Rattle.rules.proofs.Short.{all-ext, all-append}
+use Rattle.rules.proofs.Choices.{cases, expressionOfKind, expression-is, expression-clamped}
+use Rattle.rules.proofs.Usage.{joined-snoc}
+
+-- ---- trees
+lower-same : {A : Type 0} (r : ℕ) (f g : ℕ → A) (o : A) → ((a : ℕ) → a < r → f a ≡ g a) → lower r f o ≡ lower r g o
+lower-same r f g o h = fun-ext (λ a. look a (ltb a r) refl)
+  where
+    look : (a : ℕ) (b : Bool) → ltb a r ≡ b → below b f o a ≡ below b g o a
+    look a true e = h a (ltb-true a r e)
+    look a false e = refl
+
+in-enough : (rows : List ℕ) (n m r : ℕ) → r < n → r < m → expressionIn n rows r ≡ expressionIn m rows r
+unfolding expressionIn
+in-enough rows zero m r l k = absurd (not-suc-le-zero l)
+in-enough rows (suc n) zero r l k = absurd (not-suc-le-zero k)
+in-enough rows (suc n) (suc m) r l k =
+    ap (expressionOf r (expressionRow rows r))
+    (lower-same r (λ a. expressionIn n rows a) (λ a. expressionIn m rows a) (no-expression r) (λ a q. in-enough rows n m a (omega arith) (omega arith)))
+
+tree-node : (rows : List ℕ) (r : ℕ) → expressionTree rows r ≡ expressionOf r (expressionRow rows r) (lower r (λ a. expressionTree rows a) (no-expression r))
+unfolding expressionTree expressionIn
+tree-node rows r =
+    ap (expressionOf r (expressionRow rows r))
+    (lower-same r (λ a. expressionIn r rows a) (λ a. expressionIn (suc a) rows a) (no-expression r) (λ a q. in-enough rows r (suc a) a q (omega arith)))
+
+-- ---- what reads
+one-reads : (a : Bool) → a ≡ not (not a && true)
+one-reads true = refl
+one-reads false = refl
+
+two-read : (a b : Bool) → (a || b) ≡ not (not a && (not b && true))
+two-read true b = refl
+two-read false b = one-reads b
+
+three-read : (a b c : Bool) → (a || (b || c)) ≡ not (not a && (not b && (not c && true)))
+three-read true b c = refl
+three-read false b c = two-read b c
+
+reads-of : (v : Bool) (r : ℕ) (row : ExpressionRow) (look : ℕ → Expression) → reads v (expressionOf r row look) ≡ (readsRow v row || not (allOf (λ a. not (reads v (look a))) (operands row)))
+unfolding reads readsRow expressionOf readsVariable readsCurrent operands allOf
+reads-of true r (constant-row c) look = refl
+reads-of true r (variable-row n) look = refl
+reads-of true r current-row look = refl
+reads-of true r (unary-row o a) look = one-reads (readsVariable (look a))
+reads-of true r (binary-row o a b) look = two-read (readsVariable (look a)) (readsVariable (look b))
+reads-of true r (lazy-row k a b) look = two-read (readsVariable (look a)) (readsVariable (look b))
+reads-of true r (choice-row a b c) look = three-read (readsVariable (look a)) (readsVariable (look b)) (readsVariable (look c))
+reads-of true r (all-list-row a) look = one-reads (readsVariable (look a))
+reads-of false r (constant-row c) look = refl
+reads-of false r (variable-row n) look = refl
+reads-of false r current-row look = refl
+reads-of false r (unary-row o a) look = one-reads (readsCurrent (look a))
+reads-of false r (binary-row o a b) look = two-read (readsCurrent (look a)) (readsCurrent (look b))
+reads-of false r (lazy-row k a b) look = two-read (readsCurrent (look a)) (readsCurrent (look b))
+reads-of false r (choice-row a b c) look = three-read (readsCurrent (look a)) (readsCurrent (look b)) (readsCurrent (look c))
+reads-of false r (all-list-row a) look = refl
+
+reads-lower : (v : Bool) (rows : List ℕ) (r a : ℕ) (b : Bool) → reads v (below b (λ a. expressionTree rows a) (no-expression r) a) ≡ (b && reads v (expressionTree rows a))
+unfolding reads readsVariable readsCurrent
+reads-lower v rows r a true = refl
+reads-lower true rows r a false = refl
+reads-lower false rows r a false = refl
+
+reads-tree : (v : Bool) (rows : List ℕ) (r : ℕ) → reads v (expressionTree rows r) ≡ (readsRow v (expressionRow rows r) || not (allOf (λ a. not (ltb a r && reads v (expressionTree rows a))) (operands (expressionRow rows r))))
+reads-tree v rows r =
+    ap (reads v) (tree-node rows r)
+    ∙ reads-of v r (expressionRow rows r) (lower r (λ a. expressionTree rows a) (no-expression r))
+    ∙ ap (λ (b : Bool). readsRow v (expressionRow rows r) || not b) (all-ext (λ a. not (reads v (lower r (λ a. expressionTree rows a) (no-expression r) a))) (λ a. not (ltb a r && reads v (expressionTree rows a))) (operands (expressionRow rows r)) (λ a. ap not (reads-lower v rows r a (ltb a r))))
+
+-- ---- marks
+marks-below : (rows : List ℕ) (v : Bool) (r : ℕ) (marks : List Bool) (xs : List ℕ) → Marked rows v r marks → allOf (λ a. not (ltb a r && getD marks a false)) xs ≡ allOf (λ a. not (ltb a r && reads v (expressionTree rows a))) xs
+unfolding Marked
+marks-below rows v r marks xs h = all-ext (λ a. not (ltb a r && getD marks a false)) (λ a. not (ltb a r && reads v (expressionTree rows a))) xs (λ a. ap not (at a (ltb a r) refl))
+  where
+    at : (a : ℕ) (b : Bool) → ltb a r ≡ b → (b && getD marks a false) ≡ (b && reads v (expressionTree rows a))
+    at a true e = h a (ltb-true a r e)
+    at a false e = refl
+
+module _ (rows : List ℕ) (v : Bool) (r : ℕ) (marks : List Bool) where
+  pub tree-itself : readsRow v (expressionRow rows r) ≡ true → true ≡ reads v (expressionTree rows r)
+  tree-itself e = sym (reads-tree v rows r ∙ ap (λ (b : Bool). b || not (allOf (λ a. not (ltb a r && reads v (expressionTree rows a))) (operands (expressionRow rows r)))) e)
+
+  pub tree-below : readsRow v (expressionRow rows r) ≡ false → (xs : List ℕ) → xs ≡ operands (expressionRow rows r) → Marked rows v r marks → not (allOf (λ a. not (ltb a r && getD marks a false)) xs) ≡ reads v (expressionTree rows r)
+  tree-below e xs q h =
+      ap not (marks-below rows v r marks xs h ∙ ap (λ (l : List ℕ). allOf (λ a. not (ltb a r && reads v (expressionTree rows a))) l) q)
+      ∙ sym (reads-tree v rows r ∙ ap (λ (b : Bool). b || not (allOf (λ a. not (ltb a r && reads v (expressionTree rows a))) (operands (expressionRow rows r)))) e)
+
+  pub marked-none : Marked rows v 0 marks
+  unfolding Marked
+  marked-none k l = absurd (not-suc-le-zero l)
+
+  pub marked-more : (b : Bool) → r < length marks → b ≡ reads v (expressionTree rows r) → Marked rows v r marks → Marked rows v (r + 1) (set marks r b)
+  unfolding Marked
+  marked-more b l e h k lk =
+      ⊎-elim
+      (λ m. getD-set-other marks r k b false (λ q. omega arith) ∙ h k m)
+      (λ m. same (⊎-elim (λ q. q) (λ q. absurd (omega arith)) m))
+      (order k r)
+    where
+      same : k ≡ r → getD (set marks r b) k false ≡ reads v (expressionTree rows k)
+      same q = rw q (getD-set-same marks r b false l ∙ e)
+
+  pub marked-to : (n : ℕ) → r ≡ n → Marked rows v r marks → Marked rows v n marks
+  marked-to n e h = rw e at h
+
+-- what is asked of the marks of rows below n is asked of their trees
+pub roots-read : (rows : List ℕ) (v : Bool) (n : ℕ) (marks : List Bool) → Marked rows v n marks → (xs : List ℕ) → allBelow n xs ≡ true → allOf (λ a. not (ltb a n && getD marks a false)) xs ≡ allOf (λ a. not (reads v (expressionTree rows a))) xs
+unfolding allOf
+roots-read rows v n marks h xs e = marks-below rows v n marks xs h ∙ inner xs e
+  where
+    inner : (xs : List ℕ) → allBelow n xs ≡ true → allOf (λ a. not (ltb a n && reads v (expressionTree rows a))) xs ≡ allOf (λ a. not (reads v (expressionTree rows a))) xs
+    inner [] e = refl
+    inner (x ∷ xs) e = ap₂ (λ (a b : Bool). a && b) (ap (λ (b : Bool). not (b && reads v (expressionTree rows x))) (and-left (ltb x n) (allBelow n xs) e)) (inner xs (and-right (ltb x n) (allBelow n xs) e))
+
+-- ---- a row by its kind
+module _ (rows : List ℕ) (t : Table) (r : ℕ) (h : IsTable rows expression-section t) where
+  by-kind : (v : Bool) → (k : ℕ) → k ≡ kindAt rows (t .start + r) → readsRow v (expressionRow rows r) ≡ readsRow v (expressionOfKind (constantKind (kindAt rows (t .start + r)) rows (t .start + r)) (aAt rows (t .start + r)) (bAt rows (t .start + r)) (cAt rows (t .start + r)) (min k 25))
+  by-kind v k e = ap (readsRow v) (expression-is rows t r h ∙ expression-clamped rows t r h) ∙ (rw e)
+
+  pub variable-kind : (k : ℕ) → k ≡ kindAt rows (t .start + r) → eqb k 4 ≡ readsRow true (expressionRow rows r)
+  unfolding readsRow expressionKind
+  variable-kind k e =
+      same
+      ∙ cases (λ m. eqb m 4 ≡ readsRow true (expressionOfKind (constantKind (kindAt rows (t .start + r)) rows (t .start + r)) (aAt rows (t .start + r)) (bAt rows (t .start + r)) (cAt rows (t .start + r)) m)) 26 (min k 25)
+      (refl, (refl, (refl, (refl, (refl, (refl, (refl, (refl, (refl, (refl, (refl, (refl, (refl, (refl, (refl, (refl, (refl, (refl, (refl, (refl, (refl, (refl, (refl, (refl, (refl, (refl, tt)))))))))))))))))))))))))) (omega arith)
+      ∙ sym (by-kind true k e)
+    where
+      same : eqb k 4 ≡ eqb (min k 25) 4
+      same = ⊎-elim (λ l. ap (λ (m : ℕ). eqb m 4) (below-last (omega arith))) (⊎-elim (λ q. ap (λ (m : ℕ). eqb m 4) (below-last (omega arith))) (λ l. ne-eqb k 4 (λ q. omega arith) ∙ sym (ne-eqb (min k 25) 4 (λ q. omega arith)))) (order k 25)
+        where
+          below-last : k < 26 → k ≡ min k 25
+          below-last l = omega arith
+
+  pub current-kind : (k : ℕ) → k ≡ kindAt rows (t .start + r) → leb 24 k ≡ readsRow false (expressionRow rows r)
+  unfolding readsRow expressionKind
+  current-kind k e =
+      same
+      ∙ cases (λ m. leb 24 m ≡ readsRow false (expressionOfKind (constantKind (kindAt rows (t .start + r)) rows (t .start + r)) (aAt rows (t .start + r)) (bAt rows (t .start + r)) (cAt rows (t .start + r)) m)) 26 (min k 25)
+      (refl, (refl, (refl, (refl, (refl, (refl, (refl, (refl, (refl, (refl, (refl, (refl, (refl, (refl, (refl, (refl, (refl, (refl, (refl, (refl, (refl, (refl, (refl, (refl, (refl, (refl, tt)))))))))))))))))))))))))) (omega arith)
+      ∙ sym (by-kind false k e)
+    where
+      same : leb 24 k ≡ leb 24 (min k 25)
+      same = ⊎-elim (λ l. lt-leb 24 k l ∙ sym (lt-leb 24 (min k 25) (omega arith))) (λ q. at-least (⊎-elim (λ e. omega arith) (λ l. omega arith) q)) (order k 24)
+        where
+          at-least : 24 ≤ k → leb 24 k ≡ leb 24 (min k 25)
+          at-least l = le-leb 24 k l ∙ sym (le-leb 24 (min k 25) (omega arith))
+
+-- ---- roots
+all-joined : (p : ℕ → Bool) (f : ℕ → List ℕ) (n : ℕ) → allOf p (joined (tabulate n f)) ≡ everyBelow n (λ k. allOf p (f k))
+unfolding everyBelow tabulate tabulateFrom joined allOf
+all-joined p f zero = refl
+all-joined p f (suc n) = ap (allOf p) (joined-snoc f 0 n ∙ ap (λ (k : ℕ). joined (tabulateFrom 0 n f) ++ f k) (zero-add n)) ∙ all-append p (joined (tabulateFrom 0 n f)) (f n) ∙ ap (λ (b : Bool). b && allOf p (f n)) (all-joined p f n)
+
+pub places-are : (rows : List ℕ) → placeWrong rows ≡ not (everyBelow (pairCount rows declaration-section) (λ d. allOf (λ r. not (reads true (expressionTree rows r))) (yokeRoot (declaredYoke rows d))) && everyBelow (tableCount rows instruction-section) (λ i. allOf (λ r. not (reads true (expressionTree rows r))) (yokeSet (instructionRow rows i))) && everyBelow (tableCount rows instruction-section) (λ i. allOf (λ r. not (reads false (expressionTree rows r))) (evaluated (instructionRow rows i))))
+unfolding placeWrong yokeRoots plainRoots reads
+places-are rows = rw (all-append, all-joined, all-joined, all-joined)
+
+-- rule 10 keeps roots below the number of expression rows
+declarations-hold : (rows : List ℕ) → referenceWrong rows ≡ false → everyBelow (pairCount rows declaration-section) (λ d. declarationRefers rows d) ≡ true
+unfolding referenceWrong
+declarations-hold rows h = first-true (everyBelow (pairCount rows declaration-section) (λ d. declarationRefers rows d)) (everyBelow (tableCount rows type-section) (λ r. allBelow r (typeParts (typeRow rows r)))) (everyBelow (tableCount rows expression-section) (λ r. expressionRefers rows r)) (everyBelow (tableCount rows instruction-section) (λ r. instructionRefers rows r)) h
+
+instructions-hold : (rows : List ℕ) → referenceWrong rows ≡ false → everyBelow (tableCount rows instruction-section) (λ r. instructionRefers rows r) ≡ true
+unfolding referenceWrong
+instructions-hold rows h = last-true (everyBelow (pairCount rows declaration-section) (λ d. declarationRefers rows d)) (everyBelow (tableCount rows type-section) (λ r. allBelow r (typeParts (typeRow rows r)))) (everyBelow (tableCount rows expression-section) (λ r. expressionRefers rows r)) (everyBelow (tableCount rows instruction-section) (λ r. instructionRefers rows r)) h
+
+module _ (rows : List ℕ) (h : referenceWrong rows ≡ false) where
+  pub declared-below : (d : ℕ) → d < pairCount rows declaration-section → allBelow (tableCount rows expression-section) (yokeRoot (declaredYoke rows d)) ≡ true
+  unfolding declarationRefers
+  declared-below d l =
+      and-right (ltb (aAt rows (detailRow rows declaration-section d)) (tableCount rows type-section)) (allBelow (tableCount rows expression-section) (yokeRoot (declaredYoke rows d)))
+      (every-at (λ d. declarationRefers rows d) (pairCount rows declaration-section) d (declarations-hold rows h) l)
+
+  instruction-below : (i : ℕ) → i < tableCount rows instruction-section → allBelow (tableCount rows expression-section) (evaluated (instructionRow rows i) ++ yokeSet (instructionRow rows i)) ≡ true
+  unfolding instructionRefers
+  instruction-below i l =
+      and-right (allBelow i (parts (instructionRow rows i)) && allBelow (pairCount rows declaration-section) (instructionVariables (instructionRow rows i))) (allBelow (tableCount rows expression-section) (evaluated (instructionRow rows i) ++ yokeSet (instructionRow rows i)))
+      (every-at (λ r. instructionRefers rows r) (tableCount rows instruction-section) i (instructions-hold rows h) l)
+
+  both-below : (i : ℕ) → i < tableCount rows instruction-section → (allBelow (tableCount rows expression-section) (evaluated (instructionRow rows i)) && allBelow (tableCount rows expression-section) (yokeSet (instructionRow rows i))) ≡ true
+  both-below i l = sym (all-append (λ r. ltb r (tableCount rows expression-section)) (evaluated (instructionRow rows i)) (yokeSet (instructionRow rows i))) ∙ instruction-below i l
+
+  pub evaluated-below : (i : ℕ) → i < tableCount rows instruction-section → allBelow (tableCount rows expression-section) (evaluated (instructionRow rows i)) ≡ true
+  evaluated-below i l = and-left (allBelow (tableCount rows expression-section) (evaluated (instructionRow rows i))) (allBelow (tableCount rows expression-section) (yokeSet (instructionRow rows i))) (both-below i l)
+
+  pub set-below : (i : ℕ) → i < tableCount rows instruction-section → allBelow (tableCount rows expression-section) (yokeSet (instructionRow rows i)) ≡ true
+  set-below i l = and-right (allBelow (tableCount rows expression-section) (evaluated (instructionRow rows i))) (allBelow (tableCount rows expression-section) (yokeSet (instructionRow rows i))) (both-below i l)
+
+-- the code's answer of a short list of roots
+pub roots-to : (rows : List ℕ) (v : Bool) (marks : List Bool) {n m : ℕ} {xs ys : List ℕ} {b : Bool} → n ≡ m → Marked rows v m marks → allBelow m xs ≡ true → ys ≡ xs → b ≡ allOf (λ a. not (ltb a n && getD marks a false)) ys → b ≡ allOf (λ a. not (reads v (expressionTree rows a))) xs
+roots-to rows v marks {n} {m} {xs} {ys} {b} e h k q r = (rw (e, q) at r) ∙ roots-read rows v m marks h xs k

@@ -1,0 +1,15 @@
+-- `two` meets its contract. Assumes nothing.
+use mathlib.Core.Path.{refl}
+use Rattle.rules.specs.Picks.{listed}
+use Rattle.rules.proofs.picks.two.Statement.{statement}
+use Rattle.rules.proofs.picks.two.Tie as tie
+use Rattle.rules.proofs.picks.two.Reads as reads
+use Rattle.rules.proofs.picks.two.Lts as lts
+
+-- src/picks.rt:166:1
+returns : tie.Need-returns
+unfolding listed
+returns c = refl
+
+pub two-spec : {M : Type 1} → statement M
+two-spec = tie.close (tie.spec returns)

@@ -1,0 +1,30 @@
+-- What the code's marks of expression rows say. Assumes nothing: these are definitions.
+use mathlib.Core.Path.{_≡_}
+use mathlib.Core.Bool.{Bool, true, false, not}
+use mathlib.Core.List.{List}
+use Prim.Native.Nat.{ℕ, _<_}
+use lib.ListN.{getD}
+use Rattle.lingua.specs.Expression.{Expression}
+use Rattle.lingua.specs.Rows.{ExpressionRow, constant-row, variable-row, current-row, unary-row, binary-row, lazy-row, choice-row, all-list-row}
+use Rattle.lingua.specs.Trees.{expressionTree}
+use Rattle.lingua.specs.References.{readsVariable, readsCurrent}
+
+-- whether an expression reads a variable, or else the current value
+unfoldable pub reads : Bool → Expression → Bool
+reads true e = readsVariable e
+reads false e = readsCurrent e
+
+-- the marks of the rows below n are right
+unfoldable pub Marked : List ℕ → Bool → ℕ → List Bool → Type 0
+Marked rows variable n marks = (r : ℕ) → r < n → getD marks r false ≡ reads variable (expressionTree rows r)
+
+-- whether a row reads by its own kind
+unfoldable pub readsRow : Bool → ExpressionRow → Bool
+readsRow variable (constant-row c) = false
+readsRow variable (variable-row n) = variable
+readsRow variable current-row = not variable
+readsRow variable (unary-row o a) = false
+readsRow variable (binary-row o a b) = false
+readsRow variable (lazy-row k a b) = false
+readsRow variable (choice-row a b c) = false
+readsRow variable (all-list-row a) = not variable

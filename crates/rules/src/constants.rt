@@ -1,0 +1,132 @@
+// Rule 9: constants, attributes and handled errors. A limits file has none.
+use crate::fields::bytes_at;
+use crate::fields::kind_at;
+use crate::fields::padded;
+use crate::fields::wide_at;
+use crate::picks::all_within;
+use crate::picks::attributes_of;
+use crate::picks::handled_of;
+use crate::picks::type_attributes_of;
+use crate::tables::Table;
+use crate::tables::Tables;
+use lingua::FileKind;
+use lingua::sizes::ATTRIBUTE_NUMBERS;
+use lingua::sizes::HIGHEST_CHARACTER;
+use lingua::sizes::LOWEST_CHARACTER;
+ghost use mathlib.Core.Path.{_≡_};
+ghost use mathlib.Core.Bool.{_&&_};
+ghost use Prim.Native.Nat.{_+_, _*_, _≤_};
+ghost use lib.ListN.{length};
+ghost use mir.Syntax.{w64};
+ghost use mir.Val.{toZ};
+ghost use Rattle.lingua.specs.Numbers.{type-section, expression-section, instruction-section};
+ghost use Rattle.lingua.specs.Errors.{last-error};
+ghost use Rattle.lingua.specs.Answers.{fileMeaning};
+ghost use Rattle.lingua.specs.Value.{inRange, allOf};
+ghost use Rattle.lingua.specs.Rows.{rowIn, tableCount, typeRow, expressionRow, instructionRow};
+ghost use Rattle.lingua.specs.Format.{profile, everyBelow};
+ghost use Rattle.lingua.specs.Rules.{between, constantFits, attributesFit, typeAttributes, expressionAttributes, handledErrors, constantWrong};
+ghost use Rattle.rules.specs.Tables.{IsTable, AreTables};
+
+// Whether the 64 bits, read with a sign, are a number's: from -1,000,000 to 1,000,000.
+fn number_fits(n: usize) -> bool
+    ensures { λ r. ⌜ r ≡ inRange (toZ w64 n) ⌝ }
+{
+    if n <= 1000000 {
+        return true;
+    }
+    18446744073708551616 <= n
+}
+
+fn constant_fits(rows: &[u8], i: usize) -> bool
+    requires { ⌜ 10 * i + 10 ≤ length (now rows) ⌝ }
+    ensures { λ r. ⌜ r ≡ constantFits (now (rows .entry)) i ⌝ }
+{
+    let kind = kind_at(rows, i);
+    if kind == 1 {
+        return wide_at(rows, i) <= 1;
+    }
+    if kind == 2 {
+        return number_fits(wide_at(rows, i));
+    }
+    if kind == 3 {
+        return padded(bytes_at(rows, i), LOWEST_CHARACTER, HIGHEST_CHARACTER);
+    }
+    true
+}
+
+fn types_fit(rows: &[u8], t: Table) -> bool
+    requires { ⌜ IsTable (now rows) type-section t ⌝ }
+    ensures { λ r. ⌜ r ≡ everyBelow (tableCount (now (rows .entry)) type-section) (λ r. attributesFit (typeAttributes (typeRow (now (rows .entry)) r))) ⌝ }
+{
+    let count = t.count;
+    let mut r = 0;
+    while r < count {
+        if !all_within(type_attributes_of(rows, t, r), 0, ATTRIBUTE_NUMBERS) {
+            return false;
+        }
+        r += 1;
+    }
+    true
+}
+
+fn expressions_fit(rows: &[u8], t: Table) -> bool
+    requires { ⌜ IsTable (now rows) expression-section t ⌝ }
+    ensures { λ r. ⌜ r ≡ everyBelow (tableCount (now (rows .entry)) expression-section) (λ r. constantFits (now (rows .entry)) (rowIn (now (rows .entry)) expression-section r) && attributesFit (expressionAttributes (expressionRow (now (rows .entry)) r))) ⌝ }
+{
+    let start = t.start;
+    let count = t.count;
+    let mut r = 0;
+    while r < count {
+        if !constant_fits(rows, start + r) {
+            return false;
+        }
+        if !all_within(attributes_of(rows, t, r), 0, ATTRIBUTE_NUMBERS) {
+            return false;
+        }
+        r += 1;
+    }
+    true
+}
+
+fn handlers_fit(rows: &[u8], t: Table) -> bool
+    requires { ⌜ IsTable (now rows) instruction-section t ⌝ }
+    ensures { λ r. ⌜ r ≡ everyBelow (tableCount (now (rows .entry)) instruction-section) (λ r. allOf (λ n. between 1 last-error n) (handledErrors (instructionRow (now (rows .entry)) r))) ⌝ }
+{
+    let count = t.count;
+    let mut r = 0;
+    while r < count {
+        // a handler names 1 to 18
+        if !all_within(handled_of(rows, t, r), 1, 19) {
+            return false;
+        }
+        r += 1;
+    }
+    true
+}
+
+fn profile_constant_wrong(rows: &[u8], t: Tables) -> bool
+    requires { ⌜ AreTables (now rows) t ⌝ }
+    ensures { λ r. ⌜ r ≡ constantWrong profile (now (rows .entry)) ⌝ }
+{
+    let types = t.types;
+    if !types_fit(rows, types) {
+        return true;
+    }
+    let expressions = t.expressions;
+    if !expressions_fit(rows, expressions) {
+        return true;
+    }
+    let instructions = t.instructions;
+    !handlers_fit(rows, instructions)
+}
+
+pub fn constant_wrong(file: FileKind, rows: &[u8], t: Tables) -> bool
+    requires { ⌜ AreTables (now rows) t ⌝ }
+    ensures { λ r. ⌜ r ≡ constantWrong (fileMeaning file) (now (rows .entry)) ⌝ }
+{
+    match file {
+        FileKind::Profile => profile_constant_wrong(rows, t),
+        FileKind::Limits => false,
+    }
+}

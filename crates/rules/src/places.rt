@@ -1,0 +1,186 @@
+// Rule 12: variables are read outside yokes, the current value inside. Each expression row is marked once, from the lowest up, as
+// to whether anything in its tree reads; then the rows that yokes and instructions name are asked.
+use crate::fields::b_at;
+use crate::fields::kind_at;
+use crate::picks::Few;
+use crate::picks::evaluated_of;
+use crate::picks::operands_of;
+use crate::picks::yoke_root;
+use crate::picks::yoke_set_of;
+use crate::tables::Table;
+use crate::tables::Tables;
+ghost use mathlib.Core.Path.{_≡_};
+ghost use mathlib.Core.Bool.{Bool, true, false, not, _&&_};
+ghost use Prim.Native.Nat.{ℕ, _+_, _*_, _≤_, _<_};
+ghost use lib.Dec.{ltb};
+ghost use lib.ListN.{length, getD};
+ghost use Rattle.lingua.specs.Numbers.{declaration-section, expression-section, instruction-section};
+ghost use Rattle.lingua.specs.Value.{allOf};
+ghost use Rattle.lingua.specs.Rows.{tableCount, pairCount, expressionRow, instructionRow, evaluated, yokeRoot, yokeSet};
+ghost use Rattle.lingua.specs.Trees.{expressionTree};
+ghost use Rattle.lingua.specs.Format.{everyBelow};
+ghost use Rattle.lingua.specs.References.{declaredYoke, referenceWrong, placeWrong};
+ghost use Rattle.rules.specs.Tables.{IsTable, AreTables, Sized};
+ghost use Rattle.rules.specs.Picks.{listed};
+ghost use Rattle.rules.specs.Reads.{reads, readsRow, Marked};
+
+// Whether a row reads a variable, or else the current value, by its own kind.
+fn reads_itself(rows: &[u8], t: Table, r: usize, variable: bool) -> bool
+    requires { ⌜ IsTable (now rows) expression-section t ⌝ }
+    requires { ⌜ r < t .count ⌝ }
+    ensures { λ b. ⌜ b ≡ readsRow variable (expressionRow (now (rows .entry)) r) ⌝ }
+{
+    let kind = kind_at(rows, t.start + r);
+    if variable {
+        return kind == 4;
+    }
+    kind >= 24
+}
+
+// Whether row a is below r and marked.
+fn is_marked(marks: &[bool; 512], r: usize, a: usize) -> bool
+    requires { ⌜ r ≤ 512 ⌝ }
+    ensures { λ b. ⌜ b ≡ (ltb a r && getD (now (marks .entry)) a false) ⌝ }
+{
+    if a < r {
+        return marks[a];
+    }
+    false
+}
+
+fn none_marked(f: Few, marks: &[bool; 512], r: usize) -> bool
+    requires { ⌜ r ≤ 512 ⌝ }
+    ensures { λ b. ⌜ b ≡ allOf (λ a. not (ltb a r && getD (now (marks .entry)) a false)) (listed f) ⌝ }
+{
+    let count = f.count;
+    if count == 0 {
+        return true;
+    }
+    if is_marked(marks, r, f.x) {
+        return false;
+    }
+    if count == 1 {
+        return true;
+    }
+    if is_marked(marks, r, f.y) {
+        return false;
+    }
+    if count == 2 {
+        return true;
+    }
+    !is_marked(marks, r, f.z)
+}
+
+// Whether the tree of row r reads, given the marks of the rows below.
+fn tree_reads(rows: &[u8], t: Table, marks: &[bool; 512], r: usize, variable: bool) -> bool
+    requires { ⌜ IsTable (now rows) expression-section t ⌝ }
+    requires { ⌜ (r < t .count) × (r ≤ 512) ⌝ }
+    requires { ⌜ Marked (now rows) variable r (now marks) ⌝ }
+    ensures { λ b. ⌜ b ≡ reads variable (expressionTree (now (rows .entry)) r) ⌝ }
+{
+    if reads_itself(rows, t, r, variable) {
+        return true;
+    }
+    !none_marked(operands_of(rows, t, r), marks, r)
+}
+
+fn readers(rows: &[u8], t: Table, variable: bool) -> [bool; 512]
+    requires { ⌜ IsTable (now rows) expression-section t ⌝ }
+    requires { ⌜ t .count ≤ 512 ⌝ }
+    ensures { λ marks. ⌜ Marked (now (rows .entry)) variable (tableCount (now (rows .entry)) expression-section) marks ⌝ }
+{
+    let count = t.count;
+    let mut marks = [false; 512];
+    let mut r = 0;
+    while r < count {
+        let mark = tree_reads(rows, t, &marks, r, variable);
+        marks[r] = mark;
+        r += 1;
+    }
+    marks
+}
+
+// No declared yoke reads a variable.
+fn declared_fit(rows: &[u8], t: Tables, marks: &[bool; 512]) -> bool
+    requires { ⌜ AreTables (now rows) t ⌝ }
+    requires { ⌜ Sized t ⌝ }
+    requires { ⌜ referenceWrong (now rows) ≡ false ⌝ }
+    requires { ⌜ Marked (now rows) true (tableCount (now rows) expression-section) (now marks) ⌝ }
+    ensures { λ b. ⌜ b ≡ everyBelow (pairCount (now (rows .entry)) declaration-section) (λ d. allOf (λ r. not (reads true (expressionTree (now (rows .entry)) r))) (yokeRoot (declaredYoke (now (rows .entry)) d))) ⌝ }
+{
+    let start = t.declarations.start;
+    let count = t.declarations.count / 2;
+    let expressions = t.expressions.count;
+    let mut d = 0;
+    while d < count {
+        if !none_marked(
+            yoke_root(b_at(rows, start + (2 * d + 1))),
+            marks,
+            expressions,
+        ) {
+            return false;
+        }
+        d += 1;
+    }
+    true
+}
+
+// No yoke that is set reads a variable.
+fn set_fit(rows: &[u8], t: Tables, marks: &[bool; 512]) -> bool
+    requires { ⌜ AreTables (now rows) t ⌝ }
+    requires { ⌜ Sized t ⌝ }
+    requires { ⌜ referenceWrong (now rows) ≡ false ⌝ }
+    requires { ⌜ Marked (now rows) true (tableCount (now rows) expression-section) (now marks) ⌝ }
+    ensures { λ b. ⌜ b ≡ everyBelow (tableCount (now (rows .entry)) instruction-section) (λ i. allOf (λ r. not (reads true (expressionTree (now (rows .entry)) r))) (yokeSet (instructionRow (now (rows .entry)) i))) ⌝ }
+{
+    let instructions = t.instructions;
+    let count = instructions.count;
+    let expressions = t.expressions.count;
+    let mut i = 0;
+    while i < count {
+        if !none_marked(yoke_set_of(rows, instructions, i), marks, expressions) {
+            return false;
+        }
+        i += 1;
+    }
+    true
+}
+
+// No expression that an instruction evaluates reads the current value.
+fn evaluated_fit(rows: &[u8], t: Tables, marks: &[bool; 512]) -> bool
+    requires { ⌜ AreTables (now rows) t ⌝ }
+    requires { ⌜ Sized t ⌝ }
+    requires { ⌜ referenceWrong (now rows) ≡ false ⌝ }
+    requires { ⌜ Marked (now rows) false (tableCount (now rows) expression-section) (now marks) ⌝ }
+    ensures { λ b. ⌜ b ≡ everyBelow (tableCount (now (rows .entry)) instruction-section) (λ i. allOf (λ r. not (reads false (expressionTree (now (rows .entry)) r))) (evaluated (instructionRow (now (rows .entry)) i))) ⌝ }
+{
+    let instructions = t.instructions;
+    let count = instructions.count;
+    let expressions = t.expressions.count;
+    let mut i = 0;
+    while i < count {
+        if !none_marked(evaluated_of(rows, instructions, i), marks, expressions) {
+            return false;
+        }
+        i += 1;
+    }
+    true
+}
+
+pub fn place_wrong(rows: &[u8], t: Tables) -> bool
+    requires { ⌜ AreTables (now rows) t ⌝ }
+    requires { ⌜ Sized t ⌝ }
+    requires { ⌜ referenceWrong (now rows) ≡ false ⌝ }
+    ensures { λ b. ⌜ b ≡ placeWrong (now (rows .entry)) ⌝ }
+{
+    let expressions = t.expressions;
+    let variables = readers(rows, expressions, true);
+    if !declared_fit(rows, t, &variables) {
+        return true;
+    }
+    if !set_fit(rows, t, &variables) {
+        return true;
+    }
+    let currents = readers(rows, expressions, false);
+    !evaluated_fit(rows, t, &currents)
+}

@@ -1,0 +1,149 @@
+// Rule 10: what rows name by number exists, and within a table it is a lower row.
+use crate::fields::a_at;
+use crate::fields::b_at;
+use crate::picks::all_within;
+use crate::picks::assigned_of;
+use crate::picks::evaluated_of;
+use crate::picks::operands_of;
+use crate::picks::parts_of;
+use crate::picks::type_parts_of;
+use crate::picks::variables_of;
+use crate::picks::yoke_root;
+use crate::picks::yoke_set_of;
+use crate::tables::Table;
+use crate::tables::Tables;
+ghost use mathlib.Core.Path.{_≡_};
+ghost use Prim.Native.Nat.{_/_, _<_};
+ghost use Rattle.lingua.specs.Numbers.{declaration-section, type-section, expression-section, instruction-section};
+ghost use Rattle.lingua.specs.Rows.{tableCount, pairCount, typeRow};
+ghost use Rattle.lingua.specs.Format.{everyBelow};
+ghost use Rattle.lingua.specs.References.{allBelow, typeParts, declarationRefers, expressionRefers, instructionRefers, referenceWrong};
+ghost use Rattle.rules.specs.Tables.{IsTable, AreTables};
+
+// A declaration names a type row, and with its yoke an expression row.
+fn declaration_refers(rows: &[u8], t: Tables, d: usize) -> bool
+    requires { ⌜ AreTables (now rows) t ⌝ }
+    requires { ⌜ d < t .declarations .count / 2 ⌝ }
+    ensures { λ r. ⌜ r ≡ declarationRefers (now (rows .entry)) d ⌝ }
+{
+    let i = t.declarations.start + (2 * d + 1);
+    if a_at(rows, i) >= t.types.count {
+        return false;
+    }
+    all_within(yoke_root(b_at(rows, i)), 0, t.expressions.count)
+}
+
+fn expression_refers(rows: &[u8], t: Tables, r: usize) -> bool
+    requires { ⌜ AreTables (now rows) t ⌝ }
+    requires { ⌜ r < t .expressions .count ⌝ }
+    ensures { λ b. ⌜ b ≡ expressionRefers (now (rows .entry)) r ⌝ }
+{
+    let expressions = t.expressions;
+    if !all_within(operands_of(rows, expressions, r), 0, r) {
+        return false;
+    }
+    all_within(
+        variables_of(rows, expressions, r),
+        0,
+        t.declarations.count / 2,
+    )
+}
+
+fn instruction_refers(rows: &[u8], t: Tables, r: usize) -> bool
+    requires { ⌜ AreTables (now rows) t ⌝ }
+    requires { ⌜ r < t .instructions .count ⌝ }
+    ensures { λ b. ⌜ b ≡ instructionRefers (now (rows .entry)) r ⌝ }
+{
+    let instructions = t.instructions;
+    if !all_within(parts_of(rows, instructions, r), 0, r) {
+        return false;
+    }
+    if !all_within(
+        assigned_of(rows, instructions, r),
+        0,
+        t.declarations.count / 2,
+    ) {
+        return false;
+    }
+    if !all_within(evaluated_of(rows, instructions, r), 0, t.expressions.count) {
+        return false;
+    }
+    all_within(yoke_set_of(rows, instructions, r), 0, t.expressions.count)
+}
+
+fn declarations_refer(rows: &[u8], t: Tables) -> bool
+    requires { ⌜ AreTables (now rows) t ⌝ }
+    ensures { λ r. ⌜ r ≡ everyBelow (pairCount (now (rows .entry)) declaration-section) (λ d. declarationRefers (now (rows .entry)) d) ⌝ }
+{
+    let count = t.declarations.count / 2;
+    let mut d = 0;
+    while d < count {
+        if !declaration_refers(rows, t, d) {
+            return false;
+        }
+        d += 1;
+    }
+    true
+}
+
+fn types_refer(rows: &[u8], t: Table) -> bool
+    requires { ⌜ IsTable (now rows) type-section t ⌝ }
+    ensures { λ r. ⌜ r ≡ everyBelow (tableCount (now (rows .entry)) type-section) (λ r. allBelow r (typeParts (typeRow (now (rows .entry)) r))) ⌝ }
+{
+    let count = t.count;
+    let mut r = 0;
+    while r < count {
+        if !all_within(type_parts_of(rows, t, r), 0, r) {
+            return false;
+        }
+        r += 1;
+    }
+    true
+}
+
+fn expressions_refer(rows: &[u8], t: Tables) -> bool
+    requires { ⌜ AreTables (now rows) t ⌝ }
+    ensures { λ r. ⌜ r ≡ everyBelow (tableCount (now (rows .entry)) expression-section) (λ r. expressionRefers (now (rows .entry)) r) ⌝ }
+{
+    let count = t.expressions.count;
+    let mut r = 0;
+    while r < count {
+        if !expression_refers(rows, t, r) {
+            return false;
+        }
+        r += 1;
+    }
+    true
+}
+
+fn instructions_refer(rows: &[u8], t: Tables) -> bool
+    requires { ⌜ AreTables (now rows) t ⌝ }
+    ensures { λ r. ⌜ r ≡ everyBelow (tableCount (now (rows .entry)) instruction-section) (λ r. instructionRefers (now (rows .entry)) r) ⌝ }
+{
+    let count = t.instructions.count;
+    let mut r = 0;
+    while r < count {
+        if !instruction_refers(rows, t, r) {
+            return false;
+        }
+        r += 1;
+    }
+    true
+}
+
+pub fn reference_wrong(rows: &[u8], t: Tables) -> bool
+    requires { ⌜ AreTables (now rows) t ⌝ }
+    ensures { λ r. ⌜ r ≡ referenceWrong (now (rows .entry)) ⌝ }
+{
+    if !declarations_refer(rows, t) {
+        return true;
+    }
+    let types = t.types;
+    if !types_refer(rows, types) {
+        return true;
+    }
+    if !expressions_refer(rows, t) {
+        return true;
+    }
+    !instructions_refer(rows, t)
+}

@@ -1,0 +1,174 @@
+// Rule 11: each expression row and each instruction row but the last is used once.
+// Uses are counted in one pass over the rows, up to 2: more makes no difference.
+use crate::fields::b_at;
+use crate::picks::Few;
+use crate::picks::evaluated_of;
+use crate::picks::operands_of;
+use crate::picks::parts_of;
+use crate::picks::yoke_root;
+use crate::picks::yoke_set_of;
+use crate::tables::Table;
+use crate::tables::Tables;
+ghost use mathlib.Core.Path.{_≡_};
+ghost use mathlib.Core.List.{List, [], _∷_, _++_};
+ghost use Prim.Native.Nat.{ℕ, _+_, _≤_, pred};
+ghost use lib.Dec.{eqb};
+ghost use Rattle.lingua.specs.Numbers.{declaration-section, expression-section, instruction-section};
+ghost use Rattle.lingua.specs.Rows.{tableCount, pairCount, expressionRow, instructionRow, operands, parts, evaluated, yokeRoot, yokeSet};
+ghost use Rattle.lingua.specs.Trees.{tabulate};
+ghost use Rattle.lingua.specs.Typing.{joined};
+ghost use Rattle.lingua.specs.Format.{everyBelow};
+ghost use Rattle.lingua.specs.References.{declaredYoke, occurrences, expressionUses, instructionUses, useWrong};
+ghost use Rattle.rules.specs.Tables.{IsTable, AreTables, Sized};
+ghost use Rattle.rules.specs.Picks.{listed};
+ghost use Rattle.rules.specs.Uses.{Counted};
+
+// One use of row x.
+fn note(uses: &mut [u8; 512], x: usize)
+    ensures { λ _. ⌜ ((xs : List ℕ) → Counted (now (uses .entry)) xs → Counted (now (uses .exit)) (xs ++ (x ∷ []))) ⌝ }
+{
+    if x < 512 {
+        let used = uses[x];
+        if used == 0 {
+            uses[x] = 1;
+        } else {
+            uses[x] = 2;
+        }
+    }
+}
+
+fn note_all(uses: &mut [u8; 512], f: Few)
+    ensures { λ _. ⌜ ((xs : List ℕ) → Counted (now (uses .entry)) xs → Counted (now (uses .exit)) (xs ++ listed f)) ⌝ }
+{
+    let count = f.count;
+    if count == 0 {
+        return;
+    }
+    note(uses, f.x);
+    if count == 1 {
+        return;
+    }
+    note(uses, f.y);
+    if count == 2 {
+        return;
+    }
+    note(uses, f.z);
+}
+
+// The expression rows of declared yokes.
+fn note_declared(uses: &mut [u8; 512], rows: &[u8], t: Table)
+    requires { ⌜ IsTable (now rows) declaration-section t ⌝ }
+    ensures { λ _. ⌜ ((xs : List ℕ) → Counted (now (uses .entry)) xs → Counted (now (uses .exit)) (xs ++ joined (tabulate (pairCount (now (rows .entry)) declaration-section) (λ d. yokeRoot (declaredYoke (now (rows .entry)) d))))) ⌝ }
+{
+    let start = t.start;
+    let count = t.count / 2;
+    let mut d = 0;
+    while d < count {
+        note_all(uses, yoke_root(b_at(rows, start + (2 * d + 1))));
+        d += 1;
+    }
+}
+
+// The expression rows of yokes that instructions set.
+fn note_set(uses: &mut [u8; 512], rows: &[u8], t: Table)
+    requires { ⌜ IsTable (now rows) instruction-section t ⌝ }
+    ensures { λ _. ⌜ ((xs : List ℕ) → Counted (now (uses .entry)) xs → Counted (now (uses .exit)) (xs ++ joined (tabulate (tableCount (now (rows .entry)) instruction-section) (λ r. yokeSet (instructionRow (now (rows .entry)) r))))) ⌝ }
+{
+    let count = t.count;
+    let mut r = 0;
+    while r < count {
+        note_all(uses, yoke_set_of(rows, t, r));
+        r += 1;
+    }
+}
+
+// The expression rows that instructions evaluate.
+fn note_evaluated(uses: &mut [u8; 512], rows: &[u8], t: Table)
+    requires { ⌜ IsTable (now rows) instruction-section t ⌝ }
+    ensures { λ _. ⌜ ((xs : List ℕ) → Counted (now (uses .entry)) xs → Counted (now (uses .exit)) (xs ++ joined (tabulate (tableCount (now (rows .entry)) instruction-section) (λ r. evaluated (instructionRow (now (rows .entry)) r))))) ⌝ }
+{
+    let count = t.count;
+    let mut r = 0;
+    while r < count {
+        note_all(uses, evaluated_of(rows, t, r));
+        r += 1;
+    }
+}
+
+fn note_operands(uses: &mut [u8; 512], rows: &[u8], t: Table)
+    requires { ⌜ IsTable (now rows) expression-section t ⌝ }
+    ensures { λ _. ⌜ ((xs : List ℕ) → Counted (now (uses .entry)) xs → Counted (now (uses .exit)) (xs ++ joined (tabulate (tableCount (now (rows .entry)) expression-section) (λ r. operands (expressionRow (now (rows .entry)) r))))) ⌝ }
+{
+    let count = t.count;
+    let mut r = 0;
+    while r < count {
+        note_all(uses, operands_of(rows, t, r));
+        r += 1;
+    }
+}
+
+fn note_parts(uses: &mut [u8; 512], rows: &[u8], t: Table)
+    requires { ⌜ IsTable (now rows) instruction-section t ⌝ }
+    ensures { λ _. ⌜ ((xs : List ℕ) → Counted (now (uses .entry)) xs → Counted (now (uses .exit)) (xs ++ joined (tabulate (tableCount (now (rows .entry)) instruction-section) (λ r. parts (instructionRow (now (rows .entry)) r))))) ⌝ }
+{
+    let count = t.count;
+    let mut r = 0;
+    while r < count {
+        note_all(uses, parts_of(rows, t, r));
+        r += 1;
+    }
+}
+
+// Whether each row below n is used once.
+fn all_once(uses: &[u8; 512], n: usize) -> bool
+    requires { ⌜ n ≤ 512 ⌝ }
+    ensures { λ b. ⌜ ((xs : List ℕ) → Counted (now (uses .entry)) xs → b ≡ everyBelow n (λ r. eqb (occurrences r xs) 1)) ⌝ }
+{
+    let mut r = 0;
+    while r < n {
+        if uses[r] != 1 {
+            return false;
+        }
+        r += 1;
+    }
+    true
+}
+
+fn expressions_once(rows: &[u8], t: Tables) -> bool
+    requires { ⌜ AreTables (now rows) t ⌝ }
+    requires { ⌜ t .expressions .count ≤ 512 ⌝ }
+    ensures { λ b. ⌜ b ≡ everyBelow (tableCount (now (rows .entry)) expression-section) (λ r. eqb (occurrences r (expressionUses (now (rows .entry)))) 1) ⌝ }
+{
+    let mut uses = [0u8; 512];
+    let declarations = t.declarations;
+    let instructions = t.instructions;
+    let expressions = t.expressions;
+    note_declared(&mut uses, rows, declarations);
+    note_set(&mut uses, rows, instructions);
+    note_evaluated(&mut uses, rows, instructions);
+    note_operands(&mut uses, rows, expressions);
+    all_once(&uses, expressions.count)
+}
+
+// The last instruction row is the program, and no row names it.
+fn instructions_once(rows: &[u8], t: Table) -> bool
+    requires { ⌜ IsTable (now rows) instruction-section t ⌝ }
+    requires { ⌜ (1 ≤ t .count) × (t .count ≤ 256) ⌝ }
+    ensures { λ b. ⌜ b ≡ everyBelow (pred (tableCount (now (rows .entry)) instruction-section)) (λ r. eqb (occurrences r (instructionUses (now (rows .entry)))) 1) ⌝ }
+{
+    let mut uses = [0u8; 512];
+    note_parts(&mut uses, rows, t);
+    all_once(&uses, t.count - 1)
+}
+
+pub fn use_wrong(rows: &[u8], t: Tables) -> bool
+    requires { ⌜ AreTables (now rows) t ⌝ }
+    requires { ⌜ Sized t ⌝ }
+    ensures { λ b. ⌜ b ≡ useWrong (now (rows .entry)) ⌝ }
+{
+    if !expressions_once(rows, t) {
+        return true;
+    }
+    let instructions = t.instructions;
+    !instructions_once(rows, instructions)
+}

@@ -1,0 +1,169 @@
+-- Every error that a run records is among those that it meets (`run-recorded`), so a passed pair of files ends with no type error recorded
+-- (`accepted-error`). Assumes nothing.
+use mathlib.Core.Path.{_≡_, refl, sym, _∙_, subst}
+use mathlib.Core.Logic.{_⊎_, inl, inr}
+use mathlib.Core.Bool.{Bool, true, false}
+use mathlib.Core.List.{List, [], _∷_, _++_, List·Memᴰ, Memᴰ·append-left, Memᴰ·append-right}
+use Prim.Native.Nat.{ℕ, zero, suc, _+_, _<_}
+use native.Mathlib.Omega.{arith}
+use lib.Dec.{eqb}
+use Rattle.lingua.specs.Numbers.{reading-place}
+use Rattle.lingua.specs.Errors.{no-error, overflow, first-type-error}
+use Rattle.lingua.specs.Outcome.{ok, fail, Result, _>>=_}
+use Rattle.lingua.specs.Body.{number}
+use Rattle.lingua.specs.Value.{whole, inRange, Composite, composite}
+use Rattle.lingua.specs.Expression.{Expression, variable, Instruction, skip, assign, set-yoke, sequence, branch, loop, handle}
+use Rattle.lingua.specs.Evaluation.{eval, evalTest, no-current}
+use Rattle.lingua.specs.Store.{Variable, contents, assigned, Reading, readingTaken}
+use Rattle.lingua.specs.Run.{State, Progress, going, out, withLeft, withError, settled, proceed, stepWith, step, unlessError, act, decided, handled, repeat, exec, Profile, started, takenUnless, takeReadings, run, lastState}
+use Rattle.lingua.specs.Typing.{Entry, checkProfile}
+use Rattle.lingua.specs.Meets.{onAnswer, onTrue, unlessMet, met, assignMet, testMet, stepMet, actMet, onActing, onGoing, onDecided, onHandled, repeatMet, execMet, readingMet, readingsMet, runMet}
+use Rattle.lingua.specs.Trees.{profileOf}
+use Rattle.lingua.specs.Format.{rowsOf}
+use Rattle.lingua.specs.Refusal.{lowest, pairRules, isNumberVariable}
+use Rattle.safety.specs.Every.{Every, every-at}
+use Rattle.safety.specs.Passed.{accepted-safe}
+use Rattle.safety.specs.Failures.{In, fails, required-fails, answer-in, unless-in, eval-met, test-met, assign-met, change-met}
+
+-- ---- runs
+-- the error that is recorded after a part of a run: the one before, none, or one that was met in it
+pub data Recorded (before after : ℕ) (ns : List ℕ) : Type 0 where
+  stays : after ≡ before → Recorded before after ns
+  clears : after ≡ no-error → Recorded before after ns
+  arises : List·Memᴰ after ns → Recorded before after ns
+
+recorded-then : {a b c : ℕ} (ms : List ℕ) {ns : List ℕ} → Recorded a b ms → Recorded b c ns → Recorded a c (ms ++ ns)
+recorded-then ms (stays p) (stays q) = stays (q ∙ p)
+recorded-then ms (clears p) (stays q) = clears (q ∙ p)
+recorded-then ms {ns} (arises m) (stays q) = arises (Memᴰ·append-left ns (subst (λ (e : ℕ). In e ms) (sym q) m))
+recorded-then ms h (clears q) = clears q
+recorded-then ms h (arises m) = arises (Memᴰ·append-right ms m)
+
+recorded-right : {a b : ℕ} (ms : List ℕ) {ns : List ℕ} → Recorded a b ns → Recorded a b (ms ++ ns)
+recorded-right ms (stays p) = stays p
+recorded-right ms (clears p) = clears p
+recorded-right ms (arises m) = arises (Memᴰ·append-right ms m)
+
+settled-recorded : (s : State) (p : ℕ) (o : Result (List Variable)) (ns : List ℕ) → ((n : ℕ) → o ≡ fail n → In n ns) → Recorded (s .error) (settled s p o .error) ns
+settled-recorded s p (ok ws) ns h = stays refl
+settled-recorded s p (fail n) ns h = arises (h n refl)
+
+step-recorded : (s : State) (f : State → Progress) (g : State → List ℕ) → ((n : ℕ) → Recorded (s .error) (lastState (f (withLeft s n)) .error) (g (withLeft s n))) → Recorded (s .error) (lastState (step s f) .error) (stepMet (s .left) s g)
+unfolding step
+step-recorded s f g k = go (s .left)
+  where
+    go : (n : ℕ) → Recorded (s .error) (lastState (stepWith n s f) .error) (stepMet n s g)
+    go zero = stays refl
+    go (suc n) = k n
+
+act-recorded : (s : State) (f : State → Progress) (g : State → List ℕ) → ((n : ℕ) → Recorded (s .error) (lastState (f (withLeft s n)) .error) (g (withLeft s n))) → Recorded (s .error) (lastState (act s f) .error) (onActing s g)
+unfolding act
+act-recorded s f g k = go (eqb (s .error) no-error)
+  where
+    go : (b : Bool) → Recorded (s .error) (lastState (unlessError b s (λ t. step t f)) .error) (actMet b s g)
+    go true = step-recorded s f g k
+    go false = stays refl
+
+proceed-recorded : (a : ℕ) (q : Progress) (f : State → Progress) (ms : List ℕ) (g : State → List ℕ) → Recorded a (lastState q .error) ms → ((t : State) → Recorded (t .error) (lastState (f t) .error) (g t))
+    → Recorded a (lastState (proceed q f) .error) (ms ++ onGoing q g)
+proceed-recorded a (going s) f ms g h k = recorded-then ms h (k s)
+proceed-recorded a (out s) f ms g h k = recorded-then ms h (stays refl)
+
+decided-recorded : (o : Result Bool) (p : ℕ) (s : State) (f g : State → Progress) (ms : List ℕ) (fm gm : Unit {0} → List ℕ) → ((n : ℕ) → o ≡ fail n → In n ms)
+    → Recorded (s .error) (lastState (f s) .error) (fm tt) → Recorded (s .error) (lastState (g s) .error) (gm tt) → Recorded (s .error) (lastState (decided o p s f g) .error) (ms ++ onDecided o fm gm)
+decided-recorded (ok true) p s f g ms fm gm h a b = recorded-right ms a
+decided-recorded (ok false) p s f g ms fm gm h a b = recorded-right ms b
+decided-recorded (fail n) p s f g ms fm gm h a b = arises (Memᴰ·append-left [] (h n refl))
+
+handled-recorded : (b : Bool) (s : State) (f : State → Progress) (fm : Unit {0} → List ℕ) → Recorded no-error (lastState (f (withError s no-error 0)) .error) (fm tt) → Recorded (s .error) (lastState (handled b s f) .error) (onHandled b fm)
+handled-recorded true s f fm (stays p) = clears p
+handled-recorded true s f fm (clears p) = clears p
+handled-recorded true s f fm (arises m) = arises m
+handled-recorded false s f fm h = stays refl
+
+repeat-recorded : (k : ℕ) (a : Expression) (p : ℕ) (body : State → Progress) (bodyMet : State → List ℕ) → ((t : State) → Recorded (t .error) (lastState (body t) .error) (bodyMet t)) → (s : State)
+    → Recorded (s .error) (lastState (repeat k (λ t. evalTest a (contents (t .store))) p body s) .error) (repeatMet k a body bodyMet s)
+unfolding repeat repeatMet
+repeat-recorded zero a p body bodyMet b s = stays refl
+repeat-recorded (suc k) a p body bodyMet b s =
+    act-recorded s _ _ (λ n. decided-recorded (evalTest a (contents (s .store))) p (withLeft s n) _ _ (testMet a (contents (s .store))) _ _ (test-met a (contents (s .store)))
+    (proceed-recorded (s .error) (body (withLeft s n)) _ (bodyMet (withLeft s n)) _ (b (withLeft s n)) (λ w. repeat-recorded k a p body bodyMet b w)) (stays refl))
+
+-- an assignment's error, its expression's included
+assignment-met : (vs : List Variable) (k : ℕ) (a : Expression) (n : ℕ) → (eval a (contents vs) no-current >>= λ x. assigned vs k x) ≡ fail n
+    → In n (met a (contents vs) no-current ++ onAnswer (eval a (contents vs) no-current) (λ x. assignMet vs k x))
+assignment-met vs k a n e = go (fails (eval a (contents vs) no-current) _ n e)
+  where
+    go : (eval a (contents vs) no-current ≡ fail n) ⊎ ((x : Composite) × (eval a (contents vs) no-current ≡ ok x) × (assigned vs k x ≡ fail n)) → In n (met a (contents vs) no-current ++ onAnswer (eval a (contents vs) no-current) (λ x. assignMet vs k x))
+    go (inl q) = Memᴰ·append-left (onAnswer (eval a (contents vs) no-current) (λ x. assignMet vs k x)) (eval-met a (contents vs) no-current n q)
+    go (inr p) = Memᴰ·append-right (met a (contents vs) no-current) (answer-in (eval a (contents vs) no-current) (p .0) (λ x. assignMet vs k x) n (p .1) (assign-met vs k (p .0) n (p .2)))
+
+skip-leaves : (s : State) → lastState (act s (λ t. going t)) .error ≡ s .error
+unfolding act step
+skip-leaves s = go (eqb (s .error) no-error)
+  where
+    stepped : (n : ℕ) → lastState (stepWith n s (λ u. going u)) .error ≡ s .error
+    stepped zero = refl
+    stepped (suc n) = refl
+
+    go : (b : Bool) → lastState (unlessError b s (λ t. step t (λ u. going u))) .error ≡ s .error
+    go true = stepped (s .left)
+    go false = refl
+
+pub exec-recorded : (i : Instruction) (s : State) → Recorded (s .error) (lastState (exec i s) .error) (execMet i s)
+unfolding exec execMet
+exec-recorded (skip r) s = stays (skip-leaves s)
+exec-recorded (assign r k a) s = act-recorded s _ _ (λ n. settled-recorded (withLeft s n) r _ _ (assignment-met (s .store) k a))
+exec-recorded (set-yoke r k y) s = act-recorded s _ _ (λ n. settled-recorded (withLeft s n) r _ _ (change-met (s .store) k y))
+exec-recorded (sequence r i j) s = proceed-recorded (s .error) (exec i s) _ (execMet i s) _ (exec-recorded i s) (λ t. exec-recorded j t)
+exec-recorded (branch r a i j) s =
+    act-recorded s _ _ (λ n. decided-recorded (evalTest a (contents (s .store))) r (withLeft s n) _ _ (testMet a (contents (s .store))) _ _ (test-met a (contents (s .store))) (exec-recorded i (withLeft s n)) (exec-recorded j (withLeft s n)))
+exec-recorded (loop r a i) s = repeat-recorded (suc (s .left)) a r (λ t. exec i t) (λ t. execMet i t) (λ t. exec-recorded i t) s
+exec-recorded (handle r m i) s = step-recorded s _ _ (λ n. handled-recorded (eqb (s .error) m) (withLeft s n) _ _ (exec-recorded i (withError (withLeft s n) no-error 0)))
+
+-- ---- readings
+reading-met : (vs : List Variable) (r : Reading) (n : ℕ) → readingTaken vs r ≡ fail n → In n (readingMet vs r)
+unfolding readingTaken readingMet
+reading-met vs r n e = go (required-fails (inRange (r .number)) overflow _ n e)
+  where
+    next : List ℕ
+    next = assignMet vs (r .variable) (composite number (whole (r .number)))
+
+    go : ((inRange (r .number) ≡ false) × (overflow ≡ n)) ⊎ ((inRange (r .number) ≡ true) × (assigned vs (r .variable) (composite number (whole (r .number))) ≡ fail n))
+        → In n (unlessMet (inRange (r .number)) overflow ++ onTrue (inRange (r .number)) next)
+    go (inl q) = Memᴰ·append-left (onTrue (inRange (r .number)) next) (unless-in (inRange (r .number)) overflow n (q .0) (q .1))
+    go (inr q) =
+        Memᴰ·append-right (unlessMet (inRange (r .number)) overflow)
+        (subst (λ (t : Bool). In n (onTrue t next)) (sym (q .0)) (assign-met vs (r .variable) (composite number (whole (r .number))) n (q .1)))
+
+taken-recorded : (b : Bool) (s : State) (i : ℕ) (r : Reading) → Recorded (s .error) (takenUnless b s i r .error) (onTrue b (readingMet (s .store) r))
+taken-recorded true s i r = settled-recorded s (reading-place + i) (readingTaken (s .store) r) (readingMet (s .store) r) (reading-met (s .store) r)
+taken-recorded false s i r = stays refl
+
+pub readings-recorded : (i : ℕ) (rs : List Reading) (s : State) → Recorded (s .error) (takeReadings i rs s .error) (readingsMet i rs s)
+unfolding takeReadings readingsMet
+readings-recorded i [] s = stays refl
+readings-recorded i (r ∷ rs) s =
+    recorded-then (onTrue (eqb (s .error) no-error) (readingMet (s .store) r)) (taken-recorded (eqb (s .error) no-error) s i r) (readings-recorded (suc i) rs (takenUnless (eqb (s .error) no-error) s i r))
+
+-- ---- whole runs
+pub run-recorded : (p : Profile) (readings : List Reading) (budget : ℕ)
+    → (lastState (run p readings budget) .error ≡ no-error) ⊎ List·Memᴰ (lastState (run p readings budget) .error) (runMet p readings budget)
+unfolding run runMet started
+run-recorded p readings budget =
+    by (recorded-then (readingsMet 0 readings (started p budget)) (readings-recorded 0 readings (started p budget)) (exec-recorded (p .program) (takeReadings 0 readings (started p budget))))
+  where
+    by : {e : ℕ} {ns : List ℕ} → Recorded no-error e ns → (e ≡ no-error) ⊎ List·Memᴰ e ns
+    by (stays q) = inl q
+    by (clears q) = inl q
+    by (arises m) = inr m
+
+-- a passed pair of files: no type error is recorded at the end
+pub accepted-error : (prof lims : List ℕ) → lowest (pairRules prof lims) ≡ 0 → (es : List Entry) → checkProfile (profileOf (rowsOf prof) (rowsOf lims)) ≡ ok es
+    → (readings : List Reading) → Every (λ r. isNumberVariable (rowsOf prof) (r .variable) ≡ true) readings → (budget : ℕ)
+    → lastState (run (profileOf (rowsOf prof) (rowsOf lims)) readings budget) .error < first-type-error
+accepted-error prof lims e es passed readings ns budget = by (run-recorded (profileOf (rowsOf prof) (rowsOf lims)) readings budget)
+  where
+    by : {k : ℕ} → (k ≡ no-error) ⊎ List·Memᴰ k (runMet (profileOf (rowsOf prof) (rowsOf lims)) readings budget) → k < first-type-error
+    by (inl q) = omega arith
+    by (inr m) = every-at (accepted-safe prof lims e es passed readings ns budget) m

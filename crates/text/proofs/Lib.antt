@@ -1,0 +1,5 @@
+mod Texts
+mod Spelling
+mod Signs
+mod Parsed
+mod Cells
