@@ -1,19 +1,18 @@
 -- The numbers that a row names: the code's tables by kind are the definitions' choices, and a kind above the last reads as the
 -- last. Each table is compared entry by entry. Assumes nothing.
 use mathlib.Core.Path.{_≡_, refl, sym, ap, _∙_, subst}
-use mathlib.Core.Bool.{Bool, true, false}
 use mathlib.Core.List.{List, [], _∷_}
-use mathlib.Core.Logic.{_⊎_, ⊎-elim}
+use mathlib.Core.Logic.{⊎-elim}
 use Prim.Native.Nat.{ℕ, zero, suc, _+_, _≤_, _<_, min}
 use native.Mathlib.Nat.{add-zero, zero-add, add-suc, suc-add, le-of-suc-le-suc, not-suc-le-zero}
 use native.Mathlib.Omega.{arith}
-use lib.Dec.{eqb, ltb}
+use lib.Dec.{ltb}
 use lib.ListN.{getD}
 use borrow.Author.Tests.{ne-eqb, le-ltb}
 use Rattle.lingua.specs.Outcome.{if_then_else_}
 use Rattle.lingua.specs.Value.{Composite}
 use Rattle.lingua.specs.Numbers.{type-section, expression-section, instruction-section}
-use Rattle.lingua.specs.Rows.{kindAt, aAt, bAt, cAt, rowIn, TypeRow, expand-type, typeKind, typeRow, ExpressionRow, constant-row, all-list-row, constantKind, expressionKind, expressionRow, InstructionRow, handle-row, instructionKind, instructionRow, operands, parts, evaluated, yokeRoot, yokeSet}
+use Rattle.lingua.specs.Rows.{kindAt, aAt, bAt, cAt, rowIn, TypeRow, typeKind, typeRow, ExpressionRow, constant-row, constantKind, expressionKind, expressionRow, InstructionRow, instructionKind, instructionRow, operands, parts, evaluated, yokeRoot, yokeSet}
 use Rattle.lingua.specs.Rules.{unaryAttribute, binaryAttribute, typeAttributes, expressionAttributes, handledErrors}
 use Rattle.lingua.specs.References.{typeParts, expressionVariables, instructionVariables}
 use Rattle.rules.specs.Tables.{IsTable}
@@ -55,7 +54,7 @@ pick F last k S T a b c e h = cases (λ m. choose (getD T m 0) a b c ≡ S (F m)
 abbrev pub expressionOfKind : Composite → ℕ → ℕ → ℕ → ℕ → ExpressionRow
 expressionOfKind v a b c k = if ltb k 4 then constant-row v else expressionKind k a b c
 
-abbrev typeOfKind : ℕ → ℕ → ℕ → ℕ → TypeRow
+abbrev pub typeOfKind : ℕ → ℕ → ℕ → ℕ → TypeRow
 typeOfKind a b c k = typeKind k a b c
 
 abbrev instructionOfKind : ℕ → ℕ → ℕ → ℕ → InstructionRow
@@ -78,7 +77,7 @@ module _ (rows : List ℕ) (t : Table) (r : ℕ) (h : IsTable rows type-section 
   unfolding typeRow rowIn
   type-is = rw (← h .start)
 
-  type-clamped : (typeOfKind (aAt rows (t .start + r)) (bAt rows (t .start + r)) (cAt rows (t .start + r))) (kindAt rows (t .start + r)) ≡ (typeOfKind (aAt rows (t .start + r)) (bAt rows (t .start + r)) (cAt rows (t .start + r))) (min (kindAt rows (t .start + r)) 6)
+  pub type-clamped : (typeOfKind (aAt rows (t .start + r)) (bAt rows (t .start + r)) (cAt rows (t .start + r))) (kindAt rows (t .start + r)) ≡ (typeOfKind (aAt rows (t .start + r)) (bAt rows (t .start + r)) (cAt rows (t .start + r))) (min (kindAt rows (t .start + r)) 6)
   type-clamped = clamped (typeOfKind (aAt rows (t .start + r)) (bAt rows (t .start + r)) (cAt rows (t .start + r))) 6 (kindAt rows (t .start + r)) (type-above (aAt rows (t .start + r)) (bAt rows (t .start + r)) (cAt rows (t .start + r)) (kindAt rows (t .start + r)))
 
   pub type-attributes-pick : (k : ℕ) → k ≡ min (kindAt rows (t .start + r)) 6 → choose (getD (2 ∷ 0 ∷ 0 ∷ 0 ∷ 0 ∷ 1 ∷ 2 ∷ []) k 0) (aAt rows (t .start + r)) (bAt rows (t .start + r)) (cAt rows (t .start + r)) ≡ typeAttributes (typeRow rows r)

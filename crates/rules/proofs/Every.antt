@@ -1,8 +1,8 @@
 -- A test of every number below one: a loop passes them one by one, and leaves at the first that fails. Assumes nothing.
 use mathlib.Core.Path.{_≡_, refl, sym, ap, ap₂, _∙_}
 use mathlib.Core.Bool.{Bool, true, false, not, _&&_, and-false}
-use mathlib.Core.Logic.{_⊎_, inl, inr, ⊎-elim}
-use Prim.Native.Nat.{ℕ, zero, suc, _+_, _≤_, _<_}
+use mathlib.Core.Logic.{⊎-elim}
+use Prim.Native.Nat.{ℕ, zero, suc, _+_, _<_}
 use native.Mathlib.Nat.{not-suc-le-zero, le-of-suc-le-suc, eq-or-lt-of-le}
 use native.Mathlib.Numerals.{add-one}
 use native.Mathlib.Omega.{arith}
@@ -91,3 +91,10 @@ first-true false b c d e = sym e
 
 pub last-true : (a b c d : Bool) → not (a && b && c && d) ≡ false → d ≡ true
 last-true a b c d e = and-right (a && b && c) d (not-false (a && b && c && d) e)
+
+pub second-true : (a b c d : Bool) → not (a && b && c && d) ≡ false → b ≡ true
+second-true a b c d e = and-right a b (and-left (a && b) c (and-left (a && b && c) d (not-false (a && b && c && d) e)))
+
+pub first-of-three : (a b c : Bool) → not (a && b && c) ≡ false → a ≡ true
+first-of-three true b c e = refl
+first-of-three false b c e = sym e

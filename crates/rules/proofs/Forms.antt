@@ -1,17 +1,16 @@
 -- What makes the tests of form and counts: the code's table of used bytes is the definition's, and what each test needs of a
 -- row. Assumes nothing.
-use mathlib.Core.Path.{_≡_, refl, sym, ap, ap₂, _∙_, subst}
-use mathlib.Core.Bool.{Bool, true, false, not, _&&_}
-use mathlib.Core.List.{List, [], _∷_, map}
-use mathlib.Core.Logic.{_⊎_, ⊎-elim}
+use mathlib.Core.Path.{_≡_, refl, sym, ap, _∙_, subst}
+use mathlib.Core.Bool.{true, false, not, _&&_}
+use mathlib.Core.List.{List, map}
+use mathlib.Core.Logic.{⊎-elim}
 use mathlib.Core.Option.{Option, some, none}
-use Prim.Native.Nat.{ℕ, zero, suc, _+_, _-_, _*_, _/_, _%_, _≤_, _<_}
+use Prim.Native.Nat.{ℕ, _+_, _-_, _*_, _/_, _%_}
 use native.Mathlib.Omega.{arith}
 use lib.Dec.{eqb, ltb, leb·zero}
-use lib.ListN.{length, getD, drop, List·getD-map}
+use lib.ListN.{getD, drop, List·getD-map}
 use borrow.Author.Tests.{ne-eqb, lt-ltb, le-ltb, le-leb, lt-leb}
-use Rattle.lingua.specs.Outcome.{if_then_else_}
-use Rattle.lingua.specs.Rows.{sectionAt, kindAt, bytesAt, rowIn, tableStart, tableCount, pairCount, nameRow}
+use Rattle.lingua.specs.Rows.{sectionAt, kindAt, bytesAt, rowIn, tableCount, pairCount, nameRow}
 use Rattle.lingua.specs.Format.{File, profile, limits, allZero, everyBelow}
 use Rattle.lingua.specs.Compute.{sameText}
 use Rattle.lingua.specs.Trees.{nameAt}

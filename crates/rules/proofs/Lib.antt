@@ -8,3 +8,5 @@ pub mod Constant
 pub mod Refers
 pub mod Usage
 pub mod Reading
+pub mod Lowest
+pub mod Bodies

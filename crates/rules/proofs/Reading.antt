@@ -1,18 +1,16 @@
 -- Which expression rows read: a tree reads where its row does or one of its operands' trees, so a mark for each row is right once
 -- those of the lower rows are. Carried by the trees' fuel not mattering. Assumes nothing.
 use mathlib.Core.Path.{_≡_, refl, sym, ap, ap₂, _∙_, fun-ext}
-use mathlib.Core.Bool.{Bool, true, false, not, _&&_, _||_, and-assoc}
-use mathlib.Core.List.{List, [], _∷_, _++_, append-nil}
-use mathlib.Core.Logic.{_⊎_, ⊎-elim}
+use mathlib.Core.Bool.{Bool, true, false, not, _&&_, _||_}
+use mathlib.Core.List.{List, [], _∷_, _++_}
+use mathlib.Core.Logic.{⊎-elim}
 use Prim.Native.Nat.{ℕ, zero, suc, _+_, _≤_, _<_, min}
 use native.Mathlib.Nat.{not-suc-le-zero, zero-add}
-use native.Mathlib.Numerals.{add-one}
 use native.Mathlib.Omega.{arith}
 use lib.Dec.{eqb, ltb, leb}
 use lib.ListN.{length, getD, set}
 use lib.Seq.{getD-set-same, getD-set-other}
-use borrow.Author.Tests.{ltb-true, not-false, eq-eqb, ne-eqb, le-leb, lt-leb}
-use Rattle.lingua.specs.Outcome.{if_then_else_}
+use borrow.Author.Tests.{ltb-true, ne-eqb, le-leb, lt-leb}
 use Rattle.lingua.specs.Numbers.{declaration-section, type-section, expression-section, instruction-section}
 use Rattle.lingua.specs.Value.{allOf}
 use Rattle.lingua.specs.Expression.{Expression}
@@ -31,7 +29,7 @@ use Rattle.rules.proofs.Choices.{cases, expressionOfKind, expression-is
 use Rattle.rules.proofs.Usage.{joined-snoc}
 
 -- ---- trees
-lower-same : {A : Type 0} (r : ℕ) (f g : ℕ → A) (o : A) → ((a : ℕ) → a < r → f a ≡ g a) → lower r f o ≡ lower r g o
+pub lower-same : {A : Type 0} (r : ℕ) (f g : ℕ → A) (o : A) → ((a : ℕ) → a < r → f a ≡ g a) → lower r f o ≡ lower r g o
 lower-same r f g o h = fun-ext (λ a. look a (ltb a r) refl)
   where
     look : (a : ℕ) (b : Bool) → ltb a r ≡ b → below b f o a ≡ below b g o a

@@ -1,7 +1,7 @@
 -- References as the code asks them: a row's own numbers against the tables' counts. Assumes nothing.
-use mathlib.Core.Path.{_≡_, refl, sym, ap, _∙_}
+use mathlib.Core.Path.{_≡_}
 use mathlib.Core.Bool.{Bool, true, false, _&&_}
-use mathlib.Core.List.{List, _++_}
+use mathlib.Core.List.{List}
 use Prim.Native.Nat.{ℕ, _+_, _*_, _/_}
 use lib.Dec.{ltb}
 use Rattle.lingua.specs.Rows.{aAt, bAt, rowIn, detailRow, pairCount, expressionRow, operands, instructionRow, parts, evaluated, yokeRoot, yokeSet}
@@ -13,10 +13,6 @@ use Rattle.rules.specs.declared.tables.Tables.{Tables}
 use Rattle.rules.proofs.Short.{all-append}
 
 module _ (rows : List ℕ) (t : Tables) (h : AreTables rows t) where
-  pub yoke-of : (d : ℕ) → declaredYoke rows d ≡ bAt rows (t .declarations .start + (2 * d + 1))
-  unfolding declaredYoke detailRow rowIn
-  yoke-of d = rw (h .declarations .start)
-
   pub declaration-is : (d : ℕ) → declarationRefers rows d ≡ (ltb (aAt rows (t .declarations .start + (2 * d + 1))) (t .types .count) && allBelow (t .expressions .count) (yokeRoot (bAt rows (t .declarations .start + (2 * d + 1)))))
   unfolding declarationRefers declaredYoke detailRow rowIn
   declaration-is d = rw (h .declarations .start, h .types .count, h .expressions .count)

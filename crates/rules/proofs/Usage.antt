@@ -1,9 +1,9 @@
 -- Counts of uses: a use counts up to 2 at its own row alone, uses of rows one after another are the uses of the joined list, and
 -- "once" is the same of the count as of the list. Assumes nothing.
 use mathlib.Core.Path.{_≡_, refl, sym, ap, ap₂, _∙_, subst}
-use mathlib.Core.Bool.{Bool, true, false, _&&_}
+use mathlib.Core.Bool.{Bool, _&&_}
 use mathlib.Core.List.{List, [], _∷_, _++_, append-nil, append-assoc}
-use mathlib.Core.Logic.{_⊎_, ⊎-elim}
+use mathlib.Core.Logic.{⊎-elim}
 use Prim.Native.Nat.{ℕ, zero, suc, _+_, _-_, _≤_, _<_, min, pred}
 use native.Mathlib.Numerals.{add-one}
 use native.Mathlib.Nat.{zero-add, add-zero, suc-add, add-suc}
@@ -12,7 +12,6 @@ use lib.Dec.{eqb}
 use lib.ListN.{length, getD, set, take, replicate, length-set, length-replicate, getD-replicate}
 use lib.Seq.{take-nil, getD-set-same, getD-set-other}
 use borrow.Author.Tests.{eq-eqb, ne-eqb}
-use Rattle.lingua.specs.Outcome.{if_then_else_}
 use Rattle.lingua.specs.Trees.{tabulateFrom, tabulate}
 use Rattle.lingua.specs.Typing.{joined}
 use Rattle.lingua.specs.Format.{everyBelow}

@@ -3,3 +3,5 @@ pub mod Form
 pub mod Picks
 pub mod Uses
 pub mod Reads
+pub mod Types
+pub mod Refusals

@@ -98,7 +98,7 @@ pub fn padded(bytes: &[u8], low: u8, high: u8) -> bool
 }
 
 // A 32-bit number, low byte first.
-fn word32_at(bytes: &[u8], at: usize) -> usize
+pub fn word32_at(bytes: &[u8], at: usize) -> usize
     requires { ⌜ at + 4 ≤ length (now bytes) ⌝ }
     ensures { λ r. ⌜ (r ≡ word32 (now (bytes .entry)) at) × (r < 4294967296) ⌝ }
 {

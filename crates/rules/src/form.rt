@@ -14,7 +14,7 @@ use lingua::sizes::LIMIT_SECTION;
 use lingua::sizes::ROW_BYTES;
 use lingua::sizes::TYPE_SECTION;
 ghost use mathlib.Core.Path.{_≡_};
-ghost use mathlib.Core.Option.{Option, none};
+ghost use mathlib.Core.Option.{none};
 ghost use Prim.Native.Nat.{_+_, _*_, _-_, _/_, _≤_};
 ghost use lib.ListN.{length, getD};
 ghost use Rattle.lingua.specs.Answers.{fileMeaning};

@@ -6,7 +6,7 @@ use crate::tables::Tables;
 use lingua::FileKind;
 ghost use mathlib.Core.Path.{_≡_};
 ghost use mathlib.Core.List.{List};
-ghost use Prim.Native.Nat.{ℕ, _+_, _*_, _/_, _≤_, _<_};
+ghost use Prim.Native.Nat.{ℕ, _+_, _*_, _/_, _<_};
 ghost use lib.ListN.{length};
 ghost use Rattle.lingua.specs.Answers.{fileMeaning};
 ghost use Rattle.lingua.specs.Compute.{sameText};
@@ -24,7 +24,7 @@ fn is_name(bytes: &[u8]) -> bool
     padded(bytes, b'A', b'Z')
 }
 
-fn same_bytes(a: &[u8], b: &[u8]) -> bool
+pub fn same_bytes(a: &[u8], b: &[u8]) -> bool
     requires { ⌜ length (now a) ≡ length (now b) ⌝ }
     ensures { λ r. ⌜ r ≡ sameText (now (a .entry)) (now (b .entry)) ⌝ }
 {

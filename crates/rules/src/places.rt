@@ -9,11 +9,12 @@ use crate::picks::yoke_root;
 use crate::picks::yoke_set_of;
 use crate::tables::Table;
 use crate::tables::Tables;
+use lingua::sizes::MOST_EXPRESSIONS;
 ghost use mathlib.Core.Path.{_≡_};
-ghost use mathlib.Core.Bool.{Bool, true, false, not, _&&_};
-ghost use Prim.Native.Nat.{ℕ, _+_, _*_, _≤_, _<_};
+ghost use mathlib.Core.Bool.{true, false, not, _&&_};
+ghost use Prim.Native.Nat.{_+_, _*_, _≤_, _<_};
 ghost use lib.Dec.{ltb};
-ghost use lib.ListN.{length, getD};
+ghost use lib.ListN.{getD};
 ghost use Rattle.lingua.specs.Numbers.{declaration-section, expression-section, instruction-section};
 ghost use Rattle.lingua.specs.Value.{allOf};
 ghost use Rattle.lingua.specs.Rows.{tableCount, pairCount, expressionRow, instructionRow, evaluated, yokeRoot, yokeSet};
@@ -38,7 +39,7 @@ fn reads_itself(rows: &[u8], t: Table, r: usize, variable: bool) -> bool
 }
 
 // Whether row a is below r and marked.
-fn is_marked(marks: &[bool; 512], r: usize, a: usize) -> bool
+fn is_marked(marks: &[bool; MOST_EXPRESSIONS], r: usize, a: usize) -> bool
     requires { ⌜ r ≤ 512 ⌝ }
     ensures { λ b. ⌜ b ≡ (ltb a r && getD (now (marks .entry)) a false) ⌝ }
 {
@@ -48,7 +49,7 @@ fn is_marked(marks: &[bool; 512], r: usize, a: usize) -> bool
     false
 }
 
-fn none_marked(f: Few, marks: &[bool; 512], r: usize) -> bool
+fn none_marked(f: Few, marks: &[bool; MOST_EXPRESSIONS], r: usize) -> bool
     requires { ⌜ r ≤ 512 ⌝ }
     ensures { λ b. ⌜ b ≡ allOf (λ a. not (ltb a r && getD (now (marks .entry)) a false)) (listed f) ⌝ }
 {
@@ -72,7 +73,13 @@ fn none_marked(f: Few, marks: &[bool; 512], r: usize) -> bool
 }
 
 // Whether the tree of row r reads, given the marks of the rows below.
-fn tree_reads(rows: &[u8], t: Table, marks: &[bool; 512], r: usize, variable: bool) -> bool
+fn tree_reads(
+    rows: &[u8],
+    t: Table,
+    marks: &[bool; MOST_EXPRESSIONS],
+    r: usize,
+    variable: bool,
+) -> bool
     requires { ⌜ IsTable (now rows) expression-section t ⌝ }
     requires { ⌜ (r < t .count) × (r ≤ 512) ⌝ }
     requires { ⌜ Marked (now rows) variable r (now marks) ⌝ }
@@ -84,13 +91,13 @@ fn tree_reads(rows: &[u8], t: Table, marks: &[bool; 512], r: usize, variable: bo
     !none_marked(operands_of(rows, t, r), marks, r)
 }
 
-fn readers(rows: &[u8], t: Table, variable: bool) -> [bool; 512]
+fn readers(rows: &[u8], t: Table, variable: bool) -> [bool; MOST_EXPRESSIONS]
     requires { ⌜ IsTable (now rows) expression-section t ⌝ }
     requires { ⌜ t .count ≤ 512 ⌝ }
     ensures { λ marks. ⌜ Marked (now (rows .entry)) variable (tableCount (now (rows .entry)) expression-section) marks ⌝ }
 {
     let count = t.count;
-    let mut marks = [false; 512];
+    let mut marks = [false; MOST_EXPRESSIONS];
     let mut r = 0;
     while r < count {
         let mark = tree_reads(rows, t, &marks, r, variable);
@@ -101,7 +108,7 @@ fn readers(rows: &[u8], t: Table, variable: bool) -> [bool; 512]
 }
 
 // No declared yoke reads a variable.
-fn declared_fit(rows: &[u8], t: Tables, marks: &[bool; 512]) -> bool
+fn declared_fit(rows: &[u8], t: Tables, marks: &[bool; MOST_EXPRESSIONS]) -> bool
     requires { ⌜ AreTables (now rows) t ⌝ }
     requires { ⌜ Sized t ⌝ }
     requires { ⌜ referenceWrong (now rows) ≡ false ⌝ }
@@ -126,7 +133,7 @@ fn declared_fit(rows: &[u8], t: Tables, marks: &[bool; 512]) -> bool
 }
 
 // No yoke that is set reads a variable.
-fn set_fit(rows: &[u8], t: Tables, marks: &[bool; 512]) -> bool
+fn set_fit(rows: &[u8], t: Tables, marks: &[bool; MOST_EXPRESSIONS]) -> bool
     requires { ⌜ AreTables (now rows) t ⌝ }
     requires { ⌜ Sized t ⌝ }
     requires { ⌜ referenceWrong (now rows) ≡ false ⌝ }
@@ -147,7 +154,7 @@ fn set_fit(rows: &[u8], t: Tables, marks: &[bool; 512]) -> bool
 }
 
 // No expression that an instruction evaluates reads the current value.
-fn evaluated_fit(rows: &[u8], t: Tables, marks: &[bool; 512]) -> bool
+fn evaluated_fit(rows: &[u8], t: Tables, marks: &[bool; MOST_EXPRESSIONS]) -> bool
     requires { ⌜ AreTables (now rows) t ⌝ }
     requires { ⌜ Sized t ⌝ }
     requires { ⌜ referenceWrong (now rows) ≡ false ⌝ }

@@ -9,6 +9,7 @@ use crate::picks::yoke_root;
 use crate::picks::yoke_set_of;
 use crate::tables::Table;
 use crate::tables::Tables;
+use lingua::sizes::MOST_EXPRESSIONS;
 ghost use mathlib.Core.Path.{_≡_};
 ghost use mathlib.Core.List.{List, [], _∷_, _++_};
 ghost use Prim.Native.Nat.{ℕ, _+_, _≤_, pred};
@@ -24,10 +25,10 @@ ghost use Rattle.rules.specs.Picks.{listed};
 ghost use Rattle.rules.specs.Uses.{Counted};
 
 // One use of row x.
-fn note(uses: &mut [u8; 512], x: usize)
+fn note(uses: &mut [u8; MOST_EXPRESSIONS], x: usize)
     ensures { λ _. ⌜ ((xs : List ℕ) → Counted (now (uses .entry)) xs → Counted (now (uses .exit)) (xs ++ (x ∷ []))) ⌝ }
 {
-    if x < 512 {
+    if x < MOST_EXPRESSIONS {
         let used = uses[x];
         if used == 0 {
             uses[x] = 1;
@@ -37,7 +38,7 @@ fn note(uses: &mut [u8; 512], x: usize)
     }
 }
 
-fn note_all(uses: &mut [u8; 512], f: Few)
+fn note_all(uses: &mut [u8; MOST_EXPRESSIONS], f: Few)
     ensures { λ _. ⌜ ((xs : List ℕ) → Counted (now (uses .entry)) xs → Counted (now (uses .exit)) (xs ++ listed f)) ⌝ }
 {
     let count = f.count;
@@ -56,7 +57,7 @@ fn note_all(uses: &mut [u8; 512], f: Few)
 }
 
 // The expression rows of declared yokes.
-fn note_declared(uses: &mut [u8; 512], rows: &[u8], t: Table)
+fn note_declared(uses: &mut [u8; MOST_EXPRESSIONS], rows: &[u8], t: Table)
     requires { ⌜ IsTable (now rows) declaration-section t ⌝ }
     ensures { λ _. ⌜ ((xs : List ℕ) → Counted (now (uses .entry)) xs → Counted (now (uses .exit)) (xs ++ joined (tabulate (pairCount (now (rows .entry)) declaration-section) (λ d. yokeRoot (declaredYoke (now (rows .entry)) d))))) ⌝ }
 {
@@ -70,7 +71,7 @@ fn note_declared(uses: &mut [u8; 512], rows: &[u8], t: Table)
 }
 
 // The expression rows of yokes that instructions set.
-fn note_set(uses: &mut [u8; 512], rows: &[u8], t: Table)
+fn note_set(uses: &mut [u8; MOST_EXPRESSIONS], rows: &[u8], t: Table)
     requires { ⌜ IsTable (now rows) instruction-section t ⌝ }
     ensures { λ _. ⌜ ((xs : List ℕ) → Counted (now (uses .entry)) xs → Counted (now (uses .exit)) (xs ++ joined (tabulate (tableCount (now (rows .entry)) instruction-section) (λ r. yokeSet (instructionRow (now (rows .entry)) r))))) ⌝ }
 {
@@ -83,7 +84,7 @@ fn note_set(uses: &mut [u8; 512], rows: &[u8], t: Table)
 }
 
 // The expression rows that instructions evaluate.
-fn note_evaluated(uses: &mut [u8; 512], rows: &[u8], t: Table)
+fn note_evaluated(uses: &mut [u8; MOST_EXPRESSIONS], rows: &[u8], t: Table)
     requires { ⌜ IsTable (now rows) instruction-section t ⌝ }
     ensures { λ _. ⌜ ((xs : List ℕ) → Counted (now (uses .entry)) xs → Counted (now (uses .exit)) (xs ++ joined (tabulate (tableCount (now (rows .entry)) instruction-section) (λ r. evaluated (instructionRow (now (rows .entry)) r))))) ⌝ }
 {
@@ -95,7 +96,7 @@ fn note_evaluated(uses: &mut [u8; 512], rows: &[u8], t: Table)
     }
 }
 
-fn note_operands(uses: &mut [u8; 512], rows: &[u8], t: Table)
+fn note_operands(uses: &mut [u8; MOST_EXPRESSIONS], rows: &[u8], t: Table)
     requires { ⌜ IsTable (now rows) expression-section t ⌝ }
     ensures { λ _. ⌜ ((xs : List ℕ) → Counted (now (uses .entry)) xs → Counted (now (uses .exit)) (xs ++ joined (tabulate (tableCount (now (rows .entry)) expression-section) (λ r. operands (expressionRow (now (rows .entry)) r))))) ⌝ }
 {
@@ -107,7 +108,7 @@ fn note_operands(uses: &mut [u8; 512], rows: &[u8], t: Table)
     }
 }
 
-fn note_parts(uses: &mut [u8; 512], rows: &[u8], t: Table)
+fn note_parts(uses: &mut [u8; MOST_EXPRESSIONS], rows: &[u8], t: Table)
     requires { ⌜ IsTable (now rows) instruction-section t ⌝ }
     ensures { λ _. ⌜ ((xs : List ℕ) → Counted (now (uses .entry)) xs → Counted (now (uses .exit)) (xs ++ joined (tabulate (tableCount (now (rows .entry)) instruction-section) (λ r. parts (instructionRow (now (rows .entry)) r))))) ⌝ }
 {
@@ -120,7 +121,7 @@ fn note_parts(uses: &mut [u8; 512], rows: &[u8], t: Table)
 }
 
 // Whether each row below n is used once.
-fn all_once(uses: &[u8; 512], n: usize) -> bool
+fn all_once(uses: &[u8; MOST_EXPRESSIONS], n: usize) -> bool
     requires { ⌜ n ≤ 512 ⌝ }
     ensures { λ b. ⌜ ((xs : List ℕ) → Counted (now (uses .entry)) xs → b ≡ everyBelow n (λ r. eqb (occurrences r xs) 1)) ⌝ }
 {
@@ -139,7 +140,7 @@ fn expressions_once(rows: &[u8], t: Tables) -> bool
     requires { ⌜ t .expressions .count ≤ 512 ⌝ }
     ensures { λ b. ⌜ b ≡ everyBelow (tableCount (now (rows .entry)) expression-section) (λ r. eqb (occurrences r (expressionUses (now (rows .entry)))) 1) ⌝ }
 {
-    let mut uses = [0u8; 512];
+    let mut uses = [0u8; MOST_EXPRESSIONS];
     let declarations = t.declarations;
     let instructions = t.instructions;
     let expressions = t.expressions;
@@ -156,7 +157,7 @@ fn instructions_once(rows: &[u8], t: Table) -> bool
     requires { ⌜ (1 ≤ t .count) × (t .count ≤ 256) ⌝ }
     ensures { λ b. ⌜ b ≡ everyBelow (pred (tableCount (now (rows .entry)) instruction-section)) (λ r. eqb (occurrences r (instructionUses (now (rows .entry)))) 1) ⌝ }
 {
-    let mut uses = [0u8; 512];
+    let mut uses = [0u8; MOST_EXPRESSIONS];
     note_parts(&mut uses, rows, t);
     all_once(&uses, t.count - 1)
 }

@@ -3,3 +3,4 @@ mod Spelling
 mod Signs
 mod Parsed
 mod Cells
+mod Names

@@ -13,10 +13,6 @@ abbrev pub Held : Count → List ℕ → Type 0
 Held (counts.Of n) buffer = (n ≤ length buffer) × (n ≡ length (take n buffer))
 Held counts.Bad buffer = Unit {0}
 
-abbrev pub CountAtMost : Count → ℕ → Type 0
-CountAtMost (counts.Of n) most = n ≤ most
-CountAtMost counts.Bad most = Unit {0}
-
 abbrev pub AtMost : Natural → ℕ → Type 0
 AtMost (naturals.Of n) most = n ≤ most
 AtMost naturals.Bad most = Unit {0}

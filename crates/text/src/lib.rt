@@ -4,6 +4,7 @@
 // behind them and answers how many there are then. What finds no room is dropped, so no caller owes a proof of room.
 // What is parsed is a slice; whatever is malformed is answered, and none of these functions has to be called with care.
 pub mod fields; // fields.rt: the parts of a line
+pub mod first; // first.rt: the first elements of a slice
 pub mod hex; // hex.rt: bytes in hex, both ways
 pub mod number; // number.rt: decimal numbers, to text
 pub mod parse; // parse.rt: decimal numbers and lists of inputs, from text

@@ -1,9 +1,10 @@
 // Decimal numbers and lists of inputs, from text.
 ghost use Prim.Native.Nat.{_≤_};
 ghost use lib.ListN.{length};
-ghost use Rattle.text.specs.Count.{AtMost, CountAtMost};
+ghost use Rattle.text.specs.Count.{AtMost};
 use crate::fields::find;
 use crate::fields::is_none;
+use crate::first;
 
 // How many elements were parsed into a caller's buffer.
 pub enum Count {
@@ -16,13 +17,15 @@ pub enum Natural {
     Bad,
 }
 
+pub enum Word {
+    Of(u16),
+    Bad,
+}
+
 pub enum Whole {
     Of(i64),
     Bad,
 }
-
-// How many inputs are kept. It is more than a run takes, so what is left out changes no answer: a run refuses either way.
-pub const MOST_INPUTS: usize = 64;
 
 const HIGHEST_WORD: u64 = 65535;
 
@@ -58,6 +61,13 @@ pub fn parse_natural(text: &[u8], most: u64) -> Natural
     Natural::Of(value)
 }
 
+pub fn parse_word(text: &[u8]) -> Word {
+    match parse_natural(text, HIGHEST_WORD) {
+        Natural::Of(n) => Word::Of(n as u16),
+        Natural::Bad => Word::Bad,
+    }
+}
+
 // A number of 64 bits with its sign: a minus and the size less one, so that the lowest number has a size too.
 pub fn parse_whole(text: &[u8]) -> Whole {
     if text.len() == 0 {
@@ -85,30 +95,38 @@ fn negative(n: u64) -> i64
     -1 - less
 }
 
+fn store_word(words: &mut [u16], at: usize, word: u16) {
+    if at < words.len() {
+        words[at] = word;
+    }
+}
+
+fn store_whole(wholes: &mut [i64], at: usize, whole: i64) {
+    if at < wholes.len() {
+        wholes[at] = whole;
+    }
+}
+
 // One `variable:number`, put at place `at` of both buffers where they have it. False where it is malformed.
-fn parse_input(text: &[u8], at: usize, variables: &mut [u16; 64], numbers: &mut [i64; 64]) -> bool {
+fn parse_input(text: &[u8], at: usize, variables: &mut [u16], numbers: &mut [i64]) -> bool {
     let colon = find(text, 0, b':');
     if colon == text.len() {
         return false;
     }
-    let Natural::Of(variable) = parse_natural(&text[..colon], HIGHEST_WORD) else {
+    let Word::Of(variable) = parse_word(first::bytes(text, colon)) else {
         return false;
     };
     let rest = colon + 1;
     let Whole::Of(number) = parse_whole(&text[rest..]) else {
         return false;
     };
-    if at < MOST_INPUTS {
-        variables[at] = variable as u16;
-        numbers[at] = number;
-    }
+    store_word(variables, at, variable);
+    store_whole(numbers, at, number);
     true
 }
 
-// A list of inputs, `-` where there are none: those that are kept, at the start of both buffers, and their count.
-pub fn parse_inputs(text: &[u8], variables: &mut [u16; 64], numbers: &mut [i64; 64]) -> Count
-    ensures { λ r. ⌜ CountAtMost r 64 ⌝ }
-{
+// A list of inputs, `-` where there are none: as many as find room, at the start of both buffers, and the count of all.
+pub fn parse_inputs(text: &[u8], variables: &mut [u16], numbers: &mut [i64]) -> Count {
     if is_none(text) {
         return Count::Of(0);
     }
@@ -121,9 +139,6 @@ pub fn parse_inputs(text: &[u8], variables: &mut [u16; 64], numbers: &mut [i64; 
         }
         count += 1;
         from = end + 1;
-    }
-    if MOST_INPUTS < count {
-        return Count::Of(MOST_INPUTS);
     }
     Count::Of(count)
 }

@@ -2,7 +2,9 @@
 ghost use mathlib.Core.List.{_++_};
 ghost use Rattle.lingua.specs.Report.{decimal, endLine, refusedText, cellTexts};
 ghost use Rattle.lingua.specs.Answers.{ending};
+ghost use Rattle.lingua.specs.Rows.{untilZero};
 ghost use Rattle.text.specs.Appended.{Appended};
+ghost use Rattle.text.specs.Line.{contentOf, variableLine};
 use crate::number::put_decimal;
 use crate::number::put_signed;
 use crate::put::put;
@@ -46,4 +48,44 @@ pub fn put_cell_texts(out: &mut [u8], at: usize, cells: &[i64]) -> usize
         i += 1;
     }
     end
+}
+
+// A name without the zeros after it.
+fn put_name(out: &mut [u8], at: usize, name: &[u8]) -> usize
+    ensures { λ r. ⌜ Appended (now (out .entry)) at (untilZero (now (name .entry))) (now (out .exit)) r ⌝ }
+{
+    let mut end = at;
+    let mut i = 0;
+    while i < name.len() {
+        if name[i] == 0 {
+            return end;
+        }
+        end = put(out, end, name[i]);
+        i += 1;
+    }
+    end
+}
+
+// What a variable holds: its cells, or - where it is not filled.
+fn put_content(out: &mut [u8], at: usize, filled: bool, cells: &[i64]) -> usize
+    ensures { λ r. ⌜ Appended (now (out .entry)) at (contentOf filled (now (cells .entry))) (now (out .exit)) r ⌝ }
+{
+    if filled {
+        return put_cell_texts(out, at, cells);
+    }
+    put_bytes(out, at, b" -")
+}
+
+pub fn put_variable_line(
+    out: &mut [u8],
+    at: usize,
+    name: &[u8],
+    filled: bool,
+    cells: &[i64],
+) -> usize
+    ensures { λ r. ⌜ Appended (now (out .entry)) at (variableLine (now (name .entry)) filled (now (cells .entry))) (now (out .exit)) r ⌝ }
+{
+    let named = put_name(out, at, name);
+    let end = put_content(out, named, filled, cells);
+    put(out, end, b'\n')
 }

@@ -4,28 +4,20 @@ use Rattle.lingua.specs.Rules.{constantWrong}
 use borrow.Author.Needs.{needs}
 use Rattle.rules.proofs.constants.constant_wrong.Statement.{statement}
 use Rattle.rules.proofs.constants.constant_wrong.Tie as tie
-use Rattle.rules.proofs.constants.constant_wrong.Reads as reads
-use Rattle.rules.proofs.constants.constant_wrong.Lts as lts
-use Rattle.rules.proofs.constants.profile_constant_wrong.Reads as profile-constant-wrong-reads
 
--- src/constants.rt:129:30
 enum-told : tie.Need-enum-told
 enum-told c = search needs
 
--- src/constants.rt:129:30
 profile-constant-wrong-requires : tie.Need-profile-constant-wrong-requires
 profile-constant-wrong-requires c κs = search needs
 
--- src/constants.rt:130:29
 enum-told-2 : tie.Need-enum-told-2
 enum-told-2 c = search needs
 
--- src/constants.rt:124:1
 returns : tie.Need-returns
 unfolding fileMeaning
 returns c = rw (c .before .enum-told .given .1) (c .profile-constant-wrong .ensures)
 
--- src/constants.rt:124:1
 returns-2 : tie.Need-returns-2
 unfolding fileMeaning constantWrong
 returns-2 c = rw (c .enum-told2 .given .1)

@@ -1,25 +1,20 @@
 -- `handlers_fit` meets its contract: every row that was passed handles an error. Assumes nothing.
-use mathlib.Core.Path.{_≡_, sym, ap, ap₂, _∙_}
-use mathlib.Core.Bool.{true, _&&_}
-use Prim.Native.Nat.{ℕ, _+_, _*_, _-_, _/_, _≤_}
+use mathlib.Core.Path.{_≡_, sym, _∙_}
+use mathlib.Core.Bool.{true}
+use Prim.Native.Nat.{ℕ, _-_, _≤_}
 use native.Mathlib.Omega.{arith}
 use borrow.Author.Needs.{needs}
 use borrow.Author.Tests.{not-true, not-false}
-use Rattle.lingua.specs.Numbers.{declaration-section, type-section, expression-section, instruction-section}
+use Rattle.lingua.specs.Numbers.{instruction-section}
 use Rattle.lingua.specs.Errors.{last-error}
 use Rattle.lingua.specs.Value.{allOf}
-use Rattle.lingua.specs.Rows.{rowIn, tableCount, pairCount, typeRow, expressionRow, instructionRow, operands, parts, evaluated, yokeSet}
+use Rattle.lingua.specs.Rows.{tableCount, instructionRow}
 use Rattle.lingua.specs.Format.{everyBelow}
-use Rattle.lingua.specs.Rules.{between, constantFits, attributesFit, typeAttributes, expressionAttributes, handledErrors, constantWrong}
-use Rattle.lingua.specs.References.{allBelow, typeParts, expressionVariables, instructionVariables, declarationRefers, expressionRefers, instructionRefers, referenceWrong}
-use Rattle.rules.proofs.Every.{every-none, every-more, every-fails, every-all, both-left, both-right}
-use Rattle.rules.proofs.Short.{within-below, within-errors}
+use Rattle.lingua.specs.Rules.{between, handledErrors}
+use Rattle.rules.proofs.Every.{every-none, every-more, every-fails, every-all}
+use Rattle.rules.proofs.Short.{within-errors}
 use Rattle.rules.proofs.constants.handlers_fit.Statement.{statement}
 use Rattle.rules.proofs.constants.handlers_fit.Tie as tie
-use Rattle.rules.proofs.constants.handlers_fit.Reads as reads
-use Rattle.rules.proofs.constants.handlers_fit.Lts as lts
-use Rattle.rules.proofs.picks.all_within.Reads as all-within-reads
-use Rattle.rules.proofs.picks.handled_of.Reads as handled-of-reads
 
 abbrev Inv-loop : tie.InvT-loop
 Inv-loop rows t count r₀ r = (r ≤ count) × (everyBelow r (λ k. allOf (λ n. between 1 last-error n) (handledErrors (instructionRow rows k))) ≡ true)
@@ -27,35 +22,27 @@ Inv-loop rows t count r₀ r = (r ≤ count) × (everyBelow r (λ k. allOf (λ n
 abbrev μ-loop : tie.MeasureT-loop
 μ-loop rows t count r₀ r = count - r
 
--- src/constants.rt:98:5
 loop-holds : tie.Need-loop-holds Inv-loop μ-loop
 loop-holds c = (omega arith, every-none (λ (k : ℕ). allOf (λ n. between 1 last-error n) (handledErrors (instructionRow (c .before .args .rows .now) k))))
 
--- src/constants.rt:100:24
 handled-of-requires : tie.Need-handled-of-requires Inv-loop μ-loop
 handled-of-requires c κs = (c .before .before .before .pre, c .loop-test .taken)
 
--- src/constants.rt:100:13
 all-within-requires : tie.Need-all-within-requires Inv-loop μ-loop
 all-within-requires c κs = search needs
 
--- src/constants.rt:101:13
 returns : tie.Need-returns Inv-loop μ-loop
 returns c = sym (every-fails (λ (k : ℕ). allOf (λ n. between 1 last-error n) (handledErrors (instructionRow (c .before .before .before .before .before .before .args .rows .now) k))) (tableCount (c .before .before .before .before .before .before .args .rows .now) instruction-section) (c .before .before .before .before .loop .r) (omega arith) (within-errors (c .before .before .handled-of .ensures) (c .before .all-within .ensures) ∙ not-true (c .before .all-within .result) (c .if1 .taken)))
 
--- src/constants.rt:103:9
 add-r : tie.Need-add-r Inv-loop μ-loop
 add-r c = omega arith
 
--- src/constants.rt:98:5
 loop-less : tie.Need-loop-less Inv-loop μ-loop
 loop-less c = omega arith
 
--- src/constants.rt:98:5
 loop-again : tie.Need-loop-again Inv-loop μ-loop
 loop-again c = (omega arith, every-more (λ (k : ℕ). allOf (λ n. between 1 last-error n) (handledErrors (instructionRow (c .before .before .before .before .before .before .args .rows .now) k))) (c .before .before .before .before .loop .r) (c .before .before .before .before .loop .inv .1) (within-errors (c .before .before .handled-of .ensures) (c .before .all-within .ensures) ∙ not-false (c .before .all-within .result) (c .if1 .left)))
 
--- src/constants.rt:92:1
 returns-2 : tie.Need-returns-2 Inv-loop μ-loop
 returns-2 c = every-all (λ (k : ℕ). allOf (λ n. between 1 last-error n) (handledErrors (instructionRow (c .before .before .before .args .rows .now) k))) (c .before .loop .r) (tableCount (c .before .before .before .args .rows .now) instruction-section) (c .before .loop .inv .1) (omega arith)
 

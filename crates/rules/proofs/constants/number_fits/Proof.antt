@@ -1,16 +1,11 @@
 -- `number_fits` meets its contract: small numbers, and those that stand for small negative ones. Assumes nothing.
-use native.Mathlib.Omega.{arith}
 use Rattle.rules.proofs.Constant.{small-fits, other-fits}
 use Rattle.rules.proofs.constants.number_fits.Statement.{statement}
 use Rattle.rules.proofs.constants.number_fits.Tie as tie
-use Rattle.rules.proofs.constants.number_fits.Reads as reads
-use Rattle.rules.proofs.constants.number_fits.Lts as lts
 
--- src/constants.rt:36:9
 returns : tie.Need-returns
 returns c = small-fits (c .before .args .n) (c .if1 .taken)
 
--- src/constants.rt:32:1
 returns-2 : tie.Need-returns-2
 returns-2 c = other-fits (c .before .args .n) (c .if1 .left) (c .before .fits .n .fits)
 

@@ -1,50 +1,34 @@
 -- `profile_constant_wrong` meets its contract: the first table that is wrong decides. Assumes nothing.
-use mathlib.Core.Path.{_≡_, sym, ap, _∙_}
+use mathlib.Core.Path.{sym, ap, _∙_}
 use mathlib.Core.Bool.{not, _&&_}
-use Prim.Native.Nat.{ℕ, _+_, _*_, _/_}
-use lib.Dec.{ltb}
-use borrow.Author.Tests.{not-true, not-false, lt-ltb, le-ltb}
-use native.Mathlib.Omega.{arith}
-use Rattle.lingua.specs.Numbers.{declaration-section, type-section, expression-section, instruction-section}
+use borrow.Author.Tests.{not-true, not-false}
+use Rattle.lingua.specs.Numbers.{type-section, expression-section, instruction-section}
 use Rattle.lingua.specs.Errors.{last-error}
 use Rattle.lingua.specs.Value.{allOf}
-use Rattle.lingua.specs.Rows.{aAt, rowIn, tableCount, pairCount, typeRow, expressionRow, instructionRow, operands, parts, evaluated, yokeRoot, yokeSet}
+use Rattle.lingua.specs.Rows.{rowIn, tableCount, typeRow, expressionRow, instructionRow}
 use Rattle.lingua.specs.Format.{everyBelow}
 use Rattle.lingua.specs.Rules.{between, constantFits, attributesFit, typeAttributes, expressionAttributes, handledErrors, constantWrong}
-use Rattle.lingua.specs.References.{allBelow, typeParts, expressionVariables, instructionVariables, declarationRefers, expressionRefers, instructionRefers, referenceWrong}
 use Rattle.rules.proofs.Every.{third-1, third-2, third-3}
-use borrow.Author.Needs.{needs}
 use Rattle.rules.proofs.constants.profile_constant_wrong.Statement.{statement}
 use Rattle.rules.proofs.constants.profile_constant_wrong.Tie as tie
-use Rattle.rules.proofs.constants.profile_constant_wrong.Reads as reads
-use Rattle.rules.proofs.constants.profile_constant_wrong.Lts as lts
-use Rattle.rules.proofs.constants.expressions_fit.Reads as expressions-fit-reads
-use Rattle.rules.proofs.constants.handlers_fit.Reads as handlers-fit-reads
-use Rattle.rules.proofs.constants.types_fit.Reads as types-fit-reads
 
--- src/constants.rt:113:9
 types-fit-requires : tie.Need-types-fit-requires
 types-fit-requires c κs = c .before .before .pre .types
 
--- src/constants.rt:114:9
 returns : tie.Need-returns
 unfolding constantWrong
 returns c = third-1 (everyBelow (tableCount (c .before .before .before .before .args .rows .now) type-section) (λ r. attributesFit (typeAttributes (typeRow (c .before .before .before .before .args .rows .now) r)))) (everyBelow (tableCount (c .before .before .before .before .args .rows .now) expression-section) (λ r. constantFits (c .before .before .before .before .args .rows .now) (rowIn (c .before .before .before .before .args .rows .now) expression-section r) && attributesFit (expressionAttributes (expressionRow (c .before .before .before .before .args .rows .now) r)))) (everyBelow (tableCount (c .before .before .before .before .args .rows .now) instruction-section) (λ r. allOf (λ n. between 1 last-error n) (handledErrors (instructionRow (c .before .before .before .before .args .rows .now) r)))) (sym (c .before .types-fit .ensures) ∙ not-true (c .before .types-fit .result) (c .if1 .taken))
 
--- src/constants.rt:117:9
 expressions-fit-requires : tie.Need-expressions-fit-requires
 expressions-fit-requires c κs = c .before .before .before .before .before .pre .expressions
 
--- src/constants.rt:118:9
 returns-2 : tie.Need-returns-2
 unfolding constantWrong
 returns-2 c = third-2 (everyBelow (tableCount (c .before .before .before .before .before .before .before .args .rows .now) type-section) (λ r. attributesFit (typeAttributes (typeRow (c .before .before .before .before .before .before .before .args .rows .now) r)))) (everyBelow (tableCount (c .before .before .before .before .before .before .before .args .rows .now) expression-section) (λ r. constantFits (c .before .before .before .before .before .before .before .args .rows .now) (rowIn (c .before .before .before .before .before .before .before .args .rows .now) expression-section r) && attributesFit (expressionAttributes (expressionRow (c .before .before .before .before .before .before .before .args .rows .now) r)))) (everyBelow (tableCount (c .before .before .before .before .before .before .before .args .rows .now) instruction-section) (λ r. allOf (λ n. between 1 last-error n) (handledErrors (instructionRow (c .before .before .before .before .before .before .before .args .rows .now) r)))) (sym (c .before .before .before .before .types-fit .ensures) ∙ not-false (c .before .before .before .before .types-fit .result) (c .before .before .before .if1 .left)) (sym (c .before .expressions-fit .ensures) ∙ not-true (c .before .expressions-fit .result) (c .if2 .taken))
 
--- src/constants.rt:121:6
 handlers-fit-requires : tie.Need-handlers-fit-requires
 handlers-fit-requires c κs = c .before .before .before .before .before .before .before .before .pre .instructions
 
--- src/constants.rt:108:1
 returns-3 : tie.Need-returns-3
 unfolding constantWrong
 returns-3 c = ap not (c .handlers-fit .ensures) ∙ third-3 (everyBelow (tableCount (c .before .before .before .before .before .before .before .before .before .args .rows .now) type-section) (λ r. attributesFit (typeAttributes (typeRow (c .before .before .before .before .before .before .before .before .before .args .rows .now) r)))) (everyBelow (tableCount (c .before .before .before .before .before .before .before .before .before .args .rows .now) expression-section) (λ r. constantFits (c .before .before .before .before .before .before .before .before .before .args .rows .now) (rowIn (c .before .before .before .before .before .before .before .before .before .args .rows .now) expression-section r) && attributesFit (expressionAttributes (expressionRow (c .before .before .before .before .before .before .before .before .before .args .rows .now) r)))) (everyBelow (tableCount (c .before .before .before .before .before .before .before .before .before .args .rows .now) instruction-section) (λ r. allOf (λ n. between 1 last-error n) (handledErrors (instructionRow (c .before .before .before .before .before .before .before .before .before .args .rows .now) r)))) (sym (c .before .before .before .before .before .before .types-fit .ensures) ∙ not-false (c .before .before .before .before .before .before .types-fit .result) (c .before .before .before .before .before .if1 .left)) (sym (c .before .before .before .expressions-fit .ensures) ∙ not-false (c .before .before .before .expressions-fit .result) (c .before .before .if2 .left))

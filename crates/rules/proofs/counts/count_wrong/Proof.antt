@@ -4,28 +4,20 @@ use Rattle.rules.proofs.Forms.{counts-limits}
 use borrow.Author.Needs.{needs}
 use Rattle.rules.proofs.counts.count_wrong.Statement.{statement}
 use Rattle.rules.proofs.counts.count_wrong.Tie as tie
-use Rattle.rules.proofs.counts.count_wrong.Reads as reads
-use Rattle.rules.proofs.counts.count_wrong.Lts as lts
-use Rattle.rules.proofs.counts.profile_count_wrong.Reads as profile-count-wrong-reads
 
--- src/counts.rt:29:30
 enum-told : tie.Need-enum-told
 enum-told c = search needs
 
--- src/counts.rt:29:30
 profile-count-wrong-requires : tie.Need-profile-count-wrong-requires
 profile-count-wrong-requires c κs = search needs
 
--- src/counts.rt:30:43
 enum-told-2 : tie.Need-enum-told-2
 enum-told-2 c = search needs
 
--- src/counts.rt:25:1
 returns : tie.Need-returns
 unfolding fileMeaning
 returns c = λ rows h. rw (c .before .enum-told .given .1) (c .profile-count-wrong .ensures rows h)
 
--- src/counts.rt:25:1
 returns-2 : tie.Need-returns-2
 unfolding fileMeaning
 returns-2 c = λ rows h. rw (c .before .enum-told2 .given .1) (counts-limits rows (c .before .before .before .args .t) h)

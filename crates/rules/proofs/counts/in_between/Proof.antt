@@ -2,14 +2,10 @@
 use borrow.Author.Tests.{le-leb, lt-leb}
 use Rattle.rules.proofs.counts.in_between.Statement.{statement}
 use Rattle.rules.proofs.counts.in_between.Tie as tie
-use Rattle.rules.proofs.counts.in_between.Reads as reads
-use Rattle.rules.proofs.counts.in_between.Lts as lts
 
--- src/counts.rt:18:1
 returns : tie.Need-returns
 returns c = rw (le-leb (c .before .args .low) (c .before .args .n) (c .if1 .taken))
 
--- src/counts.rt:18:1
 returns-2 : tie.Need-returns-2
 returns-2 c = rw (lt-leb (c .before .args .low) (c .before .args .n) (c .if1 .left))
 

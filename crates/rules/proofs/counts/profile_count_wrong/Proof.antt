@@ -9,39 +9,28 @@ use Rattle.rules.proofs.Forms.{counts-profile}
 use borrow.Author.Needs.{needs}
 use Rattle.rules.proofs.counts.profile_count_wrong.Statement.{statement}
 use Rattle.rules.proofs.counts.profile_count_wrong.Tie as tie
-use Rattle.rules.proofs.counts.profile_count_wrong.Reads as reads
-use Rattle.rules.proofs.counts.profile_count_wrong.Lts as lts
-use Rattle.rules.proofs.counts.in_between.Reads as in-between-reads
 
--- src/counts.rt:37:9
 in-between-requires : tie.Need-in-between-requires
 in-between-requires c κs = search needs
 
--- src/counts.rt:38:9
 returns : tie.Need-returns
 returns c = λ rows h. fourth-1 (between 1 16 (c .before .before .before .args .t .declarations .count / 2)) (between 1 32 (c .before .before .before .args .t .types .count)) (between 0 512 (c .before .before .before .args .t .expressions .count)) (between 1 256 (c .before .before .before .args .t .instructions .count)) (sym (c .before .in-between .ensures) ∙ not-true (c .before .in-between .result) (c .if1 .taken)) ∙ sym (counts-profile rows (c .before .before .before .args .t) h)
 
--- src/counts.rt:40:9
 in-between-requires-2 : tie.Need-in-between-requires-2
 in-between-requires-2 c κs = search needs
 
--- src/counts.rt:41:9
 returns-2 : tie.Need-returns-2
 returns-2 c = λ rows h. fourth-2 (between 1 16 (c .before .before .before .before .before .args .t .declarations .count / 2)) (between 1 32 (c .before .before .before .before .before .args .t .types .count)) (between 0 512 (c .before .before .before .before .before .args .t .expressions .count)) (between 1 256 (c .before .before .before .before .before .args .t .instructions .count)) (sym (c .before .before .before .in-between .ensures) ∙ not-false (c .before .before .before .in-between .result) (c .before .before .if1 .left)) (sym (c .before .in-between2 .ensures) ∙ not-true (c .before .in-between2 .result) (c .if2 .taken)) ∙ sym (counts-profile rows (c .before .before .before .before .before .args .t) h)
 
--- src/counts.rt:43:9
 in-between-requires-3 : tie.Need-in-between-requires-3
 in-between-requires-3 c κs = search needs
 
--- src/counts.rt:44:9
 returns-3 : tie.Need-returns-3
 returns-3 c = λ rows h. fourth-3 (between 1 16 (c .before .before .before .before .before .before .before .args .t .declarations .count / 2)) (between 1 32 (c .before .before .before .before .before .before .before .args .t .types .count)) (between 0 512 (c .before .before .before .before .before .before .before .args .t .expressions .count)) (between 1 256 (c .before .before .before .before .before .before .before .args .t .instructions .count)) (sym (c .before .before .before .before .before .in-between .ensures) ∙ not-false (c .before .before .before .before .before .in-between .result) (c .before .before .before .before .if1 .left)) (sym (c .before .before .before .in-between2 .ensures) ∙ not-false (c .before .before .before .in-between2 .result) (c .before .before .if2 .left)) (sym (c .before .in-between3 .ensures) ∙ not-true (c .before .in-between3 .result) (c .if3 .taken)) ∙ sym (counts-profile rows (c .before .before .before .before .before .before .before .args .t) h)
 
--- src/counts.rt:46:6
 in-between-requires-4 : tie.Need-in-between-requires-4
 in-between-requires-4 c κs = search needs
 
--- src/counts.rt:34:1
 returns-4 : tie.Need-returns-4
 returns-4 c = λ rows h. ap not (c .in-between4 .ensures) ∙ fourth-4 (between 1 16 (c .before .before .before .before .before .before .before .before .args .t .declarations .count / 2)) (between 1 32 (c .before .before .before .before .before .before .before .before .args .t .types .count)) (between 0 512 (c .before .before .before .before .before .before .before .before .args .t .expressions .count)) (between 1 256 (c .before .before .before .before .before .before .before .before .args .t .instructions .count)) (sym (c .before .before .before .before .before .before .in-between .ensures) ∙ not-false (c .before .before .before .before .before .before .in-between .result) (c .before .before .before .before .before .if1 .left)) (sym (c .before .before .before .before .in-between2 .ensures) ∙ not-false (c .before .before .before .before .in-between2 .result) (c .before .before .before .if2 .left)) (sym (c .before .before .in-between3 .ensures) ∙ not-false (c .before .before .in-between3 .result) (c .before .if3 .left)) ∙ sym (counts-profile rows (c .before .before .before .before .before .before .before .before .args .t) h)
 

@@ -1,6 +1,5 @@
 -- `padded` meets its contract. The invariant: what is asked of the bytes is asked of those from i on. Assumes nothing.
 use mathlib.Core.Path.{_≡_, refl, sym, _∙_}
-use mathlib.Core.Bool.{Bool}
 use Prim.Native.Nat.{ℕ, _-_}
 use native.Mathlib.Omega.{arith}
 use borrow.Author.Needs.{needs}
@@ -10,9 +9,6 @@ use Rattle.lingua.specs.Rules.{between, paddedBy}
 use Rattle.rules.proofs.Runs.{padded-nil, padded-zero, padded-fails, padded-step}
 use Rattle.rules.proofs.fields.padded.Statement.{statement}
 use Rattle.rules.proofs.fields.padded.Tie as tie
-use Rattle.rules.proofs.fields.padded.Reads as reads
-use Rattle.rules.proofs.fields.padded.Lts as lts
-use Rattle.rules.proofs.fields.zero_from.Reads as zero-from-reads
 
 abbrev Inv-loop : tie.InvT-loop
 Inv-loop bytes low high i₀ i = paddedBy (λ c. between low high c) bytes ≡ paddedBy (λ c. between low high c) (drop i bytes)
@@ -20,47 +16,36 @@ Inv-loop bytes low high i₀ i = paddedBy (λ c. between low high c) bytes ≡ p
 abbrev μ-loop : tie.MeasureT-loop
 μ-loop bytes low high i₀ i = length bytes - i
 
--- src/fields.rt:84:5
 loop-holds : tie.Need-loop-holds Inv-loop μ-loop
 loop-holds c = refl
 
--- src/fields.rt:85:17
 shared-slice-read-c : tie.Need-shared-slice-read-c Inv-loop μ-loop
 shared-slice-read-c c = omega arith
 
--- src/fields.rt:87:37
 add-zero-from : tie.Need-add-zero-from Inv-loop μ-loop
 add-zero-from c = omega arith
 
--- src/fields.rt:87:13
 zero-from-requires : tie.Need-zero-from-requires Inv-loop μ-loop
 zero-from-requires c κs = search needs
 
--- src/fields.rt:87:13
 returns : tie.Need-returns Inv-loop μ-loop
 returns c = c .zero-from .ensures ∙ padded-zero (c .before .before .before .before .before .before .args .bytes .now) (c .before .before .before .before .loop .i) (λ (b : ℕ). between (c .before .before .before .before .before .before .args .low) (c .before .before .before .before .before .before .args .high) b) (c .before .before .before .loop-test .taken) (c .before .if1 .taken) ∙ sym (c .before .before .before .before .loop .inv)
 
--- src/fields.rt:90:13
 returns-2 : tie.Need-returns-2 Inv-loop μ-loop
 returns-2 c = padded-fails (c .before .before .before .before .before .before .args .bytes .now) (c .before .before .before .before .loop .i) (λ (b : ℕ). between (c .before .before .before .before .before .before .args .low) (c .before .before .before .before .before .before .args .high) b) (c .before .before .before .loop-test .taken) (c .before .if1 .left) (rw (lt-leb (c .before .before .before .before .before .before .args .low) (getD (c .before .before .before .before .before .before .args .bytes .now) (c .before .before .before .before .loop .i) 0) (c .if2 .taken))) ∙ sym (c .before .before .before .before .loop .inv)
 
--- src/fields.rt:93:13
 returns-3 : tie.Need-returns-3 Inv-loop μ-loop
 returns-3 c = padded-fails (c .before .before .before .before .before .before .before .args .bytes .now) (c .before .before .before .before .before .loop .i) (λ (b : ℕ). between (c .before .before .before .before .before .before .before .args .low) (c .before .before .before .before .before .before .before .args .high) b) (c .before .before .before .before .loop-test .taken) (c .before .before .if1 .left) (rw (le-leb (c .before .before .before .before .before .before .before .args .low) (getD (c .before .before .before .before .before .before .before .args .bytes .now) (c .before .before .before .before .before .loop .i) 0) (c .before .if2 .left), lt-leb (getD (c .before .before .before .before .before .before .before .args .bytes .now) (c .before .before .before .before .before .loop .i) 0) (c .before .before .before .before .before .before .before .args .high) (c .if3 .taken))) ∙ sym (c .before .before .before .before .before .loop .inv)
 
--- src/fields.rt:95:9
 add-i : tie.Need-add-i Inv-loop μ-loop
 add-i c = omega arith
 
--- src/fields.rt:84:5
 loop-less : tie.Need-loop-less Inv-loop μ-loop
 loop-less c = omega arith
 
--- src/fields.rt:84:5
 loop-again : tie.Need-loop-again Inv-loop μ-loop
 loop-again c = c .before .before .before .before .before .loop .inv ∙ padded-step (c .before .before .before .before .before .before .before .args .bytes .now) (c .before .before .before .before .before .loop .i) (λ (b : ℕ). between (c .before .before .before .before .before .before .before .args .low) (c .before .before .before .before .before .before .before .args .high) b) (c .before .before .before .before .loop-test .taken) (c .before .before .if1 .left) (rw (le-leb (c .before .before .before .before .before .before .before .args .low) (getD (c .before .before .before .before .before .before .before .args .bytes .now) (c .before .before .before .before .before .loop .i) 0) (c .before .if2 .left), le-leb (getD (c .before .before .before .before .before .before .before .args .bytes .now) (c .before .before .before .before .before .loop .i) 0) (c .before .before .before .before .before .before .before .args .high) (c .if3 .left)))
 
--- src/fields.rt:80:1
 returns-4 : tie.Need-returns-4 Inv-loop μ-loop
 returns-4 c = padded-nil (c .before .before .before .args .bytes .now) (c .before .loop .i) (λ (b : ℕ). between (c .before .before .before .args .low) (c .before .before .before .args .high) b) (c .loop-test .left) ∙ sym (c .before .loop .inv)
 

@@ -6,38 +6,28 @@ use Rattle.lingua.specs.Rows.{word16}
 use borrow.Author.Needs.{needs}
 use Rattle.rules.proofs.fields.word16_at.Statement.{statement}
 use Rattle.rules.proofs.fields.word16_at.Tie as tie
-use Rattle.rules.proofs.fields.word16_at.Reads as reads
-use Rattle.rules.proofs.fields.word16_at.Lts as lts
 
--- src/fields.rt:13:15
 shared-slice-read-low : tie.Need-shared-slice-read-low
 shared-slice-read-low c = search needs
 
--- src/fields.rt:13:15
 cast-low : tie.Need-cast-low
 cast-low c = omega (arith, c .shared-slice-known .given (c .before .args .at))
 
--- src/fields.rt:14:22
 add-high : tie.Need-add-high
 add-high c = search needs
 
--- src/fields.rt:14:16
 shared-slice-read-high : tie.Need-shared-slice-read-high
 shared-slice-read-high c = search needs
 
--- src/fields.rt:14:16
 cast-high : tie.Need-cast-high
 cast-high c = omega (arith, c .before .shared-slice-known .given (c .before .before .args .at + 1))
 
--- src/fields.rt:15:11
 mul-result : tie.Need-mul-result
 mul-result c = omega (arith, c .before .shared-slice-known .given (c .before .before .args .at + 1))
 
--- src/fields.rt:15:5
 add-result : tie.Need-add-result
 add-result c = omega (arith, c .before .shared-slice-known .given (c .before .before .args .at), c .before .shared-slice-known .given (c .before .before .args .at + 1))
 
--- src/fields.rt:9:1
 returns : tie.Need-returns
 unfolding word16
 returns c = (refl, omega (arith, c .before .shared-slice-known .given (c .before .before .args .at), c .before .shared-slice-known .given (c .before .before .args .at + 1)))

@@ -6,31 +6,22 @@ use Rattle.lingua.specs.Rows.{word32}
 use borrow.Author.Needs.{needs}
 use Rattle.rules.proofs.fields.word32_at.Statement.{statement}
 use Rattle.rules.proofs.fields.word32_at.Tie as tie
-use Rattle.rules.proofs.fields.word32_at.Reads as reads
-use Rattle.rules.proofs.fields.word32_at.Lts as lts
-use Rattle.rules.proofs.fields.word16_at.Reads as word16-at-reads
 
--- src/fields.rt:105:9
 word16-at-requires : tie.Need-word16-at-requires
 word16-at-requires c κs = search needs
 
--- src/fields.rt:106:33
 add-word16-at : tie.Need-add-word16-at
 add-word16-at c = search needs
 
--- src/fields.rt:106:9
 word16-at-requires-2 : tie.Need-word16-at-requires-2
 word16-at-requires-2 c κs = search needs
 
--- src/fields.rt:107:11
 mul-result : tie.Need-mul-result
 mul-result c = search needs
 
--- src/fields.rt:107:5
 add-result : tie.Need-add-result
 add-result c = search needs
 
--- src/fields.rt:101:1
 returns : tie.Need-returns
 unfolding word32
 returns c = (ap₂ (λ (a b : ℕ). a + 65536 * b) (c .before .word16-at .ensures .0) (c .word16-at2 .ensures .0), omega arith)

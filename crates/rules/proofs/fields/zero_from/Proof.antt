@@ -8,8 +8,6 @@ use Rattle.lingua.specs.Format.{allZero}
 use Rattle.rules.proofs.Runs.{zero-nil, zero-step, zero-fails}
 use Rattle.rules.proofs.fields.zero_from.Statement.{statement}
 use Rattle.rules.proofs.fields.zero_from.Tie as tie
-use Rattle.rules.proofs.fields.zero_from.Reads as reads
-use Rattle.rules.proofs.fields.zero_from.Lts as lts
 
 abbrev Inv-loop : tie.InvT-loop
 Inv-loop bytes from i₀ i = allZero (drop from bytes) ≡ allZero (drop i bytes)
@@ -17,31 +15,24 @@ Inv-loop bytes from i₀ i = allZero (drop from bytes) ≡ allZero (drop i bytes
 abbrev μ-loop : tie.MeasureT-loop
 μ-loop bytes from i₀ i = length bytes - i
 
--- src/fields.rt:70:5
 loop-holds : tie.Need-loop-holds Inv-loop μ-loop
 loop-holds c = refl
 
--- src/fields.rt:71:12
 shared-slice-read-if1 : tie.Need-shared-slice-read-if1 Inv-loop μ-loop
 shared-slice-read-if1 c = omega arith
 
--- src/fields.rt:72:13
 returns : tie.Need-returns Inv-loop μ-loop
 returns c = zero-fails (c .before .before .before .before .args .bytes .now) (c .before .before .before .loop .i) (c .before .before .loop-test .taken) (c .if1 .taken) ∙ sym (c .before .before .before .loop .inv)
 
--- src/fields.rt:74:9
 add-i : tie.Need-add-i Inv-loop μ-loop
 add-i c = omega arith
 
--- src/fields.rt:70:5
 loop-less : tie.Need-loop-less Inv-loop μ-loop
 loop-less c = omega arith
 
--- src/fields.rt:70:5
 loop-again : tie.Need-loop-again Inv-loop μ-loop
 loop-again c = c .before .before .before .loop .inv ∙ zero-step (c .before .before .before .before .args .bytes .now) (c .before .before .before .loop .i) (c .before .before .loop-test .taken) (c .if1 .left)
 
--- src/fields.rt:66:1
 returns-2 : tie.Need-returns-2 Inv-loop μ-loop
 returns-2 c = zero-nil (c .before .before .args .bytes .now) (c .before .loop .i) (c .loop-test .left) ∙ sym (c .before .loop .inv)
 

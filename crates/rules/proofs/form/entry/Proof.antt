@@ -4,18 +4,13 @@ use lib.ListN.{List·getD-eq-default}
 use borrow.Author.Needs.{needs}
 use Rattle.rules.proofs.form.entry.Statement.{statement}
 use Rattle.rules.proofs.form.entry.Tie as tie
-use Rattle.rules.proofs.form.entry.Reads as reads
-use Rattle.rules.proofs.form.entry.Lts as lts
 
--- src/form.rt:81:16
 shared-slice-read-result : tie.Need-shared-slice-read-result
 shared-slice-read-result c = search needs
 
--- src/form.rt:81:9
 returns : tie.Need-returns
 returns c = search needs
 
--- src/form.rt:76:1
 returns-2 : tie.Need-returns-2
 returns-2 c = sym (List·getD-eq-default (c .before .args .table .now) 0 (c .if1 .left))
 

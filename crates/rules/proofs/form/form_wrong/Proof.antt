@@ -12,44 +12,31 @@ use Rattle.rules.proofs.Forms.{own-section}
 use borrow.Author.Needs.{needs}
 use Rattle.rules.proofs.form.form_wrong.Statement.{statement}
 use Rattle.rules.proofs.form.form_wrong.Tie as tie
-use Rattle.rules.proofs.form.form_wrong.Reads as reads
-use Rattle.rules.proofs.form.form_wrong.Lts as lts
-use Rattle.rules.proofs.form.is_paired.Reads as is-paired-reads
-use Rattle.rules.proofs.form.rows_fit.Reads as rows-fit-reads
-use Rattle.rules.proofs.form.sections_ascend.Reads as sections-ascend-reads
 
--- src/form.rt:171:9
 rows-fit-requires : tie.Need-rows-fit-requires
 rows-fit-requires c κs = search needs
 
--- src/form.rt:172:9
 returns : tie.Need-returns
 unfolding formWrong
 returns c = fourth-1 (everyBelow (rowCount (c .before .before .before .args .rows .now)) (λ i. rowFits (fileMeaning (c .before .before .before .args .file)) (c .before .before .before .args .rows .now) i)) (ascending (c .before .before .before .args .rows .now)) (paired (c .before .before .before .args .rows .now) declaration-section) (paired (c .before .before .before .args .rows .now) limit-section) (sym (c .before .rows-fit .ensures) ∙ not-true (c .before .rows-fit .result) (c .if1 .taken))
 
--- src/form.rt:174:9
 sections-ascend-requires : tie.Need-sections-ascend-requires
 sections-ascend-requires c κs = search needs
 
--- src/form.rt:175:9
 returns-2 : tie.Need-returns-2
 unfolding formWrong
 returns-2 c = fourth-2 (everyBelow (rowCount (c .before .before .before .before .before .args .rows .now)) (λ i. rowFits (fileMeaning (c .before .before .before .before .before .args .file)) (c .before .before .before .before .before .args .rows .now) i)) (ascending (c .before .before .before .before .before .args .rows .now)) (paired (c .before .before .before .before .before .args .rows .now) declaration-section) (paired (c .before .before .before .before .before .args .rows .now) limit-section) (sym (c .before .before .before .rows-fit .ensures) ∙ not-false (c .before .before .before .rows-fit .result) (c .before .before .if1 .left)) (sym (c .before .sections-ascend .ensures) ∙ not-true (c .before .sections-ascend .result) (c .if2 .taken))
 
--- src/form.rt:178:9
 is-paired-requires : tie.Need-is-paired-requires
 is-paired-requires c κs = own-section (c .before .before .before .before .before .before .args .rows .now) declaration-section (c .before .before .before .before .before .before .args .t .declarations) (c .before .before .before .before .before .before .pre .declarations)
 
--- src/form.rt:179:9
 returns-3 : tie.Need-returns-3
 unfolding formWrong
 returns-3 c = fourth-3 (everyBelow (rowCount (c .before .before .before .before .before .before .before .before .args .rows .now)) (λ i. rowFits (fileMeaning (c .before .before .before .before .before .before .before .before .args .file)) (c .before .before .before .before .before .before .before .before .args .rows .now) i)) (ascending (c .before .before .before .before .before .before .before .before .args .rows .now)) (paired (c .before .before .before .before .before .before .before .before .args .rows .now) declaration-section) (paired (c .before .before .before .before .before .before .before .before .args .rows .now) limit-section) (sym (c .before .before .before .before .before .before .rows-fit .ensures) ∙ not-false (c .before .before .before .before .before .before .rows-fit .result) (c .before .before .before .before .before .if1 .left)) (sym (c .before .before .before .before .sections-ascend .ensures) ∙ not-false (c .before .before .before .before .sections-ascend .result) (c .before .before .before .if2 .left)) (ap (paired (c .before .before .before .before .before .before .before .before .args .rows .now)) (sym (c .before .before .before .before .before .before .before .before .pre .declarations .section)) ∙ sym (c .before .is-paired .ensures) ∙ not-true (c .before .is-paired .result) (c .if3 .taken))
 
--- src/form.rt:182:6
 is-paired-requires-2 : tie.Need-is-paired-requires-2
 is-paired-requires-2 c κs = own-section (c .before .before .before .before .before .before .before .before .before .args .rows .now) limit-section (c .before .before .before .before .before .before .before .before .before .args .t .limits) (c .before .before .before .before .before .before .before .before .before .pre .limits)
 
--- src/form.rt:167:1
 returns-4 : tie.Need-returns-4
 unfolding formWrong
 returns-4 c = ap not (c .is-paired2 .ensures ∙ ap (paired (c .before .before .before .before .before .before .before .before .before .before .args .rows .now)) (c .before .before .before .before .before .before .before .before .before .before .pre .limits .section)) ∙ fourth-4 (everyBelow (rowCount (c .before .before .before .before .before .before .before .before .before .before .args .rows .now)) (λ i. rowFits (fileMeaning (c .before .before .before .before .before .before .before .before .before .before .args .file)) (c .before .before .before .before .before .before .before .before .before .before .args .rows .now) i)) (ascending (c .before .before .before .before .before .before .before .before .before .before .args .rows .now)) (paired (c .before .before .before .before .before .before .before .before .before .before .args .rows .now) declaration-section) (paired (c .before .before .before .before .before .before .before .before .before .before .args .rows .now) limit-section) (sym (c .before .before .before .before .before .before .before .before .rows-fit .ensures) ∙ not-false (c .before .before .before .before .before .before .before .before .rows-fit .result) (c .before .before .before .before .before .before .before .if1 .left)) (sym (c .before .before .before .before .before .before .sections-ascend .ensures) ∙ not-false (c .before .before .before .before .before .before .sections-ascend .result) (c .before .before .before .before .before .if2 .left)) (ap (paired (c .before .before .before .before .before .before .before .before .before .before .args .rows .now)) (sym (c .before .before .before .before .before .before .before .before .before .before .pre .declarations .section)) ∙ sym (c .before .before .before .is-paired .ensures) ∙ not-false (c .before .before .before .is-paired .result) (c .before .before .if3 .left))

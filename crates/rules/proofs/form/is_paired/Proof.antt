@@ -12,9 +12,6 @@ use Rattle.rules.proofs.Forms.{pairs-from}
 use borrow.Author.Needs.{needs}
 use Rattle.rules.proofs.form.is_paired.Statement.{statement}
 use Rattle.rules.proofs.form.is_paired.Tie as tie
-use Rattle.rules.proofs.form.is_paired.Reads as reads
-use Rattle.rules.proofs.form.is_paired.Lts as lts
-use Rattle.rules.proofs.fields.kind_at.Reads as kind-at-reads
 
 abbrev Inv-loop : tie.InvT-loop
 Inv-loop rows start count r₀ r = (r ≤ count) × (everyBelow r (λ k. eqb (kindAt rows (start + k)) (k % 2)) ≡ true)
@@ -22,39 +19,30 @@ Inv-loop rows start count r₀ r = (r ≤ count) × (everyBelow r (λ k. eqb (ki
 abbrev μ-loop : tie.MeasureT-loop
 μ-loop rows start count r₀ r = count - r
 
--- src/form.rt:158:5
 loop-holds : tie.Need-loop-holds Inv-loop μ-loop
 loop-holds c = (omega arith, every-none (λ (k : ℕ). eqb (kindAt (c .before .args .rows .now) (c .before .args .t .start + k)) (k % 2)))
 
--- src/form.rt:159:26
 add-kind-at : tie.Need-add-kind-at Inv-loop μ-loop
 add-kind-at c = omega arith
 
--- src/form.rt:159:12
 kind-at-requires : tie.Need-kind-at-requires Inv-loop μ-loop
 kind-at-requires c κs = omega arith
 
--- src/form.rt:159:12
 cast-if1 : tie.Need-cast-if1 Inv-loop μ-loop
 cast-if1 c = search needs
 
--- src/form.rt:160:13
 returns : tie.Need-returns Inv-loop μ-loop
 returns c = sym (pairs-from (c .before .before .before .before .before .args .rows .now) (c .before .before .before .before .before .args .t .section) (c .before .before .before .before .before .args .t) (c .before .before .before .before .before .pre) ∙ both-left _ _ (every-fails (λ (k : ℕ). eqb (kindAt (c .before .before .before .before .before .args .rows .now) (c .before .before .before .before .before .args .t .start + k)) (k % 2)) (c .before .before .before .before .before .args .t .count) (c .before .before .before .loop .r) (c .before .before .loop-test .taken) (ne-eqb (kindAt (c .before .before .before .before .before .args .rows .now) (c .before .before .before .before .before .args .t .start + c .before .before .before .loop .r)) (c .before .before .before .loop .r % 2) (λ e. c .if1 .taken (c .before .kind-at .ensures ∙ e)))))
 
--- src/form.rt:162:9
 add-r : tie.Need-add-r Inv-loop μ-loop
 add-r c = omega arith
 
--- src/form.rt:158:5
 loop-less : tie.Need-loop-less Inv-loop μ-loop
 loop-less c = omega arith
 
--- src/form.rt:158:5
 loop-again : tie.Need-loop-again Inv-loop μ-loop
 loop-again c = (omega arith, every-more (λ (k : ℕ). eqb (kindAt (c .before .before .before .before .before .args .rows .now) (c .before .before .before .before .before .args .t .start + k)) (k % 2)) (c .before .before .before .loop .r) (c .before .before .before .loop .inv .1) (eq-eqb (kindAt (c .before .before .before .before .before .args .rows .now) (c .before .before .before .before .before .args .t .start + c .before .before .before .loop .r)) (c .before .before .before .loop .r % 2) (sym (c .before .kind-at .ensures) ∙ c .if1 .left)))
 
--- src/form.rt:151:1
 returns-2 : tie.Need-returns-2 Inv-loop μ-loop
 returns-2 c = sym (pairs-from (c .before .before .before .args .rows .now) (c .before .before .before .args .t .section) (c .before .before .before .args .t) (c .before .before .before .pre) ∙ both-right _ _ (sym (every-all (λ (k : ℕ). eqb (kindAt (c .before .before .before .args .rows .now) (c .before .before .before .args .t .start + k)) (k % 2)) (c .before .loop .r) (c .before .before .before .args .t .count) (c .before .loop .inv .1) (omega arith))))
 

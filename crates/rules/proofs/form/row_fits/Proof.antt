@@ -10,56 +10,37 @@ use Rattle.rules.proofs.Forms.{row-out, row-none, row-some}
 use borrow.Author.Needs.{needs}
 use Rattle.rules.proofs.form.row_fits.Statement.{statement}
 use Rattle.rules.proofs.form.row_fits.Tie as tie
-use Rattle.rules.proofs.form.row_fits.Reads as reads
-use Rattle.rules.proofs.form.row_fits.Lts as lts
-use Rattle.rules.proofs.fields.bytes_at.Reads as bytes-at-reads
-use Rattle.rules.proofs.fields.kind_at.Reads as kind-at-reads
-use Rattle.rules.proofs.fields.section_at.Reads as section-at-reads
-use Rattle.rules.proofs.fields.zero_from.Reads as zero-from-reads
-use Rattle.rules.proofs.form.section_belongs.Reads as section-belongs-reads
-use Rattle.rules.proofs.form.used_bytes.Reads as used-bytes-reads
 
--- src/form.rt:111:9
 section-at-requires : tie.Need-section-at-requires
 section-at-requires c κs = search needs
 
--- src/form.rt:112:9
 section-belongs-requires : tie.Need-section-belongs-requires
 section-belongs-requires c κs = search needs
 
--- src/form.rt:113:9
 returns : tie.Need-returns
 returns c = row-out (fileMeaning (c .before .before .before .before .args .file)) (c .before .before .before .before .args .rows .now) (c .before .before .before .before .args .i) (c .before .before .section-at .result) 0 0 (c .before .before .section-at .ensures) (sym (c .before .section-belongs .ensures) ∙ not-true (c .before .section-belongs .result) (c .if1 .taken))
 
--- src/form.rt:115:36
 kind-at-requires : tie.Need-kind-at-requires
 kind-at-requires c κs = search needs
 
--- src/form.rt:115:16
 used-bytes-requires : tie.Need-used-bytes-requires
 used-bytes-requires c κs = search needs
 
--- src/form.rt:115:16
 cast-used : tie.Need-cast-used
 cast-used c = search needs
 
--- src/form.rt:117:9
 returns-2 : tie.Need-returns-2
 returns-2 c = row-none (fileMeaning (c .before .before .before .before .before .before .before .args .file)) (c .before .before .before .before .before .before .before .args .rows .now) (c .before .before .before .before .before .before .before .args .i) (c .before .before .before .before .before .section-at .result) (c .before .before .kind-at .result) (c .before .used-bytes .result) (c .before .before .before .before .before .section-at .ensures) (c .before .before .kind-at .ensures) (c .before .used-bytes .ensures) (sym (c .before .before .before .before .section-belongs .ensures) ∙ not-false (c .before .before .before .before .section-belongs .result) (c .before .before .before .if1 .left)) (c .if2 .taken)
 
--- src/form.rt:119:15
 bytes-at-requires : tie.Need-bytes-at-requires
 bytes-at-requires c κs = search needs
 
--- src/form.rt:119:34
 sub-zero-from : tie.Need-sub-zero-from
 sub-zero-from c = search needs
 
--- src/form.rt:119:5
 zero-from-requires : tie.Need-zero-from-requires
 zero-from-requires c κs = search needs
 
--- src/form.rt:107:1
 returns-3 : tie.Need-returns-3
 returns-3 c = c .zero-from .ensures ∙ ap (λ (b : List ℕ). allZero (drop (c .before .before .before .used-bytes .result - 1) b)) (c .before .bytes-at .ensures .0) ∙ row-some (fileMeaning (c .before .before .before .before .before .before .before .before .before .args .file)) (c .before .before .before .before .before .before .before .before .before .args .rows .now) (c .before .before .before .before .before .before .before .before .before .args .i) (c .before .before .before .before .before .before .before .section-at .result) (c .before .before .before .before .kind-at .result) (c .before .before .before .used-bytes .result) (c .before .before .before .before .before .before .before .section-at .ensures) (c .before .before .before .before .kind-at .ensures) (c .before .before .before .used-bytes .ensures) (sym (c .before .before .before .before .before .before .section-belongs .ensures) ∙ not-false (c .before .before .before .before .before .before .section-belongs .result) (c .before .before .before .before .before .if1 .left)) (c .before .before .if2 .left)
 

@@ -12,9 +12,6 @@ use Rattle.lingua.specs.Rules.{rowFits}
 use Rattle.rules.proofs.Every.{every-none, every-more, every-fails, every-all}
 use Rattle.rules.proofs.form.rows_fit.Statement.{statement}
 use Rattle.rules.proofs.form.rows_fit.Tie as tie
-use Rattle.rules.proofs.form.rows_fit.Reads as reads
-use Rattle.rules.proofs.form.rows_fit.Lts as lts
-use Rattle.rules.proofs.form.row_fits.Reads as row-fits-reads
 
 abbrev Inv-loop : tie.InvT-loop
 Inv-loop file rows n i₀ i = (i ≤ n) × (everyBelow i (λ k. rowFits (fileMeaning file) rows k) ≡ true)
@@ -22,32 +19,25 @@ Inv-loop file rows n i₀ i = (i ≤ n) × (everyBelow i (λ k. rowFits (fileMea
 abbrev μ-loop : tie.MeasureT-loop
 μ-loop file rows n i₀ i = n - i
 
--- src/form.rt:127:5
 loop-holds : tie.Need-loop-holds Inv-loop μ-loop
 loop-holds c = (omega arith, every-none (λ (k : ℕ). rowFits (fileMeaning (c .before .args .file)) (c .before .args .rows .now) k))
 
--- src/form.rt:128:13
 row-fits-requires : tie.Need-row-fits-requires Inv-loop μ-loop
 row-fits-requires c κs = omega arith
 
--- src/form.rt:129:13
 returns : tie.Need-returns Inv-loop μ-loop
 unfolding rowCount
 returns c = sym (every-fails (λ (k : ℕ). rowFits (fileMeaning (c .before .before .before .before .before .args .file)) (c .before .before .before .before .before .args .rows .now) k) (length (c .before .before .before .before .before .args .rows .now) / 10) (c .before .before .before .loop .i) (c .before .before .loop-test .taken) (sym (c .before .row-fits .ensures) ∙ not-true (c .before .row-fits .result) (c .if1 .taken)))
 
--- src/form.rt:131:9
 add-i : tie.Need-add-i Inv-loop μ-loop
 add-i c = omega arith
 
--- src/form.rt:127:5
 loop-less : tie.Need-loop-less Inv-loop μ-loop
 loop-less c = omega arith
 
--- src/form.rt:127:5
 loop-again : tie.Need-loop-again Inv-loop μ-loop
 loop-again c = (omega arith, every-more (λ (k : ℕ). rowFits (fileMeaning (c .before .before .before .before .before .args .file)) (c .before .before .before .before .before .args .rows .now) k) (c .before .before .before .loop .i) (c .before .before .before .loop .inv .1) (sym (c .before .row-fits .ensures) ∙ not-false (c .before .row-fits .result) (c .if1 .left)))
 
--- src/form.rt:122:1
 returns-2 : tie.Need-returns-2 Inv-loop μ-loop
 unfolding rowCount
 returns-2 c = every-all (λ (k : ℕ). rowFits (fileMeaning (c .before .before .before .args .file)) (c .before .before .before .args .rows .now) k) (c .before .loop .i) (length (c .before .before .before .args .rows .now) / 10) (c .before .loop .inv .1) (omega arith)

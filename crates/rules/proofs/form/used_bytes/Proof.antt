@@ -6,76 +6,57 @@ use Rattle.rules.proofs.Forms.{used-map, used-none}
 use borrow.Author.Needs.{needs}
 use Rattle.rules.proofs.form.used_bytes.Statement.{statement}
 use Rattle.rules.proofs.form.used_bytes.Tie as tie
-use Rattle.rules.proofs.form.used_bytes.Reads as reads
-use Rattle.rules.proofs.form.used_bytes.Lts as lts
-use Rattle.rules.proofs.form.entry.Reads as entry-reads
 
--- src/form.rt:90:22
 slice-aggregate-entry : tie.Need-slice-aggregate-entry
 slice-aggregate-entry c = search needs
 
--- src/form.rt:90:9
 entry-requires : tie.Need-entry-requires
 entry-requires c κs = search needs
 
--- src/form.rt:90:9
 returns : tie.Need-returns
 unfolding usedBytes usedNumber
 returns c = c .entry .ensures ∙ rw (c .before .before .if1 .taken) (used-map (usedBytes 1) (c .before .before .before .args .kind))
 
--- src/form.rt:93:22
 slice-aggregate-entry-2 : tie.Need-slice-aggregate-entry-2
 slice-aggregate-entry-2 c = search needs
 
--- src/form.rt:93:9
 entry-requires-2 : tie.Need-entry-requires-2
 entry-requires-2 c κs = search needs
 
--- src/form.rt:93:9
 returns-2 : tie.Need-returns-2
 unfolding usedBytes usedNumber
 returns-2 c = c .entry2 .ensures ∙ rw (c .before .before .if2 .taken) (used-map (usedBytes 2) (c .before .before .before .before .args .kind))
 
--- src/form.rt:96:22
 slice-aggregate-entry-3 : tie.Need-slice-aggregate-entry-3
 slice-aggregate-entry-3 c = search needs
 
--- src/form.rt:96:9
 entry-requires-3 : tie.Need-entry-requires-3
 entry-requires-3 c κs = search needs
 
--- src/form.rt:96:9
 returns-3 : tie.Need-returns-3
 unfolding usedBytes usedNumber
 returns-3 c = c .entry3 .ensures ∙ rw (c .before .before .if3 .taken) (used-map (usedBytes 3) (c .before .before .before .before .before .args .kind))
 
--- src/form.rt:99:22
 slice-aggregate-entry-4 : tie.Need-slice-aggregate-entry-4
 slice-aggregate-entry-4 c = search needs
 
--- src/form.rt:99:9
 entry-requires-4 : tie.Need-entry-requires-4
 entry-requires-4 c κs = search needs
 
--- src/form.rt:99:9
 returns-4 : tie.Need-returns-4
 unfolding usedBytes usedNumber
 returns-4 c = c .entry4 .ensures ∙ rw (c .before .before .if4 .taken) (used-map (usedBytes 4) (c .before .before .before .before .before .before .args .kind))
 
--- src/form.rt:102:22
 slice-aggregate-entry-5 : tie.Need-slice-aggregate-entry-5
 slice-aggregate-entry-5 c = search needs
 
--- src/form.rt:102:9
 entry-requires-5 : tie.Need-entry-requires-5
 entry-requires-5 c κs = search needs
 
--- src/form.rt:102:9
 returns-5 : tie.Need-returns-5
 unfolding usedBytes usedNumber
 returns-5 c = c .entry5 .ensures ∙ rw (c .before .before .if5 .taken) (used-map (usedBytes 5) (c .before .before .before .before .before .before .before .args .kind))
 
--- src/form.rt:86:1
 returns-6 : tie.Need-returns-6
 returns-6 c = used-none (c .before .before .before .before .before .args .section) (c .before .before .before .before .before .args .kind) (c .before .before .before .before .if1 .left) (c .before .before .before .if2 .left) (c .before .before .if3 .left) (c .before .if4 .left) (c .if5 .left)
 

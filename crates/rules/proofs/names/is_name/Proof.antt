@@ -6,24 +6,17 @@ use Rattle.lingua.specs.Rules.{isName, isCapital}
 use borrow.Author.Needs.{needs}
 use Rattle.rules.proofs.names.is_name.Statement.{statement}
 use Rattle.rules.proofs.names.is_name.Tie as tie
-use Rattle.rules.proofs.names.is_name.Reads as reads
-use Rattle.rules.proofs.names.is_name.Lts as lts
-use Rattle.rules.proofs.fields.padded.Reads as padded-reads
 
--- src/names.rt:21:8
 shared-slice-read-if1 : tie.Need-shared-slice-read-if1
 shared-slice-read-if1 c = search needs
 
--- src/names.rt:22:9
 returns : tie.Need-returns
 unfolding isName
 returns c = rw (eq-eqb (getD (c .before .before .before .args .bytes .now) 0 0) 0 (c .if1 .taken))
 
--- src/names.rt:24:5
 padded-requires : tie.Need-padded-requires
 padded-requires c κs = search needs
 
--- src/names.rt:17:1
 returns-2 : tie.Need-returns-2
 unfolding isName isCapital
 returns-2 c = c .padded .ensures ∙ rw (ne-eqb (getD (c .before .before .before .before .args .bytes .now) 0 0) 0 (c .before .if1 .left))

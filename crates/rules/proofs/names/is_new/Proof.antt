@@ -1,22 +1,15 @@
 -- `is_new` meets its contract: no name that was passed is pair d's. Assumes nothing.
 use mathlib.Core.Path.{_≡_, sym, ap, ap₂, _∙_}
 use mathlib.Core.Bool.{true, not}
-use mathlib.Core.List.{List}
 use Prim.Native.Nat.{ℕ, _+_, _*_, _-_, _≤_}
 use native.Mathlib.Omega.{arith}
-use lib.ListN.{length}
 use Rattle.lingua.specs.Compute.{sameText}
 use Rattle.lingua.specs.Rows.{bytesAt}
 use Rattle.lingua.specs.Format.{everyBelow}
 use Rattle.rules.proofs.Every.{every-none, every-more, every-fails, every-all}
 use Rattle.rules.proofs.Forms.{new-from}
-use borrow.Author.Needs.{needs}
 use Rattle.rules.proofs.names.is_new.Statement.{statement}
 use Rattle.rules.proofs.names.is_new.Tie as tie
-use Rattle.rules.proofs.names.is_new.Reads as reads
-use Rattle.rules.proofs.names.is_new.Lts as lts
-use Rattle.rules.proofs.fields.bytes_at.Reads as bytes-at-reads
-use Rattle.rules.proofs.names.same_bytes.Reads as same-bytes-reads
 
 abbrev Inv-loop : tie.InvT-loop
 Inv-loop rows d start name e₀ e = (e ≤ d) × (everyBelow e (λ k. not (sameText (bytesAt rows (start + 2 * k)) (bytesAt rows (start + 2 * d)))) ≡ true)
@@ -24,55 +17,42 @@ Inv-loop rows d start name e₀ e = (e ≤ d) × (everyBelow e (λ k. not (sameT
 abbrev μ-loop : tie.MeasureT-loop
 μ-loop rows d start name e₀ e = d - e
 
--- src/names.rt:48:39
 mul-bytes-at : tie.Need-mul-bytes-at Inv-loop μ-loop
 mul-bytes-at c = omega arith
 
--- src/names.rt:48:31
 add-bytes-at : tie.Need-add-bytes-at Inv-loop μ-loop
 add-bytes-at c = omega arith
 
--- src/names.rt:48:9
 bytes-at-requires : tie.Need-bytes-at-requires Inv-loop μ-loop
 bytes-at-requires c κs = omega arith
 
--- src/names.rt:50:5
 loop-holds : tie.Need-loop-holds Inv-loop μ-loop
 loop-holds c = (omega arith, every-none (λ (k : ℕ). not (sameText (bytesAt (c .before .before .args .rows .now) (c .before .before .args .t .start + 2 * k)) (bytesAt (c .before .before .args .rows .now) (c .before .before .args .t .start + 2 * c .before .before .args .d)))))
 
--- src/names.rt:51:46
 mul-bytes-at-2 : tie.Need-mul-bytes-at-2 Inv-loop μ-loop
 mul-bytes-at-2 c = omega arith
 
--- src/names.rt:51:38
 add-bytes-at-2 : tie.Need-add-bytes-at-2 Inv-loop μ-loop
 add-bytes-at-2 c = omega arith
 
--- src/names.rt:51:23
 bytes-at-requires-2 : tie.Need-bytes-at-requires-2 Inv-loop μ-loop
 bytes-at-requires-2 c κs = omega arith
 
--- src/names.rt:51:12
 same-bytes-requires : tie.Need-same-bytes-requires Inv-loop μ-loop
 same-bytes-requires c κs = omega arith
 
--- src/names.rt:52:13
 returns : tie.Need-returns Inv-loop μ-loop
 returns c = sym (new-from (c .before .before .before .before .before .before .before .args .rows .now) (c .before .before .before .before .before .before .before .args .t .section) (c .before .before .before .before .before .before .before .args .t) (c .before .before .before .before .before .before .before .args .d) (c .before .before .before .before .before .before .before .pre .0) ∙ every-fails (λ (k : ℕ). not (sameText (bytesAt (c .before .before .before .before .before .before .before .args .rows .now) (c .before .before .before .before .before .before .before .args .t .start + 2 * k)) (bytesAt (c .before .before .before .before .before .before .before .args .rows .now) (c .before .before .before .before .before .before .before .args .t .start + 2 * c .before .before .before .before .before .before .before .args .d)))) (c .before .before .before .before .before .before .before .args .d) (c .before .before .before .before .loop .e) (c .before .before .before .loop-test .taken) (ap not (ap₂ sameText (sym (c .before .before .bytes-at2 .ensures .0)) (sym (c .before .before .before .before .before .bytes-at .ensures .0)) ∙ sym (c .before .same-bytes .ensures) ∙ c .if1 .taken)))
 
--- src/names.rt:54:9
 add-e : tie.Need-add-e Inv-loop μ-loop
 add-e c = omega arith
 
--- src/names.rt:50:5
 loop-less : tie.Need-loop-less Inv-loop μ-loop
 loop-less c = omega arith
 
--- src/names.rt:50:5
 loop-again : tie.Need-loop-again Inv-loop μ-loop
 loop-again c = (omega arith, every-more (λ (k : ℕ). not (sameText (bytesAt (c .before .before .before .before .before .before .before .args .rows .now) (c .before .before .before .before .before .before .before .args .t .start + 2 * k)) (bytesAt (c .before .before .before .before .before .before .before .args .rows .now) (c .before .before .before .before .before .before .before .args .t .start + 2 * c .before .before .before .before .before .before .before .args .d)))) (c .before .before .before .before .loop .e) (c .before .before .before .before .loop .inv .1) (ap not (ap₂ sameText (sym (c .before .before .bytes-at2 .ensures .0)) (sym (c .before .before .before .before .before .bytes-at .ensures .0)) ∙ sym (c .before .same-bytes .ensures) ∙ c .if1 .left)))
 
--- src/names.rt:42:1
 returns-2 : tie.Need-returns-2 Inv-loop μ-loop
 returns-2 c = every-all (λ (k : ℕ). not (sameText (bytesAt (c .before .before .before .before .args .rows .now) (c .before .before .before .before .args .t .start + 2 * k)) (bytesAt (c .before .before .before .before .args .rows .now) (c .before .before .before .before .args .t .start + 2 * c .before .before .before .before .args .d)))) (c .before .loop .e) (c .before .before .before .before .args .d) (c .before .loop .inv .1) (omega arith) ∙ sym (new-from (c .before .before .before .before .args .rows .now) (c .before .before .before .before .args .t .section) (c .before .before .before .before .args .t) (c .before .before .before .before .args .d) (c .before .before .before .before .pre .0))
 

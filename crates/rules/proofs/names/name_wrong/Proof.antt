@@ -13,12 +13,6 @@ use Rattle.rules.proofs.Every.{every-none, every-more, every-fails, eve
 use Rattle.rules.proofs.Forms.{names-from, own-section}
 use Rattle.rules.proofs.names.name_wrong.Statement.{statement}
 use Rattle.rules.proofs.names.name_wrong.Tie as tie
-use Rattle.rules.proofs.names.name_wrong.Reads as reads
-use Rattle.rules.proofs.names.name_wrong.Lts as lts
-use Rattle.rules.proofs.fields.bytes_at.Reads as bytes-at-reads
-use Rattle.rules.proofs.names.is_name.Reads as is-name-reads
-use Rattle.rules.proofs.names.is_new.Reads as is-new-reads
-use Rattle.rules.proofs.names.named.Reads as named-reads
 
 abbrev Inv-loop : tie.InvT-loop
 Inv-loop rows table start count d₀ d = (d ≤ count) × (everyBelow d (λ k. isName (bytesAt rows (start + 2 * k)) && isNew rows (table .section) k) ≡ true)
@@ -26,55 +20,42 @@ Inv-loop rows table start count d₀ d = (d ≤ count) × (everyBelow d (λ k. i
 abbrev μ-loop : tie.MeasureT-loop
 μ-loop rows table start count d₀ d = count - d
 
--- src/names.rt:73:9
 named-requires : tie.Need-named-requires Inv-loop μ-loop
 named-requires c κs = search needs
 
--- src/names.rt:77:5
 loop-holds : tie.Need-loop-holds Inv-loop μ-loop
 loop-holds c = (omega arith, every-none (λ (k : ℕ). isName (bytesAt (c .before .before .before .args .rows .now) (c .before .named .result .start + 2 * k)) && isNew (c .before .before .before .args .rows .now) (c .before .named .result .section) k))
 
--- src/names.rt:78:44
 mul-bytes-at : tie.Need-mul-bytes-at Inv-loop μ-loop
 mul-bytes-at c = omega (arith, (c .before .before .before .named .ensures (c .before .before .before .before .before .args .rows .now) (c .before .before .before .before .before .pre)))
 
--- src/names.rt:78:36
 add-bytes-at : tie.Need-add-bytes-at Inv-loop μ-loop
 add-bytes-at c = omega (arith, (c .before .before .before .named .ensures (c .before .before .before .before .before .args .rows .now) (c .before .before .before .before .before .pre)))
 
--- src/names.rt:78:21
 bytes-at-requires : tie.Need-bytes-at-requires Inv-loop μ-loop
 bytes-at-requires c κs = omega (arith, (c .before .before .before .named .ensures (c .before .before .before .before .before .args .rows .now) (c .before .before .before .before .before .pre)))
 
--- src/names.rt:78:13
 is-name-requires : tie.Need-is-name-requires Inv-loop μ-loop
 is-name-requires c κs = omega arith
 
--- src/names.rt:79:13
 returns : tie.Need-returns Inv-loop μ-loop
 returns c = sym (names-from (fileMeaning (c .before .before .before .before .before .before .before .before .args .file)) (c .before .before .before .before .before .before .before .before .args .rows .now) (c .before .before .before .before .before .before .named .result) (c .before .before .before .before .before .before .named .ensures (c .before .before .before .before .before .before .before .before .args .rows .now) (c .before .before .before .before .before .before .before .before .pre)) ∙ ap not (every-fails (λ (k : ℕ). isName (bytesAt (c .before .before .before .before .before .before .before .before .args .rows .now) (c .before .before .before .before .before .before .named .result .start + 2 * k)) && isNew (c .before .before .before .before .before .before .before .before .args .rows .now) (c .before .before .before .before .before .before .named .result .section) k) (c .before .before .before .before .before .before .named .result .count / 2) (c .before .before .before .before .loop .d) (c .before .before .before .loop-test .taken) (both-left _ _ (ap isName (sym (c .before .before .bytes-at .ensures .0)) ∙ sym (c .before .is-name .ensures) ∙ not-true (c .before .is-name .result) (c .if1 .taken)))))
 
--- src/names.rt:81:13
 is-new-requires : tie.Need-is-new-requires Inv-loop μ-loop
 is-new-requires c κs = (own-section (c .before .before .before .before .before .before .before .before .args .rows .now) (namedSection (fileMeaning (c .before .before .before .before .before .before .before .before .args .file))) (c .before .before .before .before .before .before .named .result) (c .before .before .before .before .before .before .named .ensures (c .before .before .before .before .before .before .before .before .args .rows .now) (c .before .before .before .before .before .before .before .before .pre)), c .before .before .before .loop-test .taken)
 
--- src/names.rt:82:13
 returns-2 : tie.Need-returns-2 Inv-loop μ-loop
 returns-2 c = sym (names-from (fileMeaning (c .before .before .before .before .before .before .before .before .before .before .args .file)) (c .before .before .before .before .before .before .before .before .before .before .args .rows .now) (c .before .before .before .before .before .before .before .before .named .result) (c .before .before .before .before .before .before .before .before .named .ensures (c .before .before .before .before .before .before .before .before .before .before .args .rows .now) (c .before .before .before .before .before .before .before .before .before .before .pre)) ∙ ap not (every-fails (λ (k : ℕ). isName (bytesAt (c .before .before .before .before .before .before .before .before .before .before .args .rows .now) (c .before .before .before .before .before .before .before .before .named .result .start + 2 * k)) && isNew (c .before .before .before .before .before .before .before .before .before .before .args .rows .now) (c .before .before .before .before .before .before .before .before .named .result .section) k) (c .before .before .before .before .before .before .before .before .named .result .count / 2) (c .before .before .before .before .before .before .loop .d) (c .before .before .before .before .before .loop-test .taken) (both-right _ _ (ap isName (sym (c .before .before .before .before .bytes-at .ensures .0)) ∙ sym (c .before .before .before .is-name .ensures) ∙ not-false (c .before .before .before .is-name .result) (c .before .before .if1 .left)) ∙ (sym (c .before .is-new .ensures) ∙ not-true (c .before .is-new .result) (c .if2 .taken)))))
 
--- src/names.rt:84:9
 add-d : tie.Need-add-d Inv-loop μ-loop
 add-d c = omega arith
 
--- src/names.rt:77:5
 loop-less : tie.Need-loop-less Inv-loop μ-loop
 loop-less c = omega arith
 
--- src/names.rt:77:5
 loop-again : tie.Need-loop-again Inv-loop μ-loop
 loop-again c = (omega arith, every-more (λ (k : ℕ). isName (bytesAt (c .before .before .before .before .before .before .before .before .before .before .args .rows .now) (c .before .before .before .before .before .before .before .before .named .result .start + 2 * k)) && isNew (c .before .before .before .before .before .before .before .before .before .before .args .rows .now) (c .before .before .before .before .before .before .before .before .named .result .section) k) (c .before .before .before .before .before .before .loop .d) (c .before .before .before .before .before .before .loop .inv .1) (both-right _ _ (ap isName (sym (c .before .before .before .before .bytes-at .ensures .0)) ∙ sym (c .before .before .before .is-name .ensures) ∙ not-false (c .before .before .before .is-name .result) (c .before .before .if1 .left)) ∙ (sym (c .before .is-new .ensures) ∙ not-false (c .before .is-new .result) (c .if2 .left))))
 
--- src/names.rt:69:1
 returns-3 : tie.Need-returns-3 Inv-loop μ-loop
 returns-3 c = ap not (every-all (λ (k : ℕ). isName (bytesAt (c .before .before .before .before .before .args .rows .now) (c .before .before .before .named .result .start + 2 * k)) && isNew (c .before .before .before .before .before .args .rows .now) (c .before .before .before .named .result .section) k) (c .before .loop .d) (c .before .before .before .named .result .count / 2) (c .before .loop .inv .1) (omega arith)) ∙ sym (names-from (fileMeaning (c .before .before .before .before .before .args .file)) (c .before .before .before .before .before .args .rows .now) (c .before .before .before .named .result) (c .before .before .before .named .ensures (c .before .before .before .before .before .args .rows .now) (c .before .before .before .before .before .pre)))
 

@@ -1,26 +1,19 @@
 -- `named` meets its contract, by the kind of file. Assumes nothing.
 use Rattle.lingua.specs.Answers.{fileMeaning}
-use Rattle.lingua.specs.Rules.{namedSection}
 use borrow.Author.Needs.{needs}
 use Rattle.rules.proofs.names.named.Statement.{statement}
 use Rattle.rules.proofs.names.named.Tie as tie
-use Rattle.rules.proofs.names.named.Reads as reads
-use Rattle.rules.proofs.names.named.Lts as lts
 
--- src/names.rt:64:30
 enum-told : tie.Need-enum-told
 enum-told c = search needs
 
--- src/names.rt:65:29
 enum-told-2 : tie.Need-enum-told-2
 enum-told-2 c = search needs
 
--- src/names.rt:60:1
 returns : tie.Need-returns
 unfolding fileMeaning
 returns c = λ rows h. rw (c .before .enum-told .given .1) (h .declarations)
 
--- src/names.rt:60:1
 returns-2 : tie.Need-returns-2
 unfolding fileMeaning
 returns-2 c = λ rows h. rw (c .before .enum-told2 .given .1) (h .limits)

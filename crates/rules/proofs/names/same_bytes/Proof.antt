@@ -7,8 +7,6 @@ use Rattle.lingua.specs.Compute.{sameText}
 use Rattle.rules.proofs.Runs.{same-nil, same-step, same-fails}
 use Rattle.rules.proofs.names.same_bytes.Statement.{statement}
 use Rattle.rules.proofs.names.same_bytes.Tie as tie
-use Rattle.rules.proofs.names.same_bytes.Reads as reads
-use Rattle.rules.proofs.names.same_bytes.Lts as lts
 
 abbrev Inv-loop : tie.InvT-loop
 Inv-loop a b i₀ i = sameText a b ≡ sameText (drop i a) (drop i b)
@@ -16,35 +14,27 @@ Inv-loop a b i₀ i = sameText a b ≡ sameText (drop i a) (drop i b)
 abbrev μ-loop : tie.MeasureT-loop
 μ-loop a b i₀ i = length a - i
 
--- src/names.rt:32:5
 loop-holds : tie.Need-loop-holds Inv-loop μ-loop
 loop-holds c = refl
 
--- src/names.rt:33:12
 shared-slice-read-if1 : tie.Need-shared-slice-read-if1 Inv-loop μ-loop
 shared-slice-read-if1 c = omega arith
 
--- src/names.rt:33:20
 shared-slice-read-if1-2 : tie.Need-shared-slice-read-if1-2 Inv-loop μ-loop
 shared-slice-read-if1-2 c = omega arith
 
--- src/names.rt:34:13
 returns : tie.Need-returns Inv-loop μ-loop
 returns c = same-fails (c .before .before .before .before .before .args .a .now) (c .before .before .before .before .before .args .b .now) (c .before .before .before .before .loop .i) (c .before .before .before .loop-test .taken) (omega arith) (c .if1 .taken) ∙ sym (c .before .before .before .before .loop .inv)
 
--- src/names.rt:36:9
 add-i : tie.Need-add-i Inv-loop μ-loop
 add-i c = omega arith
 
--- src/names.rt:32:5
 loop-less : tie.Need-loop-less Inv-loop μ-loop
 loop-less c = omega arith
 
--- src/names.rt:32:5
 loop-again : tie.Need-loop-again Inv-loop μ-loop
 loop-again c = c .before .before .before .before .loop .inv ∙ same-step (c .before .before .before .before .before .args .a .now) (c .before .before .before .before .before .args .b .now) (c .before .before .before .before .loop .i) (c .before .before .before .loop-test .taken) (omega arith) (c .if1 .left)
 
--- src/names.rt:27:1
 returns-2 : tie.Need-returns-2 Inv-loop μ-loop
 returns-2 c = same-nil (c .before .before .args .a .now) (c .before .before .args .b .now) (c .before .loop .i) (c .loop-test .left) (omega arith) ∙ sym (c .before .loop .inv)
 

@@ -9,48 +9,36 @@ use Rattle.rules.proofs.Short.{all-0, all-1, all-2, all-x, all-y, all-z
 use borrow.Author.Needs.{needs}
 use Rattle.rules.proofs.picks.all_within.Statement.{statement}
 use Rattle.rules.proofs.picks.all_within.Tie as tie
-use Rattle.rules.proofs.picks.all_within.Reads as reads
-use Rattle.rules.proofs.picks.all_within.Lts as lts
-use Rattle.rules.proofs.picks.is_within.Reads as is-within-reads
 
--- src/picks.rt:353:9
 returns : tie.Need-returns
 unfolding listed
 returns c = all-0 (λ (n : ℕ). leb (c .before .args .low) n && ltb n (c .before .args .end)) (c .before .args .f .count) (c .before .args .f .x) (c .before .args .f .y) (c .before .args .f .z) (c .if1 .taken)
 
--- src/picks.rt:355:9
 is-within-requires : tie.Need-is-within-requires
 is-within-requires c κs = search needs
 
--- src/picks.rt:356:9
 returns-2 : tie.Need-returns-2
 unfolding listed
 returns-2 c = all-x (λ (n : ℕ). leb (c .before .before .before .args .low) n && ltb n (c .before .before .before .args .end)) (c .before .before .before .args .f .count) (c .before .before .before .args .f .x) (c .before .before .before .args .f .y) (c .before .before .before .args .f .z) (c .before .before .if1 .left) (sym (c .before .is-within .ensures) ∙ not-true (c .before .is-within .result) (c .if2 .taken))
 
--- src/picks.rt:359:9
 returns-3 : tie.Need-returns-3
 unfolding listed
 returns-3 c = all-1 (λ (n : ℕ). leb (c .before .before .before .before .args .low) n && ltb n (c .before .before .before .before .args .end)) (c .before .before .before .before .args .f .count) (c .before .before .before .before .args .f .x) (c .before .before .before .before .args .f .y) (c .before .before .before .before .args .f .z) (c .if3 .taken) (sym (c .before .before .is-within .ensures) ∙ not-false (c .before .before .is-within .result) (c .before .if2 .left))
 
--- src/picks.rt:361:9
 is-within-requires-2 : tie.Need-is-within-requires-2
 is-within-requires-2 c κs = search needs
 
--- src/picks.rt:362:9
 returns-4 : tie.Need-returns-4
 unfolding listed
 returns-4 c = all-y (λ (n : ℕ). leb (c .before .before .before .before .before .before .args .low) n && ltb n (c .before .before .before .before .before .before .args .end)) (c .before .before .before .before .before .before .args .f .count) (c .before .before .before .before .before .before .args .f .x) (c .before .before .before .before .before .before .args .f .y) (c .before .before .before .before .before .before .args .f .z) (c .before .before .before .before .before .if1 .left) (c .before .before .if3 .left) (sym (c .before .before .before .before .is-within .ensures) ∙ not-false (c .before .before .before .before .is-within .result) (c .before .before .before .if2 .left)) (sym (c .before .is-within2 .ensures) ∙ not-true (c .before .is-within2 .result) (c .if4 .taken))
 
--- src/picks.rt:365:9
 returns-5 : tie.Need-returns-5
 unfolding listed
 returns-5 c = all-2 (λ (n : ℕ). leb (c .before .before .before .before .before .before .before .args .low) n && ltb n (c .before .before .before .before .before .before .before .args .end)) (c .before .before .before .before .before .before .before .args .f .count) (c .before .before .before .before .before .before .before .args .f .x) (c .before .before .before .before .before .before .before .args .f .y) (c .before .before .before .before .before .before .before .args .f .z) (c .if5 .taken) (sym (c .before .before .before .before .before .is-within .ensures) ∙ not-false (c .before .before .before .before .before .is-within .result) (c .before .before .before .before .if2 .left)) (sym (c .before .before .is-within2 .ensures) ∙ not-false (c .before .before .is-within2 .result) (c .before .if4 .left))
 
--- src/picks.rt:367:5
 is-within-requires-3 : tie.Need-is-within-requires-3
 is-within-requires-3 c κs = search needs
 
--- src/picks.rt:348:1
 returns-6 : tie.Need-returns-6
 unfolding listed
 returns-6 c = c .is-within3 .ensures ∙ all-z (λ (n : ℕ). leb (c .before .before .before .before .before .before .before .before .args .low) n && ltb n (c .before .before .before .before .before .before .before .before .args .end)) (c .before .before .before .before .before .before .before .before .args .f .count) (c .before .before .before .before .before .before .before .before .args .f .x) (c .before .before .before .before .before .before .before .before .args .f .y) (c .before .before .before .before .before .before .before .before .args .f .z) (c .before .before .before .before .before .before .before .if1 .left) (c .before .before .before .before .if3 .left) (c .before .if5 .left) (sym (c .before .before .before .before .before .before .is-within .ensures) ∙ not-false (c .before .before .before .before .before .before .is-within .result) (c .before .before .before .before .before .if2 .left)) (sym (c .before .before .before .is-within2 .ensures) ∙ not-false (c .before .before .before .is-within2 .result) (c .before .before .if4 .left))

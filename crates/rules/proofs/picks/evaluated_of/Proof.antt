@@ -4,28 +4,19 @@ use Rattle.rules.proofs.Choices.{evaluated-pick}
 use borrow.Author.Needs.{needs}
 use Rattle.rules.proofs.picks.evaluated_of.Statement.{statement}
 use Rattle.rules.proofs.picks.evaluated_of.Tie as tie
-use Rattle.rules.proofs.picks.evaluated_of.Reads as reads
-use Rattle.rules.proofs.picks.evaluated_of.Lts as lts
-use Rattle.rules.proofs.picks.chosen.Reads as chosen-reads
-use Rattle.rules.proofs.picks.kind_within.Reads as kind-within-reads
 
--- src/picks.rt:303:13
 add-i : tie.Need-add-i
 add-i c = search needs
 
--- src/picks.rt:304:9
 kind-within-requires : tie.Need-kind-within-requires
 kind-within-requires c κs = search needs
 
--- src/picks.rt:305:21
 array-read-chosen : tie.Need-array-read-chosen
 array-read-chosen c = search needs
 
--- src/picks.rt:305:5
 chosen-requires : tie.Need-chosen-requires
 chosen-requires c κs = search needs
 
--- src/picks.rt:298:1
 returns : tie.Need-returns
 returns c = c .chosen .ensures ∙ evaluated-pick (c .before .before .before .before .args .rows .now) (c .before .before .before .before .args .t) (c .before .before .before .before .args .r) (c .before .before .before .before .pre .0) (c .before .kind-within .result) (c .before .kind-within .ensures)
 

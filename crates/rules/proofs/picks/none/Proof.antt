@@ -3,10 +3,7 @@ use mathlib.Core.Path.{refl}
 use Rattle.rules.specs.Picks.{listed}
 use Rattle.rules.proofs.picks.none.Statement.{statement}
 use Rattle.rules.proofs.picks.none.Tie as tie
-use Rattle.rules.proofs.picks.none.Reads as reads
-use Rattle.rules.proofs.picks.none.Lts as lts
 
--- src/picks.rt:144:1
 returns : tie.Need-returns
 unfolding listed
 returns c = refl

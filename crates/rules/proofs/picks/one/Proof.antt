@@ -3,10 +3,7 @@ use mathlib.Core.Path.{refl}
 use Rattle.rules.specs.Picks.{listed}
 use Rattle.rules.proofs.picks.one.Statement.{statement}
 use Rattle.rules.proofs.picks.one.Tie as tie
-use Rattle.rules.proofs.picks.one.Reads as reads
-use Rattle.rules.proofs.picks.one.Lts as lts
 
--- src/picks.rt:155:1
 returns : tie.Need-returns
 unfolding listed
 returns c = refl

@@ -3,10 +3,7 @@ use mathlib.Core.Path.{refl}
 use Rattle.rules.specs.Picks.{listed}
 use Rattle.rules.proofs.picks.three.Statement.{statement}
 use Rattle.rules.proofs.picks.three.Tie as tie
-use Rattle.rules.proofs.picks.three.Reads as reads
-use Rattle.rules.proofs.picks.three.Lts as lts
 
--- src/picks.rt:177:1
 returns : tie.Need-returns
 unfolding listed
 returns c = refl

@@ -3,10 +3,7 @@ use mathlib.Core.Path.{refl}
 use Rattle.rules.specs.Picks.{listed}
 use Rattle.rules.proofs.picks.two.Statement.{statement}
 use Rattle.rules.proofs.picks.two.Tie as tie
-use Rattle.rules.proofs.picks.two.Reads as reads
-use Rattle.rules.proofs.picks.two.Lts as lts
 
--- src/picks.rt:166:1
 returns : tie.Need-returns
 unfolding listed
 returns c = refl

@@ -1,33 +1,24 @@
 -- `yoke_root` meets its contract: 0 has no row. Assumes nothing.
-use mathlib.Core.Path.{_∙_, sym, ap}
+use mathlib.Core.Path.{_∙_}
 use Rattle.lingua.specs.Rows.{yokeRoot}
 use Rattle.rules.proofs.Short.{root-more}
 use borrow.Author.Needs.{needs}
 use Rattle.rules.proofs.picks.yoke_root.Statement.{statement}
 use Rattle.rules.proofs.picks.yoke_root.Tie as tie
-use Rattle.rules.proofs.picks.yoke_root.Reads as reads
-use Rattle.rules.proofs.picks.yoke_root.Lts as lts
-use Rattle.rules.proofs.picks.none.Reads as none-reads
-use Rattle.rules.proofs.picks.one.Reads as one-reads
 
--- src/picks.rt:324:9
 none-requires : tie.Need-none-requires
 none-requires c κs = search needs
 
--- src/picks.rt:324:9
 returns : tie.Need-returns
 unfolding yokeRoot
 returns c = c .none .ensures ∙ rw (c .before .if1 .taken)
 
--- src/picks.rt:326:9
 sub-one : tie.Need-sub-one
 sub-one c = search needs
 
--- src/picks.rt:326:5
 one-requires : tie.Need-one-requires
 one-requires c κs = search needs
 
--- src/picks.rt:320:1
 returns-2 : tie.Need-returns-2
 returns-2 c = c .one .ensures ∙ root-more (c .before .before .args .yoke) (c .before .if1 .left)
 

@@ -1,27 +1,22 @@
 -- `declared_fit` meets its contract: every root that was passed fits. Assumes nothing.
 use mathlib.Core.Path.{_≡_, sym, ap, _∙_}
-use mathlib.Core.Bool.{true, false, not}
-use Prim.Native.Nat.{ℕ, _+_, _*_, _-_, _/_, _≤_}
+use mathlib.Core.Bool.{true, not}
+use Prim.Native.Nat.{ℕ, _-_, _≤_}
 use native.Mathlib.Omega.{arith}
 use borrow.Author.Needs.{needs}
 use borrow.Author.Tests.{not-true, not-false}
-use Rattle.lingua.specs.Numbers.{declaration-section, expression-section, instruction-section}
+use Rattle.lingua.specs.Numbers.{declaration-section}
 use Rattle.lingua.specs.Value.{allOf}
-use Rattle.lingua.specs.Rows.{tableCount, pairCount, instructionRow, evaluated, yokeRoot, yokeSet}
+use Rattle.lingua.specs.Rows.{pairCount, yokeRoot}
 use Rattle.lingua.specs.Trees.{expressionTree}
 use Rattle.lingua.specs.Format.{everyBelow}
 use Rattle.lingua.specs.References.{declaredYoke}
 use Rattle.rules.specs.Reads.{reads}
 use Rattle.rules.proofs.Every.{every-none, every-more, every-fails, every-all}
-use Rattle.rules.proofs.Refers.{yoke-of}
+use Rattle.rules.proofs.Refers.{yoke-in}
 use Rattle.rules.proofs.Reading.{roots-to, declared-below}
 use Rattle.rules.proofs.places.declared_fit.Statement.{statement}
 use Rattle.rules.proofs.places.declared_fit.Tie as tie
-use Rattle.rules.proofs.places.declared_fit.Reads as reads
-use Rattle.rules.proofs.places.declared_fit.Lts as lts
-use Rattle.rules.proofs.fields.b_at.Reads as b-at-reads
-use Rattle.rules.proofs.picks.yoke_root.Reads as yoke-root-reads
-use Rattle.rules.proofs.places.none_marked.Reads as none-marked-reads
 
 abbrev Inv-loop : tie.InvT-loop
 Inv-loop rows marks start count expressions d₀ d = (d ≤ count) × (everyBelow d (λ k. allOf (λ r. not (reads true (expressionTree rows r))) (yokeRoot (declaredYoke rows k))) ≡ true)
@@ -29,53 +24,41 @@ Inv-loop rows marks start count expressions d₀ d = (d ≤ count) × (everyBelo
 abbrev μ-loop : tie.MeasureT-loop
 μ-loop rows marks start count expressions d₀ d = count - d
 
--- src/places.rt:115:5
 loop-holds : tie.Need-loop-holds Inv-loop μ-loop
 loop-holds c = (omega arith, every-none (λ (k : ℕ). allOf (λ r. not (reads true (expressionTree (c .before .before .args .rows .now) r))) (yokeRoot (declaredYoke (c .before .before .args .rows .now) k))))
 
--- src/places.rt:117:43
 mul-b-at : tie.Need-mul-b-at Inv-loop μ-loop
 mul-b-at c = omega arith
 
--- src/places.rt:117:43
 add-b-at : tie.Need-add-b-at Inv-loop μ-loop
 add-b-at c = omega arith
 
--- src/places.rt:117:34
 add-b-at-2 : tie.Need-add-b-at-2 Inv-loop μ-loop
 add-b-at-2 c = omega arith
 
--- src/places.rt:117:23
 b-at-requires : tie.Need-b-at-requires Inv-loop μ-loop
 b-at-requires c κs = omega arith
 
--- src/places.rt:117:13
 yoke-root-requires : tie.Need-yoke-root-requires Inv-loop μ-loop
 yoke-root-requires c κs = search needs
 
--- src/places.rt:116:13
 none-marked-requires : tie.Need-none-marked-requires Inv-loop μ-loop
 none-marked-requires c κs = omega arith
 
--- src/places.rt:121:13
 returns : tie.Need-returns Inv-loop μ-loop
 unfolding pairCount
-returns c = sym (every-fails (λ (k : ℕ). allOf (λ r. not (reads true (expressionTree (c .before .before .before .before .before .before .before .before .args .rows .now) r))) (yokeRoot (declaredYoke (c .before .before .before .before .before .before .before .before .args .rows .now) k))) (pairCount (c .before .before .before .before .before .before .before .before .args .rows .now) declaration-section) (c .before .before .before .before .before .loop .d) (omega arith) (sym (roots-to (c .before .before .before .before .before .before .before .before .args .rows .now) true (c .before .before .before .before .before .before .before .before .args .marks .now) (c .before .before .before .before .before .before .before .before .pre .0 .expressions .count) (c .before .before .before .before .before .before .before .before .pre .1 .1 .1) (declared-below (c .before .before .before .before .before .before .before .before .args .rows .now) (c .before .before .before .before .before .before .before .before .pre .1 .1 .0) (c .before .before .before .before .before .loop .d) (omega arith)) (c .before .before .yoke-root .ensures ∙ ap yokeRoot (c .before .before .before .b-at .ensures .0 ∙ sym (yoke-of (c .before .before .before .before .before .before .before .before .args .rows .now) (c .before .before .before .before .before .before .before .before .args .t) (c .before .before .before .before .before .before .before .before .pre .0) (c .before .before .before .before .before .loop .d)))) (c .before .none-marked .ensures)) ∙ not-true (c .before .none-marked .result) (c .if1 .taken)))
+returns c = sym (every-fails (λ (k : ℕ). allOf (λ r. not (reads true (expressionTree (c .before .before .before .before .before .before .before .before .args .rows .now) r))) (yokeRoot (declaredYoke (c .before .before .before .before .before .before .before .before .args .rows .now) k))) (pairCount (c .before .before .before .before .before .before .before .before .args .rows .now) declaration-section) (c .before .before .before .before .before .loop .d) (omega arith) (sym (roots-to (c .before .before .before .before .before .before .before .before .args .rows .now) true (c .before .before .before .before .before .before .before .before .args .marks .now) (c .before .before .before .before .before .before .before .before .pre .0 .expressions .count) (c .before .before .before .before .before .before .before .before .pre .1 .1 .1) (declared-below (c .before .before .before .before .before .before .before .before .args .rows .now) (c .before .before .before .before .before .before .before .before .pre .1 .1 .0) (c .before .before .before .before .before .loop .d) (omega arith)) (c .before .before .yoke-root .ensures ∙ ap yokeRoot (c .before .before .before .b-at .ensures .0 ∙ sym (yoke-in (c .before .before .before .before .before .before .before .before .args .rows .now) (c .before .before .before .before .before .before .before .before .args .t .declarations) (c .before .before .before .before .before .loop .d) (c .before .before .before .before .before .before .before .before .pre .0 .declarations)))) (c .before .none-marked .ensures)) ∙ not-true (c .before .none-marked .result) (c .if1 .taken)))
 
--- src/places.rt:123:9
 add-d : tie.Need-add-d Inv-loop μ-loop
 add-d c = omega arith
 
--- src/places.rt:115:5
 loop-less : tie.Need-loop-less Inv-loop μ-loop
 loop-less c = omega arith
 
--- src/places.rt:115:5
 loop-again : tie.Need-loop-again Inv-loop μ-loop
 unfolding pairCount
-loop-again c = (omega arith, every-more (λ (k : ℕ). allOf (λ r. not (reads true (expressionTree (c .before .before .before .before .before .before .before .before .args .rows .now) r))) (yokeRoot (declaredYoke (c .before .before .before .before .before .before .before .before .args .rows .now) k))) (c .before .before .before .before .before .loop .d) (c .before .before .before .before .before .loop .inv .1) (sym (roots-to (c .before .before .before .before .before .before .before .before .args .rows .now) true (c .before .before .before .before .before .before .before .before .args .marks .now) (c .before .before .before .before .before .before .before .before .pre .0 .expressions .count) (c .before .before .before .before .before .before .before .before .pre .1 .1 .1) (declared-below (c .before .before .before .before .before .before .before .before .args .rows .now) (c .before .before .before .before .before .before .before .before .pre .1 .1 .0) (c .before .before .before .before .before .loop .d) (omega arith)) (c .before .before .yoke-root .ensures ∙ ap yokeRoot (c .before .before .before .b-at .ensures .0 ∙ sym (yoke-of (c .before .before .before .before .before .before .before .before .args .rows .now) (c .before .before .before .before .before .before .before .before .args .t) (c .before .before .before .before .before .before .before .before .pre .0) (c .before .before .before .before .before .loop .d)))) (c .before .none-marked .ensures)) ∙ not-false (c .before .none-marked .result) (c .if1 .left)))
+loop-again c = (omega arith, every-more (λ (k : ℕ). allOf (λ r. not (reads true (expressionTree (c .before .before .before .before .before .before .before .before .args .rows .now) r))) (yokeRoot (declaredYoke (c .before .before .before .before .before .before .before .before .args .rows .now) k))) (c .before .before .before .before .before .loop .d) (c .before .before .before .before .before .loop .inv .1) (sym (roots-to (c .before .before .before .before .before .before .before .before .args .rows .now) true (c .before .before .before .before .before .before .before .before .args .marks .now) (c .before .before .before .before .before .before .before .before .pre .0 .expressions .count) (c .before .before .before .before .before .before .before .before .pre .1 .1 .1) (declared-below (c .before .before .before .before .before .before .before .before .args .rows .now) (c .before .before .before .before .before .before .before .before .pre .1 .1 .0) (c .before .before .before .before .before .loop .d) (omega arith)) (c .before .before .yoke-root .ensures ∙ ap yokeRoot (c .before .before .before .b-at .ensures .0 ∙ sym (yoke-in (c .before .before .before .before .before .before .before .before .args .rows .now) (c .before .before .before .before .before .before .before .before .args .t .declarations) (c .before .before .before .before .before .loop .d) (c .before .before .before .before .before .before .before .before .pre .0 .declarations)))) (c .before .none-marked .ensures)) ∙ not-false (c .before .none-marked .result) (c .if1 .left)))
 
--- src/places.rt:104:1
 returns-2 : tie.Need-returns-2 Inv-loop μ-loop
 unfolding pairCount
 returns-2 c = every-all (λ (k : ℕ). allOf (λ r. not (reads true (expressionTree (c .before .before .before .before .args .rows .now) r))) (yokeRoot (declaredYoke (c .before .before .before .before .args .rows .now) k))) (c .before .loop .d) (pairCount (c .before .before .before .before .args .rows .now) declaration-section) (c .before .loop .inv .1) (omega arith)

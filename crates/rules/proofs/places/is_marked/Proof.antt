@@ -1,21 +1,15 @@
 -- `is_marked` meets its contract: only rows below are looked up. Assumes nothing.
 use borrow.Author.Tests.{lt-ltb, le-ltb}
-use mathlib.Core.Path.{refl}
 use borrow.Author.Needs.{needs}
 use Rattle.rules.proofs.places.is_marked.Statement.{statement}
 use Rattle.rules.proofs.places.is_marked.Tie as tie
-use Rattle.rules.proofs.places.is_marked.Reads as reads
-use Rattle.rules.proofs.places.is_marked.Lts as lts
 
--- src/places.rt:46:16
 element-copy-out-result : tie.Need-element-copy-out-result
 element-copy-out-result c = search needs
 
--- src/places.rt:46:9
 returns : tie.Need-returns
 returns c = rw (lt-ltb (c .before .before .args .a) (c .before .before .args .r) (c .before .if1 .taken))
 
--- src/places.rt:41:1
 returns-2 : tie.Need-returns-2
 returns-2 c = rw (le-ltb (c .before .args .a) (c .before .args .r) (c .if1 .left))
 

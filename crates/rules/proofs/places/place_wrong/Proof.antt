@@ -2,7 +2,7 @@
 use mathlib.Core.Path.{sym, ap, _∙_}
 use mathlib.Core.Bool.{true, false, not}
 use borrow.Author.Tests.{not-true, not-false}
-use Rattle.lingua.specs.Numbers.{declaration-section, expression-section, instruction-section}
+use Rattle.lingua.specs.Numbers.{declaration-section, instruction-section}
 use Rattle.lingua.specs.Value.{allOf}
 use Rattle.lingua.specs.Rows.{tableCount, pairCount, instructionRow, evaluated, yokeRoot, yokeSet}
 use Rattle.lingua.specs.Trees.{expressionTree}
@@ -14,42 +14,28 @@ use Rattle.rules.proofs.Reading.{places-are}
 use borrow.Author.Needs.{needs}
 use Rattle.rules.proofs.places.place_wrong.Statement.{statement}
 use Rattle.rules.proofs.places.place_wrong.Tie as tie
-use Rattle.rules.proofs.places.place_wrong.Reads as reads
-use Rattle.rules.proofs.places.place_wrong.Lts as lts
-use Rattle.rules.proofs.places.declared_fit.Reads as declared-fit-reads
-use Rattle.rules.proofs.places.evaluated_fit.Reads as evaluated-fit-reads
-use Rattle.rules.proofs.places.readers.Reads as readers-reads
-use Rattle.rules.proofs.places.set_fit.Reads as set-fit-reads
 
--- src/places.rt:177:21
 readers-requires : tie.Need-readers-requires
 readers-requires c κs = search needs
 
--- src/places.rt:178:9
 declared-fit-requires : tie.Need-declared-fit-requires
 declared-fit-requires c κs = search needs
 
--- src/places.rt:179:9
 returns : tie.Need-returns
 returns c = third-1 (everyBelow (pairCount (c .before .before .before .before .before .before .args .rows .now) declaration-section) (λ d. allOf (λ r. not (reads true (expressionTree (c .before .before .before .before .before .before .args .rows .now) r))) (yokeRoot (declaredYoke (c .before .before .before .before .before .before .args .rows .now) d)))) (everyBelow (tableCount (c .before .before .before .before .before .before .args .rows .now) instruction-section) (λ i. allOf (λ r. not (reads true (expressionTree (c .before .before .before .before .before .before .args .rows .now) r))) (yokeSet (instructionRow (c .before .before .before .before .before .before .args .rows .now) i)))) (everyBelow (tableCount (c .before .before .before .before .before .before .args .rows .now) instruction-section) (λ i. allOf (λ r. not (reads false (expressionTree (c .before .before .before .before .before .before .args .rows .now) r))) (evaluated (instructionRow (c .before .before .before .before .before .before .args .rows .now) i)))) (sym (c .before .declared-fit .ensures) ∙ not-true (c .before .declared-fit .result) (c .if1 .taken)) ∙ sym (places-are (c .before .before .before .before .before .before .args .rows .now))
 
--- src/places.rt:181:9
 set-fit-requires : tie.Need-set-fit-requires
 set-fit-requires c κs = search needs
 
--- src/places.rt:182:9
 returns-2 : tie.Need-returns-2
 returns-2 c = third-2 (everyBelow (pairCount (c .before .before .before .before .before .before .before .before .before .args .rows .now) declaration-section) (λ d. allOf (λ r. not (reads true (expressionTree (c .before .before .before .before .before .before .before .before .before .args .rows .now) r))) (yokeRoot (declaredYoke (c .before .before .before .before .before .before .before .before .before .args .rows .now) d)))) (everyBelow (tableCount (c .before .before .before .before .before .before .before .before .before .args .rows .now) instruction-section) (λ i. allOf (λ r. not (reads true (expressionTree (c .before .before .before .before .before .before .before .before .before .args .rows .now) r))) (yokeSet (instructionRow (c .before .before .before .before .before .before .before .before .before .args .rows .now) i)))) (everyBelow (tableCount (c .before .before .before .before .before .before .before .before .before .args .rows .now) instruction-section) (λ i. allOf (λ r. not (reads false (expressionTree (c .before .before .before .before .before .before .before .before .before .args .rows .now) r))) (evaluated (instructionRow (c .before .before .before .before .before .before .before .before .before .args .rows .now) i)))) (sym (c .before .before .before .before .declared-fit .ensures) ∙ not-false (c .before .before .before .before .declared-fit .result) (c .before .before .before .if1 .left)) (sym (c .before .set-fit .ensures) ∙ not-true (c .before .set-fit .result) (c .if2 .taken)) ∙ sym (places-are (c .before .before .before .before .before .before .before .before .before .args .rows .now))
 
--- src/places.rt:184:20
 readers-requires-2 : tie.Need-readers-requires-2
 readers-requires-2 c κs = search needs
 
--- src/places.rt:185:6
 evaluated-fit-requires : tie.Need-evaluated-fit-requires
 evaluated-fit-requires c κs = search needs
 
--- src/places.rt:170:1
 returns-3 : tie.Need-returns-3
 returns-3 c = ap not (c .evaluated-fit .ensures) ∙ third-3 (everyBelow (pairCount (c .before .before .before .before .before .before .before .before .before .before .before .before .args .rows .now) declaration-section) (λ d. allOf (λ r. not (reads true (expressionTree (c .before .before .before .before .before .before .before .before .before .before .before .before .args .rows .now) r))) (yokeRoot (declaredYoke (c .before .before .before .before .before .before .before .before .before .before .before .before .args .rows .now) d)))) (everyBelow (tableCount (c .before .before .before .before .before .before .before .before .before .before .before .before .args .rows .now) instruction-section) (λ i. allOf (λ r. not (reads true (expressionTree (c .before .before .before .before .before .before .before .before .before .before .before .before .args .rows .now) r))) (yokeSet (instructionRow (c .before .before .before .before .before .before .before .before .before .before .before .before .args .rows .now) i)))) (everyBelow (tableCount (c .before .before .before .before .before .before .before .before .before .before .before .before .args .rows .now) instruction-section) (λ i. allOf (λ r. not (reads false (expressionTree (c .before .before .before .before .before .before .before .before .before .before .before .before .args .rows .now) r))) (evaluated (instructionRow (c .before .before .before .before .before .before .before .before .before .before .before .before .args .rows .now) i)))) (sym (c .before .before .before .before .before .before .before .declared-fit .ensures) ∙ not-false (c .before .before .before .before .before .before .before .declared-fit .result) (c .before .before .before .before .before .before .if1 .left)) (sym (c .before .before .before .before .set-fit .ensures) ∙ not-false (c .before .before .before .before .set-fit .result) (c .before .before .before .if2 .left)) ∙ sym (places-are (c .before .before .before .before .before .before .before .before .before .before .before .before .args .rows .now))
 

@@ -1,15 +1,12 @@
 -- `readers` meets its contract: the marks of the rows that were passed are right. Assumes nothing.
-use mathlib.Core.Path.{_≡_, refl, sym, _∙_}
-use Prim.Native.Nat.{_+_, _-_, _≤_}
+use mathlib.Core.Path.{_≡_, refl}
+use Prim.Native.Nat.{_-_, _≤_}
 use native.Mathlib.Omega.{arith}
 use lib.ListN.{length, length-set}
 use Rattle.rules.specs.Reads.{Marked}
 use Rattle.rules.proofs.Reading.{marked-none, marked-more, marked-to}
 use Rattle.rules.proofs.places.readers.Statement.{statement}
 use Rattle.rules.proofs.places.readers.Tie as tie
-use Rattle.rules.proofs.places.readers.Reads as reads
-use Rattle.rules.proofs.places.readers.Lts as lts
-use Rattle.rules.proofs.places.tree_reads.Reads as tree-reads-reads
 
 abbrev Inv-loop : tie.InvT-loop
 Inv-loop rows t variable count marks₀ r₀ marks r = (r ≤ count) × (length marks ≡ 512) × Marked rows variable r marks
@@ -17,31 +14,24 @@ Inv-loop rows t variable count marks₀ r₀ marks r = (r ≤ count) × (length 
 abbrev μ-loop : tie.MeasureT-loop
 μ-loop rows t variable count marks₀ r₀ marks r = count - r
 
--- src/places.rt:95:5
 loop-holds : tie.Need-loop-holds Inv-loop μ-loop
 loop-holds c = (omega arith, refl, marked-none (c .before .args .rows .now) (c .before .args .variable) 0 _)
 
--- src/places.rt:96:13
 tree-reads-requires : tie.Need-tree-reads-requires Inv-loop μ-loop
 tree-reads-requires c κs = (c .before .before .before .before .pre .0, (omega arith, c .before .before .loop .inv .2))
 
--- src/places.rt:97:9
 array-write-marks : tie.Need-array-write-marks Inv-loop μ-loop
 array-write-marks c = omega arith
 
--- src/places.rt:98:9
 add-r : tie.Need-add-r Inv-loop μ-loop
 add-r c = omega arith
 
--- src/places.rt:95:5
 loop-less : tie.Need-loop-less Inv-loop μ-loop
 loop-less c = omega arith
 
--- src/places.rt:95:5
 loop-again : tie.Need-loop-again Inv-loop μ-loop
 loop-again c = (omega arith, simp length-set (omega arith), marked-more (c .before .before .before .before .before .args .rows .now) (c .before .before .before .before .before .args .variable) (c .before .before .before .loop .r) (c .before .before .before .loop .marks) (c .tree-reads .result) (omega arith) (c .tree-reads .ensures) (c .before .before .before .loop .inv .2))
 
--- src/places.rt:87:1
 returns : tie.Need-returns Inv-loop μ-loop
 returns c = marked-to (c .before .before .before .args .rows .now) (c .before .before .before .args .variable) (c .before .loop .r) (c .before .loop .marks) _ (omega arith) (c .before .loop .inv .2)
 

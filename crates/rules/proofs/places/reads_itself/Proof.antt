@@ -1,29 +1,18 @@
 -- `reads_itself` meets its contract: kind 4 reads a variable, 24 and 25 the current value. Assumes nothing.
-use mathlib.Core.Path.{_∙_, ap}
-use mathlib.Core.Bool.{Bool}
-use Rattle.lingua.specs.Rows.{expressionRow}
-use Rattle.rules.specs.Reads.{readsRow}
 use Rattle.rules.proofs.Reading.{variable-kind, current-kind}
 use borrow.Author.Needs.{needs}
 use Rattle.rules.proofs.places.reads_itself.Statement.{statement}
 use Rattle.rules.proofs.places.reads_itself.Tie as tie
-use Rattle.rules.proofs.places.reads_itself.Reads as reads
-use Rattle.rules.proofs.places.reads_itself.Lts as lts
-use Rattle.rules.proofs.fields.kind_at.Reads as kind-at-reads
 
--- src/places.rt:33:30
 add-kind-at : tie.Need-add-kind-at
 add-kind-at c = search needs
 
--- src/places.rt:33:9
 kind-at-requires : tie.Need-kind-at-requires
 kind-at-requires c κs = search needs
 
--- src/places.rt:35:9
 returns : tie.Need-returns
 returns c = rw (c .if1 .taken) (variable-kind (c .before .before .before .before .args .rows .now) (c .before .before .before .before .args .t) (c .before .before .before .before .args .r) (c .before .before .before .before .pre .0) (c .before .kind-at .result) (c .before .kind-at .ensures))
 
--- src/places.rt:28:1
 returns-2 : tie.Need-returns-2
 returns-2 c = rw (c .if1 .left) (current-kind (c .before .before .before .before .args .rows .now) (c .before .before .before .before .args .t) (c .before .before .before .before .args .r) (c .before .before .before .before .pre .0) (c .before .kind-at .result) (c .before .kind-at .ensures))
 

@@ -1,26 +1,19 @@
 -- `set_fit` meets its contract: every root that was passed fits. Assumes nothing.
-use mathlib.Core.Path.{_≡_, sym, ap, _∙_}
-use mathlib.Core.Bool.{true, false, not}
-use Prim.Native.Nat.{ℕ, _+_, _*_, _-_, _/_, _≤_}
+use mathlib.Core.Path.{_≡_, sym, _∙_}
+use mathlib.Core.Bool.{true, not}
+use Prim.Native.Nat.{ℕ, _-_, _≤_}
 use native.Mathlib.Omega.{arith}
-use borrow.Author.Needs.{needs}
 use borrow.Author.Tests.{not-true, not-false}
-use Rattle.lingua.specs.Numbers.{declaration-section, expression-section, instruction-section}
+use Rattle.lingua.specs.Numbers.{instruction-section}
 use Rattle.lingua.specs.Value.{allOf}
-use Rattle.lingua.specs.Rows.{tableCount, pairCount, instructionRow, evaluated, yokeRoot, yokeSet}
+use Rattle.lingua.specs.Rows.{tableCount, instructionRow, yokeSet}
 use Rattle.lingua.specs.Trees.{expressionTree}
 use Rattle.lingua.specs.Format.{everyBelow}
-use Rattle.lingua.specs.References.{declaredYoke}
 use Rattle.rules.specs.Reads.{reads}
 use Rattle.rules.proofs.Every.{every-none, every-more, every-fails, every-all}
-use Rattle.rules.proofs.Refers.{yoke-of}
 use Rattle.rules.proofs.Reading.{roots-to, set-below}
 use Rattle.rules.proofs.places.set_fit.Statement.{statement}
 use Rattle.rules.proofs.places.set_fit.Tie as tie
-use Rattle.rules.proofs.places.set_fit.Reads as reads
-use Rattle.rules.proofs.places.set_fit.Lts as lts
-use Rattle.rules.proofs.picks.yoke_set_of.Reads as yoke-set-of-reads
-use Rattle.rules.proofs.places.none_marked.Reads as none-marked-reads
 
 abbrev Inv-loop : tie.InvT-loop
 Inv-loop rows marks instructions count expressions i₀ i = (i ≤ count) × (everyBelow i (λ k. allOf (λ r. not (reads true (expressionTree rows r))) (yokeSet (instructionRow rows k))) ≡ true)
@@ -28,35 +21,27 @@ Inv-loop rows marks instructions count expressions i₀ i = (i ≤ count) × (ev
 abbrev μ-loop : tie.MeasureT-loop
 μ-loop rows marks instructions count expressions i₀ i = count - i
 
--- src/places.rt:140:5
 loop-holds : tie.Need-loop-holds Inv-loop μ-loop
 loop-holds c = (omega arith, every-none (λ (k : ℕ). allOf (λ r. not (reads true (expressionTree (c .before .before .args .rows .now) r))) (yokeSet (instructionRow (c .before .before .args .rows .now) k))))
 
--- src/places.rt:141:25
 yoke-set-of-requires : tie.Need-yoke-set-of-requires Inv-loop μ-loop
 yoke-set-of-requires c κs = (c .before .before .before .before .pre .0 .instructions, c .loop-test .taken)
 
--- src/places.rt:141:13
 none-marked-requires : tie.Need-none-marked-requires Inv-loop μ-loop
 none-marked-requires c κs = omega arith
 
--- src/places.rt:142:13
 returns : tie.Need-returns Inv-loop μ-loop
 returns c = sym (every-fails (λ (k : ℕ). allOf (λ r. not (reads true (expressionTree (c .before .before .before .before .before .before .before .args .rows .now) r))) (yokeSet (instructionRow (c .before .before .before .before .before .before .before .args .rows .now) k))) (tableCount (c .before .before .before .before .before .before .before .args .rows .now) instruction-section) (c .before .before .before .before .loop .i) (omega arith) (sym (roots-to (c .before .before .before .before .before .before .before .args .rows .now) true (c .before .before .before .before .before .before .before .args .marks .now) (c .before .before .before .before .before .before .before .pre .0 .expressions .count) (c .before .before .before .before .before .before .before .pre .1 .1 .1) (set-below (c .before .before .before .before .before .before .before .args .rows .now) (c .before .before .before .before .before .before .before .pre .1 .1 .0) (c .before .before .before .before .loop .i) (omega arith)) (c .before .before .yoke-set-of .ensures) (c .before .none-marked .ensures)) ∙ not-true (c .before .none-marked .result) (c .if1 .taken)))
 
--- src/places.rt:144:9
 add-i : tie.Need-add-i Inv-loop μ-loop
 add-i c = omega arith
 
--- src/places.rt:140:5
 loop-less : tie.Need-loop-less Inv-loop μ-loop
 loop-less c = omega arith
 
--- src/places.rt:140:5
 loop-again : tie.Need-loop-again Inv-loop μ-loop
 loop-again c = (omega arith, every-more (λ (k : ℕ). allOf (λ r. not (reads true (expressionTree (c .before .before .before .before .before .before .before .args .rows .now) r))) (yokeSet (instructionRow (c .before .before .before .before .before .before .before .args .rows .now) k))) (c .before .before .before .before .loop .i) (c .before .before .before .before .loop .inv .1) (sym (roots-to (c .before .before .before .before .before .before .before .args .rows .now) true (c .before .before .before .before .before .before .before .args .marks .now) (c .before .before .before .before .before .before .before .pre .0 .expressions .count) (c .before .before .before .before .before .before .before .pre .1 .1 .1) (set-below (c .before .before .before .before .before .before .before .args .rows .now) (c .before .before .before .before .before .before .before .pre .1 .1 .0) (c .before .before .before .before .loop .i) (omega arith)) (c .before .before .yoke-set-of .ensures) (c .before .none-marked .ensures)) ∙ not-false (c .before .none-marked .result) (c .if1 .left)))
 
--- src/places.rt:129:1
 returns-2 : tie.Need-returns-2 Inv-loop μ-loop
 returns-2 c = every-all (λ (k : ℕ). allOf (λ r. not (reads true (expressionTree (c .before .before .before .before .args .rows .now) r))) (yokeSet (instructionRow (c .before .before .before .before .args .rows .now) k))) (c .before .loop .i) (tableCount (c .before .before .before .before .args .rows .now) instruction-section) (c .before .loop .inv .1) (omega arith)
 

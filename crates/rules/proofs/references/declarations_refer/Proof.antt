@@ -1,24 +1,16 @@
 -- The loop meets its contract: every declaration that was passed refers to what exists. Assumes nothing.
-use mathlib.Core.Path.{_≡_, sym, ap, ap₂, _∙_}
-use mathlib.Core.Bool.{true, _&&_}
-use Prim.Native.Nat.{ℕ, _+_, _*_, _-_, _/_, _≤_}
+use mathlib.Core.Path.{_≡_, sym, _∙_}
+use mathlib.Core.Bool.{true}
+use Prim.Native.Nat.{ℕ, _-_, _≤_}
 use native.Mathlib.Omega.{arith}
-use borrow.Author.Needs.{needs}
 use borrow.Author.Tests.{not-true, not-false}
-use Rattle.lingua.specs.Numbers.{declaration-section, type-section, expression-section, instruction-section}
-use Rattle.lingua.specs.Errors.{last-error}
-use Rattle.lingua.specs.Value.{allOf}
-use Rattle.lingua.specs.Rows.{rowIn, tableCount, pairCount, typeRow, expressionRow, instructionRow, operands, parts, evaluated, yokeSet}
+use Rattle.lingua.specs.Numbers.{declaration-section}
+use Rattle.lingua.specs.Rows.{pairCount}
 use Rattle.lingua.specs.Format.{everyBelow}
-use Rattle.lingua.specs.Rules.{between, constantFits, attributesFit, typeAttributes, expressionAttributes, handledErrors, constantWrong}
-use Rattle.lingua.specs.References.{allBelow, typeParts, expressionVariables, instructionVariables, declarationRefers, expressionRefers, instructionRefers, referenceWrong}
-use Rattle.rules.proofs.Every.{every-none, every-more, every-fails, every-all, both-left, both-right}
-use Rattle.rules.proofs.Short.{within-below, within-errors}
+use Rattle.lingua.specs.References.{declarationRefers}
+use Rattle.rules.proofs.Every.{every-none, every-more, every-fails, every-all}
 use Rattle.rules.proofs.references.declarations_refer.Statement.{statement}
 use Rattle.rules.proofs.references.declarations_refer.Tie as tie
-use Rattle.rules.proofs.references.declarations_refer.Reads as reads
-use Rattle.rules.proofs.references.declarations_refer.Lts as lts
-use Rattle.rules.proofs.references.declaration_refers.Reads as declaration-refers-reads
 
 abbrev Inv-loop : tie.InvT-loop
 Inv-loop rows t count d₀ d = (d ≤ count) × (everyBelow d (λ k. declarationRefers rows k) ≡ true)
@@ -26,32 +18,25 @@ Inv-loop rows t count d₀ d = (d ≤ count) × (everyBelow d (λ k. declaration
 abbrev μ-loop : tie.MeasureT-loop
 μ-loop rows t count d₀ d = count - d
 
--- src/references.rt:80:5
 loop-holds : tie.Need-loop-holds Inv-loop μ-loop
 loop-holds c = (omega arith, every-none (λ (k : ℕ). declarationRefers (c .before .before .args .rows .now) k))
 
--- src/references.rt:81:13
 declaration-refers-requires : tie.Need-declaration-refers-requires Inv-loop μ-loop
 declaration-refers-requires c κs = (c .before .before .before .before .pre, c .loop-test .taken)
 
--- src/references.rt:82:13
 returns : tie.Need-returns Inv-loop μ-loop
 unfolding pairCount
 returns c = sym (every-fails (λ (k : ℕ). declarationRefers (c .before .before .before .before .before .before .args .rows .now) k) (pairCount (c .before .before .before .before .before .before .args .rows .now) declaration-section) (c .before .before .before .loop .d) (omega arith) (sym (c .before .declaration-refers .ensures) ∙ not-true (c .before .declaration-refers .result) (c .if1 .taken)))
 
--- src/references.rt:84:9
 add-d : tie.Need-add-d Inv-loop μ-loop
 add-d c = omega arith
 
--- src/references.rt:80:5
 loop-less : tie.Need-loop-less Inv-loop μ-loop
 loop-less c = omega arith
 
--- src/references.rt:80:5
 loop-again : tie.Need-loop-again Inv-loop μ-loop
 loop-again c = (omega arith, every-more (λ (k : ℕ). declarationRefers (c .before .before .before .before .before .before .args .rows .now) k) (c .before .before .before .loop .d) (c .before .before .before .loop .inv .1) (sym (c .before .declaration-refers .ensures) ∙ not-false (c .before .declaration-refers .result) (c .if1 .left)))
 
--- src/references.rt:74:1
 returns-2 : tie.Need-returns-2 Inv-loop μ-loop
 unfolding pairCount
 returns-2 c = every-all (λ (k : ℕ). declarationRefers (c .before .before .before .before .args .rows .now) k) (c .before .loop .d) (pairCount (c .before .before .before .before .args .rows .now) declaration-section) (c .before .loop .inv .1) (omega arith)

@@ -1,50 +1,29 @@
 -- `expression_refers` meets its contract: operands are asked, then variables. Assumes nothing.
-use mathlib.Core.Path.{_≡_, sym, ap, _∙_}
-use mathlib.Core.Bool.{not}
-use Prim.Native.Nat.{ℕ, _+_, _*_, _/_}
-use lib.Dec.{ltb}
-use borrow.Author.Tests.{not-true, not-false, lt-ltb, le-ltb}
-use native.Mathlib.Omega.{arith}
-use Rattle.lingua.specs.Numbers.{declaration-section, type-section, expression-section, instruction-section}
-use Rattle.lingua.specs.Errors.{last-error}
-use Rattle.lingua.specs.Value.{allOf}
-use Rattle.lingua.specs.Rows.{aAt, rowIn, tableCount, pairCount, typeRow, expressionRow, instructionRow, operands, parts, evaluated, yokeRoot, yokeSet}
-use Rattle.lingua.specs.Format.{everyBelow}
-use Rattle.lingua.specs.Rules.{between, constantFits, attributesFit, typeAttributes, expressionAttributes, handledErrors, constantWrong}
-use Rattle.lingua.specs.References.{allBelow, typeParts, expressionVariables, instructionVariables, declarationRefers, expressionRefers, instructionRefers, referenceWrong}
+use mathlib.Core.Path.{sym, _∙_}
+use Prim.Native.Nat.{_/_}
+use borrow.Author.Tests.{not-true, not-false}
 use Rattle.rules.proofs.Every.{both-left, both-right}
 use Rattle.rules.proofs.Short.{within-below}
 use Rattle.rules.proofs.Refers.{expression-is}
 use borrow.Author.Needs.{needs}
 use Rattle.rules.proofs.references.expression_refers.Statement.{statement}
 use Rattle.rules.proofs.references.expression_refers.Tie as tie
-use Rattle.rules.proofs.references.expression_refers.Reads as reads
-use Rattle.rules.proofs.references.expression_refers.Lts as lts
-use Rattle.rules.proofs.picks.all_within.Reads as all-within-reads
-use Rattle.rules.proofs.picks.operands_of.Reads as operands-of-reads
-use Rattle.rules.proofs.picks.variables_of.Reads as variables-of-reads
 
--- src/references.rt:42:20
 operands-of-requires : tie.Need-operands-of-requires
 operands-of-requires c κs = search needs
 
--- src/references.rt:42:9
 all-within-requires : tie.Need-all-within-requires
 all-within-requires c κs = search needs
 
--- src/references.rt:43:9
 returns : tie.Need-returns
 returns c = sym (expression-is (c .before .before .before .before .before .args .rows .now) (c .before .before .before .before .before .args .t) (c .before .before .before .before .before .pre .0) (c .before .before .before .before .before .args .r) ∙ both-left _ _ (within-below (c .before .before .before .before .before .args .r) (c .before .before .operands-of .ensures) (c .before .all-within .ensures) ∙ not-true (c .before .all-within .result) (c .if1 .taken)))
 
--- src/references.rt:46:9
 variables-of-requires : tie.Need-variables-of-requires
 variables-of-requires c κs = search needs
 
--- src/references.rt:45:5
 all-within-requires-2 : tie.Need-all-within-requires-2
 all-within-requires-2 c κs = search needs
 
--- src/references.rt:36:1
 returns-2 : tie.Need-returns-2
 returns-2 c = sym (expression-is (c .before .before .before .before .before .before .before .before .args .rows .now) (c .before .before .before .before .before .before .before .before .args .t) (c .before .before .before .before .before .before .before .before .pre .0) (c .before .before .before .before .before .before .before .before .args .r) ∙ both-right _ _ (within-below (c .before .before .before .before .before .before .before .before .args .r) (c .before .before .before .before .before .operands-of .ensures) (c .before .before .before .before .all-within .ensures) ∙ not-false (c .before .before .before .before .all-within .result) (c .before .before .before .if1 .left)) ∙ within-below (c .before .before .before .before .before .before .before .before .args .t .declarations .count / 2) (c .before .before .variables-of .ensures) (c .all-within2 .ensures))
 

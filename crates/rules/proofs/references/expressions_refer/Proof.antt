@@ -1,24 +1,16 @@
 -- The loop meets its contract: every expression that was passed refers to what exists. Assumes nothing.
-use mathlib.Core.Path.{_≡_, sym, ap, ap₂, _∙_}
-use mathlib.Core.Bool.{true, _&&_}
-use Prim.Native.Nat.{ℕ, _+_, _*_, _-_, _/_, _≤_}
+use mathlib.Core.Path.{_≡_, sym, _∙_}
+use mathlib.Core.Bool.{true}
+use Prim.Native.Nat.{ℕ, _-_, _≤_}
 use native.Mathlib.Omega.{arith}
-use borrow.Author.Needs.{needs}
 use borrow.Author.Tests.{not-true, not-false}
-use Rattle.lingua.specs.Numbers.{declaration-section, type-section, expression-section, instruction-section}
-use Rattle.lingua.specs.Errors.{last-error}
-use Rattle.lingua.specs.Value.{allOf}
-use Rattle.lingua.specs.Rows.{rowIn, tableCount, pairCount, typeRow, expressionRow, instructionRow, operands, parts, evaluated, yokeSet}
+use Rattle.lingua.specs.Numbers.{expression-section}
+use Rattle.lingua.specs.Rows.{tableCount}
 use Rattle.lingua.specs.Format.{everyBelow}
-use Rattle.lingua.specs.Rules.{between, constantFits, attributesFit, typeAttributes, expressionAttributes, handledErrors, constantWrong}
-use Rattle.lingua.specs.References.{allBelow, typeParts, expressionVariables, instructionVariables, declarationRefers, expressionRefers, instructionRefers, referenceWrong}
-use Rattle.rules.proofs.Every.{every-none, every-more, every-fails, every-all, both-left, both-right}
-use Rattle.rules.proofs.Short.{within-below, within-errors}
+use Rattle.lingua.specs.References.{expressionRefers}
+use Rattle.rules.proofs.Every.{every-none, every-more, every-fails, every-all}
 use Rattle.rules.proofs.references.expressions_refer.Statement.{statement}
 use Rattle.rules.proofs.references.expressions_refer.Tie as tie
-use Rattle.rules.proofs.references.expressions_refer.Reads as reads
-use Rattle.rules.proofs.references.expressions_refer.Lts as lts
-use Rattle.rules.proofs.references.expression_refers.Reads as expression-refers-reads
 
 abbrev Inv-loop : tie.InvT-loop
 Inv-loop rows t count r₀ r = (r ≤ count) × (everyBelow r (λ k. expressionRefers rows k) ≡ true)
@@ -26,31 +18,24 @@ Inv-loop rows t count r₀ r = (r ≤ count) × (everyBelow r (λ k. expressionR
 abbrev μ-loop : tie.MeasureT-loop
 μ-loop rows t count r₀ r = count - r
 
--- src/references.rt:110:5
 loop-holds : tie.Need-loop-holds Inv-loop μ-loop
 loop-holds c = (omega arith, every-none (λ (k : ℕ). expressionRefers (c .before .args .rows .now) k))
 
--- src/references.rt:111:13
 expression-refers-requires : tie.Need-expression-refers-requires Inv-loop μ-loop
 expression-refers-requires c κs = (c .before .before .before .pre, c .loop-test .taken)
 
--- src/references.rt:112:13
 returns : tie.Need-returns Inv-loop μ-loop
 returns c = sym (every-fails (λ (k : ℕ). expressionRefers (c .before .before .before .before .before .args .rows .now) k) (tableCount (c .before .before .before .before .before .args .rows .now) expression-section) (c .before .before .before .loop .r) (omega arith) (sym (c .before .expression-refers .ensures) ∙ not-true (c .before .expression-refers .result) (c .if1 .taken)))
 
--- src/references.rt:114:9
 add-r : tie.Need-add-r Inv-loop μ-loop
 add-r c = omega arith
 
--- src/references.rt:110:5
 loop-less : tie.Need-loop-less Inv-loop μ-loop
 loop-less c = omega arith
 
--- src/references.rt:110:5
 loop-again : tie.Need-loop-again Inv-loop μ-loop
 loop-again c = (omega arith, every-more (λ (k : ℕ). expressionRefers (c .before .before .before .before .before .args .rows .now) k) (c .before .before .before .loop .r) (c .before .before .before .loop .inv .1) (sym (c .before .expression-refers .ensures) ∙ not-false (c .before .expression-refers .result) (c .if1 .left)))
 
--- src/references.rt:104:1
 returns-2 : tie.Need-returns-2 Inv-loop μ-loop
 returns-2 c = every-all (λ (k : ℕ). expressionRefers (c .before .before .before .args .rows .now) k) (c .before .loop .r) (tableCount (c .before .before .before .args .rows .now) expression-section) (c .before .loop .inv .1) (omega arith)
 

@@ -1,25 +1,18 @@
 -- `types_refer` meets its contract: every row that was passed names lower rows. Assumes nothing.
-use mathlib.Core.Path.{_≡_, sym, ap, ap₂, _∙_}
-use mathlib.Core.Bool.{true, _&&_}
-use Prim.Native.Nat.{ℕ, _+_, _*_, _-_, _/_, _≤_}
+use mathlib.Core.Path.{_≡_, sym, _∙_}
+use mathlib.Core.Bool.{true}
+use Prim.Native.Nat.{ℕ, _-_, _≤_}
 use native.Mathlib.Omega.{arith}
 use borrow.Author.Needs.{needs}
 use borrow.Author.Tests.{not-true, not-false}
-use Rattle.lingua.specs.Numbers.{declaration-section, type-section, expression-section, instruction-section}
-use Rattle.lingua.specs.Errors.{last-error}
-use Rattle.lingua.specs.Value.{allOf}
-use Rattle.lingua.specs.Rows.{rowIn, tableCount, pairCount, typeRow, expressionRow, instructionRow, operands, parts, evaluated, yokeSet}
+use Rattle.lingua.specs.Numbers.{type-section}
+use Rattle.lingua.specs.Rows.{tableCount, typeRow}
 use Rattle.lingua.specs.Format.{everyBelow}
-use Rattle.lingua.specs.Rules.{between, constantFits, attributesFit, typeAttributes, expressionAttributes, handledErrors, constantWrong}
-use Rattle.lingua.specs.References.{allBelow, typeParts, expressionVariables, instructionVariables, declarationRefers, expressionRefers, instructionRefers, referenceWrong}
-use Rattle.rules.proofs.Every.{every-none, every-more, every-fails, every-all, both-left, both-right}
-use Rattle.rules.proofs.Short.{within-below, within-errors}
+use Rattle.lingua.specs.References.{allBelow, typeParts}
+use Rattle.rules.proofs.Every.{every-none, every-more, every-fails, every-all}
+use Rattle.rules.proofs.Short.{within-below}
 use Rattle.rules.proofs.references.types_refer.Statement.{statement}
 use Rattle.rules.proofs.references.types_refer.Tie as tie
-use Rattle.rules.proofs.references.types_refer.Reads as reads
-use Rattle.rules.proofs.references.types_refer.Lts as lts
-use Rattle.rules.proofs.picks.all_within.Reads as all-within-reads
-use Rattle.rules.proofs.picks.type_parts_of.Reads as type-parts-of-reads
 
 abbrev Inv-loop : tie.InvT-loop
 Inv-loop rows t count r₀ r = (r ≤ count) × (everyBelow r (λ k. allBelow k (typeParts (typeRow rows k))) ≡ true)
@@ -27,35 +20,27 @@ Inv-loop rows t count r₀ r = (r ≤ count) × (everyBelow r (λ k. allBelow k 
 abbrev μ-loop : tie.MeasureT-loop
 μ-loop rows t count r₀ r = count - r
 
--- src/references.rt:95:5
 loop-holds : tie.Need-loop-holds Inv-loop μ-loop
 loop-holds c = (omega arith, every-none (λ (k : ℕ). allBelow k (typeParts (typeRow (c .before .args .rows .now) k))))
 
--- src/references.rt:96:24
 type-parts-of-requires : tie.Need-type-parts-of-requires Inv-loop μ-loop
 type-parts-of-requires c κs = (c .before .before .before .pre, c .loop-test .taken)
 
--- src/references.rt:96:13
 all-within-requires : tie.Need-all-within-requires Inv-loop μ-loop
 all-within-requires c κs = search needs
 
--- src/references.rt:97:13
 returns : tie.Need-returns Inv-loop μ-loop
 returns c = sym (every-fails (λ (k : ℕ). allBelow k (typeParts (typeRow (c .before .before .before .before .before .before .args .rows .now) k))) (tableCount (c .before .before .before .before .before .before .args .rows .now) type-section) (c .before .before .before .before .loop .r) (omega arith) (within-below (c .before .before .before .before .loop .r) (c .before .before .type-parts-of .ensures) (c .before .all-within .ensures) ∙ not-true (c .before .all-within .result) (c .if1 .taken)))
 
--- src/references.rt:99:9
 add-r : tie.Need-add-r Inv-loop μ-loop
 add-r c = omega arith
 
--- src/references.rt:95:5
 loop-less : tie.Need-loop-less Inv-loop μ-loop
 loop-less c = omega arith
 
--- src/references.rt:95:5
 loop-again : tie.Need-loop-again Inv-loop μ-loop
 loop-again c = (omega arith, every-more (λ (k : ℕ). allBelow k (typeParts (typeRow (c .before .before .before .before .before .before .args .rows .now) k))) (c .before .before .before .before .loop .r) (c .before .before .before .before .loop .inv .1) (within-below (c .before .before .before .before .loop .r) (c .before .before .type-parts-of .ensures) (c .before .all-within .ensures) ∙ not-false (c .before .all-within .result) (c .if1 .left)))
 
--- src/references.rt:89:1
 returns-2 : tie.Need-returns-2 Inv-loop μ-loop
 returns-2 c = every-all (λ (k : ℕ). allBelow k (typeParts (typeRow (c .before .before .before .args .rows .now) k))) (c .before .loop .r) (tableCount (c .before .before .before .args .rows .now) type-section) (c .before .loop .inv .1) (omega arith)
 

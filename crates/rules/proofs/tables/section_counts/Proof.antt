@@ -1,18 +1,14 @@
 -- `section_counts` meets its contract. The invariant: each place has the count of its rows among those passed.
 -- Assumes nothing.
 use mathlib.Core.Path.{_≡_, refl}
-use Prim.Native.Nat.{ℕ, _+_, _-_, _≤_, _<_, min}
+use Prim.Native.Nat.{ℕ, _-_, _≤_, _<_, min}
 use native.Mathlib.Omega.{arith}
-use borrow.Author.Needs.{needs}
 use lib.Dec.{eqb}
 use lib.ListN.{length, getD, length-set}
-use Rattle.lingua.specs.Rows.{rowCount, sectionAt, countBelow, tableCount}
+use Rattle.lingua.specs.Rows.{rowCount, sectionAt, countBelow}
 use Rattle.rules.proofs.Counting.{count-le, counted-more, counted-none, counted-all}
 use Rattle.rules.proofs.tables.section_counts.Statement.{statement}
 use Rattle.rules.proofs.tables.section_counts.Tie as tie
-use Rattle.rules.proofs.tables.section_counts.Reads as reads
-use Rattle.rules.proofs.tables.section_counts.Lts as lts
-use Rattle.rules.proofs.tables.slot.Reads as slot-reads
 
 abbrev Inv-loop : tie.InvT-loop
 Inv-loop rows n counts₀ i₀ counts i = (i ≤ n) × (length counts ≡ 7) × ((k : ℕ) → k < 7 → getD counts k 0 ≡ countBelow i (λ j. eqb (min (sectionAt rows j) 6) k))
@@ -20,43 +16,33 @@ Inv-loop rows n counts₀ i₀ counts i = (i ≤ n) × (length counts ≡ 7) × 
 abbrev μ-loop : tie.MeasureT-loop
 μ-loop rows n counts₀ i₀ counts i = n - i
 
--- src/tables.rt:43:5
 loop-holds : tie.Need-loop-holds Inv-loop μ-loop
 loop-holds c = (omega arith, refl, counted-none (λ (k : ℕ) (j : ℕ). eqb (min (sectionAt (c .before .args .rows .now) j) 6) k))
 
--- src/tables.rt:44:13
 slot-requires : tie.Need-slot-requires Inv-loop μ-loop
 slot-requires c κs = omega arith
 
--- src/tables.rt:45:9
 mul-counts : tie.Need-mul-counts Inv-loop μ-loop
 mul-counts c = omega arith
 
--- src/tables.rt:45:9
 array-read-counts : tie.Need-array-read-counts Inv-loop μ-loop
 array-read-counts c = omega arith
 
--- src/tables.rt:45:9
 add-counts : tie.Need-add-counts Inv-loop μ-loop
 add-counts c = omega (arith, c .before .before .loop .inv .2 (c .slot .result) (omega arith), count-le (c .before .before .loop .i) (λ j. eqb (min (sectionAt (c .before .before .before .before .args .rows .now) j) 6) (c .slot .result)))
 
--- src/tables.rt:45:9
 array-write-counts : tie.Need-array-write-counts Inv-loop μ-loop
 array-write-counts c = omega arith
 
--- src/tables.rt:46:9
 add-i : tie.Need-add-i Inv-loop μ-loop
 add-i c = omega arith
 
--- src/tables.rt:43:5
 loop-less : tie.Need-loop-less Inv-loop μ-loop
 loop-less c = omega arith
 
--- src/tables.rt:43:5
 loop-again : tie.Need-loop-again Inv-loop μ-loop
 loop-again c = (omega arith, simp length-set (omega arith), counted-more (c .before .before .loop .counts) (λ j. min (sectionAt (c .before .before .before .before .args .rows .now) j) 6) (c .before .before .loop .i) (c .slot .result) (c .before .before .loop .inv .1) (c .slot .ensures) (omega arith) (c .before .before .loop .inv .2))
 
--- src/tables.rt:37:1
 returns : tie.Need-returns Inv-loop μ-loop
 unfolding rowCount
 returns c = counted-all (c .before .before .before .args .rows .now) (c .before .loop .counts) (c .before .loop .i) (omega arith) (c .before .loop .inv .2)

@@ -5,63 +5,46 @@ use Rattle.rules.proofs.Counting.{sections, are-tables}
 use borrow.Author.Needs.{needs}
 use Rattle.rules.proofs.tables.tables_of.Statement.{statement}
 use Rattle.rules.proofs.tables.tables_of.Tie as tie
-use Rattle.rules.proofs.tables.tables_of.Reads as reads
-use Rattle.rules.proofs.tables.tables_of.Lts as lts
-use Rattle.rules.proofs.tables.section_counts.Reads as section-counts-reads
 
--- src/tables.rt:54:18
 section-counts-requires : tie.Need-section-counts-requires
 section-counts-requires c κs = search needs
 
--- src/tables.rt:56:16
 array-read-t11 : tie.Need-array-read-t11
 array-read-t11 c = search needs
 
--- src/tables.rt:57:16
 array-read-t14 : tie.Need-array-read-t14
 array-read-t14 c = search needs
 
--- src/tables.rt:60:16
 array-read-t11-2 : tie.Need-array-read-t11-2
 array-read-t11-2 c = search needs
 
--- src/tables.rt:60:28
 array-read-t14-2 : tie.Need-array-read-t14-2
 array-read-t14-2 c = search needs
 
--- src/tables.rt:60:16
 add-t19 : tie.Need-add-t19
 add-t19 c = omega (arith, sections (c .before .before .args .rows .now) (c .section-counts .result) (c .section-counts .ensures))
 
--- src/tables.rt:61:16
 array-read-t22 : tie.Need-array-read-t22
 array-read-t22 c = search needs
 
--- src/tables.rt:64:16
 add-t11 : tie.Need-add-t11
 add-t11 c = omega (arith, sections (c .before .before .before .args .rows .now) (c .before .section-counts .result) (c .before .section-counts .ensures))
 
--- src/tables.rt:65:16
 array-read-t22-2 : tie.Need-array-read-t22-2
 array-read-t22-2 c = search needs
 
--- src/tables.rt:68:16
 add-t19-2 : tie.Need-add-t19-2
 add-t19-2 c = omega (arith, sections (c .before .before .before .before .args .rows .now) (c .before .before .section-counts .result) (c .before .before .section-counts .ensures))
 
--- src/tables.rt:69:16
 array-read-t22-3 : tie.Need-array-read-t22-3
 array-read-t22-3 c = search needs
 
--- src/tables.rt:72:16
 add-t11-2 : tie.Need-add-t11-2
 add-t11-2 c = omega (arith, sections (c .before .before .before .before .before .args .rows .now) (c .before .before .before .section-counts .result) (c .before .before .before .section-counts .ensures))
 
--- src/tables.rt:73:16
 array-read-t22-4 : tie.Need-array-read-t22-4
 array-read-t22-4 c = search needs
 
--- src/tables.rt:51:1
 returns : tie.Need-returns
 returns c = are-tables (c .before .before .before .before .before .args .rows .now) (c .before .before .before .section-counts .result) (sections (c .before .before .before .before .before .args .rows .now) (c .before .before .before .section-counts .result) (c .before .before .before .section-counts .ensures)) _ _ _ _ _ refl refl refl refl refl
 

@@ -3,7 +3,6 @@ use mathlib.Core.Path.{_≡_, sym, _∙_}
 use mathlib.Core.Bool.{true}
 use Prim.Native.Nat.{ℕ, _-_, _≤_}
 use native.Mathlib.Omega.{arith}
-use borrow.Author.Needs.{needs}
 use borrow.Author.Tests.{eq-eqb, ne-eqb}
 use lib.Dec.{eqb}
 use lib.ListN.{getD}
@@ -12,8 +11,6 @@ use Rattle.rules.proofs.Every.{every-none, every-more, every-fails, eve
 use Rattle.rules.proofs.Usage.{once-is}
 use Rattle.rules.proofs.uses.all_once.Statement.{statement}
 use Rattle.rules.proofs.uses.all_once.Tie as tie
-use Rattle.rules.proofs.uses.all_once.Reads as reads
-use Rattle.rules.proofs.uses.all_once.Lts as lts
 
 abbrev Inv-loop : tie.InvT-loop
 Inv-loop uses n r₀ r = (r ≤ n) × (everyBelow r (λ k. eqb (getD uses k 0) 1) ≡ true)
@@ -21,31 +18,24 @@ Inv-loop uses n r₀ r = (r ≤ n) × (everyBelow r (λ k. eqb (getD uses k 0) 1
 abbrev μ-loop : tie.MeasureT-loop
 μ-loop uses n r₀ r = n - r
 
--- src/uses.rt:128:5
 loop-holds : tie.Need-loop-holds Inv-loop μ-loop
 loop-holds c = (omega arith, every-none (λ (k : ℕ). eqb (getD (c .args .uses .now) k 0) 1))
 
--- src/uses.rt:129:12
 element-copy-out-if1 : tie.Need-element-copy-out-if1 Inv-loop μ-loop
 element-copy-out-if1 c = omega arith
 
--- src/uses.rt:130:13
 returns : tie.Need-returns Inv-loop μ-loop
 returns c = λ xs h. sym (every-fails (λ (k : ℕ). eqb (getD (c .before .before .before .before .args .uses .now) k 0) 1) (c .before .before .before .before .args .n) (c .before .before .before .loop .r) (c .before .before .loop-test .taken) (ne-eqb (getD (c .before .before .before .before .args .uses .now) (c .before .before .before .loop .r) 0) 1 (c .if1 .taken))) ∙ once-is (c .before .before .before .before .args .uses .now) xs (c .before .before .before .before .args .n) (c .before .before .before .before .pre) h
 
--- src/uses.rt:132:9
 add-r : tie.Need-add-r Inv-loop μ-loop
 add-r c = omega arith
 
--- src/uses.rt:128:5
 loop-less : tie.Need-loop-less Inv-loop μ-loop
 loop-less c = omega arith
 
--- src/uses.rt:128:5
 loop-again : tie.Need-loop-again Inv-loop μ-loop
 loop-again c = (omega arith, every-more (λ (k : ℕ). eqb (getD (c .before .before .before .before .args .uses .now) k 0) 1) (c .before .before .before .loop .r) (c .before .before .before .loop .inv .1) (eq-eqb (getD (c .before .before .before .before .args .uses .now) (c .before .before .before .loop .r) 0) 1 (c .if1 .left)))
 
--- src/uses.rt:123:1
 returns-2 : tie.Need-returns-2 Inv-loop μ-loop
 returns-2 c = λ xs h. every-all (λ (k : ℕ). eqb (getD (c .before .before .args .uses .now) k 0) 1) (c .before .loop .r) (c .before .before .args .n) (c .before .loop .inv .1) (omega arith) ∙ once-is (c .before .before .args .uses .now) xs (c .before .before .args .n) (c .before .before .pre) h
 

@@ -1,30 +1,22 @@
 -- `instructions_once` meets its contract: all rows but the last are asked. Assumes nothing.
-use mathlib.Core.Path.{_≡_, refl, ap, _∙_}
+use mathlib.Core.Path.{refl, ap, _∙_}
 use mathlib.Core.List.{[]}
-use Prim.Native.Nat.{ℕ, pred}
+use Prim.Native.Nat.{pred}
 use Rattle.lingua.specs.References.{instructionUses}
 use Rattle.rules.proofs.Usage.{counted-zeros, once-to, pred-is}
 use borrow.Author.Needs.{needs}
 use Rattle.rules.proofs.uses.instructions_once.Statement.{statement}
 use Rattle.rules.proofs.uses.instructions_once.Tie as tie
-use Rattle.rules.proofs.uses.instructions_once.Reads as reads
-use Rattle.rules.proofs.uses.instructions_once.Lts as lts
-use Rattle.rules.proofs.uses.all_once.Reads as all-once-reads
-use Rattle.rules.proofs.uses.note_parts.Reads as note-parts-reads
 
--- src/uses.rt:160:5
 note-parts-requires : tie.Need-note-parts-requires
 note-parts-requires c κs = search needs
 
--- src/uses.rt:161:21
 sub-all-once : tie.Need-sub-all-once
 sub-all-once c = search needs
 
--- src/uses.rt:161:5
 all-once-requires : tie.Need-all-once-requires
 all-once-requires c κs = search needs
 
--- src/uses.rt:154:1
 returns : tie.Need-returns
 unfolding instructionUses
 returns c = once-to (pred-is (c .before .before .before .before .before .before .args .t .count) (c .before .before .before .before .before .before .pre .1 .0) ∙ ap pred (c .before .before .before .before .before .before .pre .0 .count)) refl (c .all-once .ensures _ (c .before .before .before .note-parts .ensures [] counted-zeros))

@@ -3,30 +3,22 @@ use Rattle.rules.proofs.Usage.{counted-out, counted-first, counted-next
 use borrow.Author.Needs.{needs}
 use Rattle.rules.proofs.uses.note.Statement.{statement}
 use Rattle.rules.proofs.uses.note.Tie as tie
-use Rattle.rules.proofs.uses.note.Reads as reads
-use Rattle.rules.proofs.uses.note.Lts as lts
 
--- src/uses.rt:25:20
 element-copy-out-used : tie.Need-element-copy-out-used
 element-copy-out-used c = search needs
 
--- src/uses.rt:27:13
 element-write-uses : tie.Need-element-write-uses
 element-write-uses c = search needs
 
--- src/uses.rt:29:13
 element-write-uses-2 : tie.Need-element-write-uses-2
 element-write-uses-2 c = search needs
 
--- src/uses.rt:21:1
 returns : tie.Need-returns
 returns c = λ xs h. counted-first (c .before .before .before .args .uses .now) xs (c .before .before .before .args .x) (c .before .before .if1 .taken) (c .if2 .taken) h
 
--- src/uses.rt:21:1
 returns-2 : tie.Need-returns-2
 returns-2 c = λ xs h. counted-next (c .before .before .before .args .uses .now) xs (c .before .before .before .args .x) (c .before .before .if1 .taken) (c .if2 .left) h
 
--- src/uses.rt:21:1
 returns-3 : tie.Need-returns-3
 returns-3 c = λ xs h. counted-out (c .before .args .uses .now) xs (c .before .args .x) (c .if1 .left) h
 

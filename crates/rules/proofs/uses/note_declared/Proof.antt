@@ -1,12 +1,12 @@
-use Rattle.rules.proofs.Refers.{yoke-in}
 -- `note_declared` meets its contract: the uses of the rows that were passed are noted. Assumes nothing.
-use mathlib.Core.Path.{_≡_, sym, ap, _∙_}
+use Rattle.rules.proofs.Refers.{yoke-in}
+use mathlib.Core.Path.{sym, ap, _∙_}
 use mathlib.Core.List.{List, _++_}
-use Prim.Native.Nat.{ℕ, _+_, _*_, _-_, _/_, _≤_}
+use Prim.Native.Nat.{ℕ, _-_, _≤_}
 use native.Mathlib.Omega.{arith}
 use borrow.Author.Needs.{needs}
-use Rattle.lingua.specs.Numbers.{declaration-section, expression-section, instruction-section}
-use Rattle.lingua.specs.Rows.{bAt, tableCount, pairCount, expressionRow, instructionRow, operands, parts, evaluated, yokeRoot, yokeSet}
+use Rattle.lingua.specs.Numbers.{declaration-section}
+use Rattle.lingua.specs.Rows.{pairCount, yokeRoot}
 use Rattle.lingua.specs.Trees.{tabulate}
 use Rattle.lingua.specs.Typing.{joined}
 use Rattle.lingua.specs.References.{declaredYoke}
@@ -14,11 +14,6 @@ use Rattle.rules.specs.Uses.{Counted}
 use Rattle.rules.proofs.Usage.{turn-none, turn-more, turn-all}
 use Rattle.rules.proofs.uses.note_declared.Statement.{statement}
 use Rattle.rules.proofs.uses.note_declared.Tie as tie
-use Rattle.rules.proofs.uses.note_declared.Reads as reads
-use Rattle.rules.proofs.uses.note_declared.Lts as lts
-use Rattle.rules.proofs.fields.b_at.Reads as b-at-reads
-use Rattle.rules.proofs.picks.yoke_root.Reads as yoke-root-reads
-use Rattle.rules.proofs.uses.note_all.Reads as note-all-reads
 
 abbrev Inv-loop : tie.InvT-loop
 Inv-loop uses₀ rows start count d₀ uses d = (d ≤ count) × ((xs : List ℕ) → Counted uses₀ xs → Counted uses (xs ++ joined (tabulate d (λ k. yokeRoot (declaredYoke rows k)))))
@@ -26,47 +21,36 @@ Inv-loop uses₀ rows start count d₀ uses d = (d ≤ count) × ((xs : List ℕ
 abbrev μ-loop : tie.MeasureT-loop
 μ-loop uses₀ rows start count d₀ uses d = count - d
 
--- src/uses.rt:66:5
 loop-holds : tie.Need-loop-holds Inv-loop μ-loop
 loop-holds c = (omega arith, λ xs h. turn-none (λ (k : ℕ). yokeRoot (declaredYoke (c .before .before .args .rows .now) k)) (c .before .before .args .uses .now) xs h)
 
--- src/uses.rt:67:54
 mul-b-at : tie.Need-mul-b-at Inv-loop μ-loop
 mul-b-at c = omega arith
 
--- src/uses.rt:67:54
 add-b-at : tie.Need-add-b-at Inv-loop μ-loop
 add-b-at c = omega arith
 
--- src/uses.rt:67:45
 add-b-at-2 : tie.Need-add-b-at-2 Inv-loop μ-loop
 add-b-at-2 c = omega arith
 
--- src/uses.rt:67:34
 b-at-requires : tie.Need-b-at-requires Inv-loop μ-loop
 b-at-requires c κs = omega arith
 
--- src/uses.rt:67:24
 yoke-root-requires : tie.Need-yoke-root-requires Inv-loop μ-loop
 yoke-root-requires c κs = search needs
 
--- src/uses.rt:67:9
 note-all-requires : tie.Need-note-all-requires Inv-loop μ-loop
 note-all-requires c κs = search needs
 
--- src/uses.rt:68:9
 add-d : tie.Need-add-d Inv-loop μ-loop
 add-d c = omega arith
 
--- src/uses.rt:66:5
 loop-less : tie.Need-loop-less Inv-loop μ-loop
 loop-less c = omega arith
 
--- src/uses.rt:66:5
 loop-again : tie.Need-loop-again Inv-loop μ-loop
 loop-again c = (omega arith, λ xs h. turn-more (λ (k : ℕ). yokeRoot (declaredYoke (c .before .before .before .before .before .before .before .before .args .rows .now) k)) (c .note-all .last .0) xs (c .before .before .before .before .before .loop .d) _ (c .before .yoke-root .ensures ∙ ap yokeRoot (c .before .before .b-at .ensures .0 ∙ sym (yoke-in (c .before .before .before .before .before .before .before .before .args .rows .now) (c .before .before .before .before .before .before .before .before .args .t) (c .before .before .before .before .before .loop .d) (c .before .before .before .before .before .before .before .before .pre)))) (c .note-all .ensures (xs ++ joined (tabulate (c .before .before .before .before .before .loop .d) (λ (k : ℕ). yokeRoot (declaredYoke (c .before .before .before .before .before .before .before .before .args .rows .now) k)))) (c .before .before .before .before .before .loop .inv .1 xs h)))
 
--- src/uses.rt:59:1
 returns : tie.Need-returns Inv-loop μ-loop
 unfolding pairCount
 returns c = λ xs h. turn-all (λ (k : ℕ). yokeRoot (declaredYoke (c .before .before .before .before .args .rows .now) k)) (c .before .loop .uses) xs (c .before .loop .d) (pairCount (c .before .before .before .before .args .rows .now) declaration-section) (omega arith) (c .before .loop .inv .1 xs h)

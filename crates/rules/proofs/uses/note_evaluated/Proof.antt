@@ -1,22 +1,16 @@
 -- `note_evaluated` meets its contract: the uses of the rows that were passed are noted. Assumes nothing.
-use mathlib.Core.Path.{_≡_, sym, ap, _∙_}
 use mathlib.Core.List.{List, _++_}
-use Prim.Native.Nat.{ℕ, _+_, _*_, _-_, _/_, _≤_}
+use Prim.Native.Nat.{ℕ, _-_, _≤_}
 use native.Mathlib.Omega.{arith}
 use borrow.Author.Needs.{needs}
-use Rattle.lingua.specs.Numbers.{declaration-section, expression-section, instruction-section}
-use Rattle.lingua.specs.Rows.{bAt, tableCount, pairCount, expressionRow, instructionRow, operands, parts, evaluated, yokeRoot, yokeSet}
+use Rattle.lingua.specs.Numbers.{instruction-section}
+use Rattle.lingua.specs.Rows.{tableCount, instructionRow, evaluated}
 use Rattle.lingua.specs.Trees.{tabulate}
 use Rattle.lingua.specs.Typing.{joined}
-use Rattle.lingua.specs.References.{declaredYoke}
 use Rattle.rules.specs.Uses.{Counted}
 use Rattle.rules.proofs.Usage.{turn-none, turn-more, turn-all}
 use Rattle.rules.proofs.uses.note_evaluated.Statement.{statement}
 use Rattle.rules.proofs.uses.note_evaluated.Tie as tie
-use Rattle.rules.proofs.uses.note_evaluated.Reads as reads
-use Rattle.rules.proofs.uses.note_evaluated.Lts as lts
-use Rattle.rules.proofs.picks.evaluated_of.Reads as evaluated-of-reads
-use Rattle.rules.proofs.uses.note_all.Reads as note-all-reads
 
 abbrev Inv-loop : tie.InvT-loop
 Inv-loop uses₀ rows t count r₀ uses r = (r ≤ count) × ((xs : List ℕ) → Counted uses₀ xs → Counted uses (xs ++ joined (tabulate r (λ k. evaluated (instructionRow rows k)))))
@@ -24,31 +18,24 @@ Inv-loop uses₀ rows t count r₀ uses r = (r ≤ count) × ((xs : List ℕ) �
 abbrev μ-loop : tie.MeasureT-loop
 μ-loop uses₀ rows t count r₀ uses r = count - r
 
--- src/uses.rt:92:5
 loop-holds : tie.Need-loop-holds Inv-loop μ-loop
 loop-holds c = (omega arith, λ xs h. turn-none (λ (k : ℕ). evaluated (instructionRow (c .before .args .rows .now) k)) (c .before .args .uses .now) xs h)
 
--- src/uses.rt:93:24
 evaluated-of-requires : tie.Need-evaluated-of-requires Inv-loop μ-loop
 evaluated-of-requires c κs = (c .before .before .before .before .pre, c .before .loop-test .taken)
 
--- src/uses.rt:93:9
 note-all-requires : tie.Need-note-all-requires Inv-loop μ-loop
 note-all-requires c κs = search needs
 
--- src/uses.rt:94:9
 add-r : tie.Need-add-r Inv-loop μ-loop
 add-r c = omega arith
 
--- src/uses.rt:92:5
 loop-less : tie.Need-loop-less Inv-loop μ-loop
 loop-less c = omega arith
 
--- src/uses.rt:92:5
 loop-again : tie.Need-loop-again Inv-loop μ-loop
 loop-again c = (omega arith, λ xs h. turn-more (λ (k : ℕ). evaluated (instructionRow (c .before .before .before .before .before .before .args .rows .now) k)) (c .note-all .last .0) xs (c .before .before .before .before .loop .r) _ (c .before .evaluated-of .ensures) (c .note-all .ensures (xs ++ joined (tabulate (c .before .before .before .before .loop .r) (λ (k : ℕ). evaluated (instructionRow (c .before .before .before .before .before .before .args .rows .now) k)))) (c .before .before .before .before .loop .inv .1 xs h)))
 
--- src/uses.rt:86:1
 returns : tie.Need-returns Inv-loop μ-loop
 returns c = λ xs h. turn-all (λ (k : ℕ). evaluated (instructionRow (c .before .before .before .args .rows .now) k)) (c .before .loop .uses) xs (c .before .loop .r) (tableCount (c .before .before .before .args .rows .now) instruction-section) (omega arith) (c .before .loop .inv .1 xs h)
 

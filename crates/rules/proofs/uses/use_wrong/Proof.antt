@@ -1,32 +1,23 @@
 -- `use_wrong` meets its contract: expressions are asked first. Assumes nothing.
-use mathlib.Core.Path.{_≡_, sym, ap, _∙_}
+use mathlib.Core.Path.{sym, ap, _∙_}
 use mathlib.Core.Bool.{not}
 use borrow.Author.Tests.{not-true, not-false}
-use native.Mathlib.Omega.{arith}
 use Rattle.lingua.specs.References.{useWrong}
 use Rattle.rules.proofs.Every.{both-left, both-right}
 use borrow.Author.Needs.{needs}
 use Rattle.rules.proofs.uses.use_wrong.Statement.{statement}
 use Rattle.rules.proofs.uses.use_wrong.Tie as tie
-use Rattle.rules.proofs.uses.use_wrong.Reads as reads
-use Rattle.rules.proofs.uses.use_wrong.Lts as lts
-use Rattle.rules.proofs.uses.expressions_once.Reads as expressions-once-reads
-use Rattle.rules.proofs.uses.instructions_once.Reads as instructions-once-reads
 
--- src/uses.rt:169:9
 expressions-once-requires : tie.Need-expressions-once-requires
 expressions-once-requires c κs = search needs
 
--- src/uses.rt:170:9
 returns : tie.Need-returns
 unfolding useWrong
 returns c = sym (ap not (both-left _ _ (sym (c .before .expressions-once .ensures) ∙ not-true (c .before .expressions-once .result) (c .if1 .taken))))
 
--- src/uses.rt:173:6
 instructions-once-requires : tie.Need-instructions-once-requires
 instructions-once-requires c κs = search needs
 
--- src/uses.rt:164:1
 returns-2 : tie.Need-returns-2
 unfolding useWrong
 returns-2 c = ap not (c .instructions-once .ensures ∙ sym (both-right _ _ (sym (c .before .before .before .expressions-once .ensures) ∙ not-false (c .before .before .before .expressions-once .result) (c .before .before .if1 .left))))

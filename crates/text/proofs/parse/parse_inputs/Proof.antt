@@ -1,4 +1,5 @@
--- `text::parse::parse_inputs` is safe and ends, and its count is at most what is kept. Assumes nothing.
+-- `text::parse::parse_inputs` is safe and ends. The measure is what is left of the text. Assumes nothing.
+use mathlib.Core.Path.{_≡_}
 use Prim.Native.Nat.{_+_, _≤_, _-_}
 use borrow.Author.Needs.{needs}
 use lib.ListN.{length}
@@ -6,7 +7,7 @@ use Rattle.text.proofs.parse.parse_inputs.Statement.{statement}
 use Rattle.text.proofs.parse.parse_inputs.Tie as tie
 
 abbrev Inv-loop : tie.InvT-loop
-Inv-loop text variables₀ numbers₀ count₀ from₀ variables numbers count from = (from ≤ length text + 1) × (count ≤ from)
+Inv-loop text variables₀ numbers₀ count₀ from₀ variables numbers count from = (from ≤ length text + 1) × (count ≤ from) × (length variables ≡ length variables₀) × (length numbers ≡ length numbers₀)
 
 abbrev μ-loop : tie.MeasureT-loop
 μ-loop text variables₀ numbers₀ count₀ from₀ variables numbers count from = length text + 1 - from
@@ -35,6 +36,12 @@ part-parse-input-end c = search needs
 parse-input-requires : tie.Need-parse-input-requires Inv-loop μ-loop
 parse-input-requires c κs = search needs
 
+same-length : tie.Need-same-length Inv-loop μ-loop
+same-length c = search needs
+
+same-length-2 : tie.Need-same-length-2 Inv-loop μ-loop
+same-length-2 c = search needs
+
 returns-2 : tie.Need-returns-2 Inv-loop μ-loop
 returns-2 c = search needs
 
@@ -50,11 +57,14 @@ loop-less c = search needs
 loop-again : tie.Need-loop-again Inv-loop μ-loop
 loop-again c = search needs
 
+same-length-3 : tie.Need-same-length-3 Inv-loop μ-loop
+same-length-3 c = search needs
+
+same-length-4 : tie.Need-same-length-4 Inv-loop μ-loop
+same-length-4 c = search needs
+
 returns-3 : tie.Need-returns-3 Inv-loop μ-loop
 returns-3 c = search needs
-
-returns-4 : tie.Need-returns-4 Inv-loop μ-loop
-returns-4 c = search needs
 
 pub parse-inputs-spec : {M : Type 1} → statement M
 parse-inputs-spec =
@@ -70,10 +80,13 @@ parse-inputs-spec =
     part-parse-input-start
     part-parse-input-end
     parse-input-requires
+    same-length
+    same-length-2
     returns-2
     add-count
     add-from
     loop-less
     loop-again
-    returns-3
-    returns-4)
+    same-length-3
+    same-length-4
+    returns-3)

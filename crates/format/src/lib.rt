@@ -1,0 +1,84 @@
+// The reader and the writer of both kinds of file.
+use blocks::rows::copy_rows;
+use blocks::rows::gather_rows;
+use blocks::rules::file_refusal;
+use blocks::words::word16_at;
+use blocks::writer::file_length;
+use blocks::writer::write_file;
+use lingua::FileKind;
+use lingua::ReadAnswer;
+use lingua::WriteAnswer;
+use lingua::errors::BAD_BUFFER;
+use lingua::errors::NO_ERROR;
+use lingua::sizes::ROW_BYTES;
+use lingua::sizes::ROWS_LENGTH;
+use rules::refusal::rows_refusal;
+ghost use mathlib.Core.Path.{_≡_};
+ghost use lib.ListN.{length};
+ghost use Rattle.lingua.specs.Answers.{fileMeaning};
+ghost use Rattle.lingua.specs.Calls.{readCall, readResult, writeCall, writeResult};
+ghost use Rattle.format.specs.Taken.{TakenIs};
+
+// The lowest of a file's own rules, 0 where none applies; then its rows are so many bytes.
+pub struct Taken {
+    pub refusal: u8,
+    pub length: usize,
+}
+
+// A whole file, its rows gathered to the front of areas, which has room for those of any accepted file.
+pub fn take(kind: FileKind, file: &[u8], areas: &mut [u8]) -> Taken
+    requires { ⌜ length (now areas) ≡ 8500 ⌝ }
+    ensures { λ r. ⌜ TakenIs r (fileMeaning kind) (now (file .entry)) (now (areas .exit)) ⌝ }
+{
+    let first = file_refusal(kind, file);
+    if first != NO_ERROR {
+        return Taken {
+            refusal: first,
+            length: 0,
+        };
+    }
+    let n = gather_rows(file, &mut *areas);
+    Taken {
+        refusal: rows_refusal(kind, &areas[..n]),
+        length: n,
+    }
+}
+
+// document 01: the reader. The caller's buffer is written only once no rule applies.
+pub fn read(kind: FileKind, file: &[u8], rows: &mut [u8]) -> ReadAnswer
+    ensures { λ r. ⌜ readResult r (now (rows .exit)) ≡ readCall (fileMeaning kind) (now (file .entry)) (now (rows .entry)) ⌝ }
+{
+    if rows.len() != ROWS_LENGTH {
+        return ReadAnswer::Refused(BAD_BUFFER);
+    }
+    let mut areas = [0u8; 8500];
+    let taken = take(kind, file, &mut areas);
+    let refusal = taken.refusal;
+    if refusal != NO_ERROR {
+        return ReadAnswer::Refused(refusal);
+    }
+    let n = taken.length;
+    copy_rows(&areas[..n], rows);
+    ReadAnswer::Rows {
+        model: word16_at(file, 6),
+        count: (n / ROW_BYTES) as u16,
+    }
+}
+
+// document 01: the writer.
+pub fn write(kind: FileKind, model: u16, rows: &[u8], file: &mut [u8]) -> WriteAnswer
+    ensures { λ r. ⌜ writeResult r (now (file .exit)) ≡ writeCall (fileMeaning kind) model (now (rows .entry)) (now (file .entry)) ⌝ }
+{
+    if rows.len() % ROW_BYTES != 0 {
+        return WriteAnswer::Refused(BAD_BUFFER);
+    }
+    if file.len() != file_length(kind, rows) {
+        return WriteAnswer::Refused(BAD_BUFFER);
+    }
+    let refusal = rows_refusal(kind, rows);
+    if refusal != NO_ERROR {
+        return WriteAnswer::Refused(refusal);
+    }
+    write_file(kind, model, rows, file);
+    WriteAnswer::Written
+}

@@ -1,0 +1,77 @@
+// The lowest of rules 6 to 13 that applies to a file's rows. Rules are asked in order, so that each may rely on those below.
+use crate::constants::constant_wrong;
+use crate::counts::count_wrong;
+use crate::form::form_wrong;
+use crate::names::name_wrong;
+use crate::places::place_wrong;
+use crate::references::reference_wrong;
+use crate::tables::Tables;
+use crate::tables::tables_of;
+use crate::types::type_wrong;
+use crate::uses::use_wrong;
+use lingua::FileKind;
+use lingua::errors::BAD_CONSTANT;
+use lingua::errors::BAD_COUNT;
+use lingua::errors::BAD_FORM;
+use lingua::errors::BAD_NAME;
+use lingua::errors::BAD_REFERENCE;
+use lingua::errors::BAD_TYPE;
+use lingua::errors::BAD_USE;
+use lingua::errors::MISPLACED;
+use lingua::errors::NO_ERROR;
+ghost use mathlib.Core.Path.{_≡_};
+ghost use mathlib.Core.Bool.{false};
+ghost use Rattle.lingua.specs.Answers.{fileMeaning};
+ghost use Rattle.lingua.specs.Format.{profile};
+ghost use Rattle.lingua.specs.Rules.{constantWrong};
+ghost use Rattle.lingua.specs.Refusal.{lowest, rowRules};
+ghost use Rattle.rules.specs.Tables.{AreTables, Sized};
+ghost use Rattle.rules.specs.Refusals.{linkRules};
+
+// Rules 10 to 13, which only a profile has.
+fn link_refusal(rows: &[u8], t: Tables) -> u8
+    requires { ⌜ AreTables (now rows) t ⌝ }
+    requires { ⌜ Sized t ⌝ }
+    requires { ⌜ constantWrong profile (now rows) ≡ false ⌝ }
+    ensures { λ r. ⌜ r ≡ lowest (linkRules (now (rows .entry))) ⌝ }
+{
+    if reference_wrong(rows, t) {
+        return BAD_REFERENCE;
+    }
+    if use_wrong(rows, t) {
+        return BAD_USE;
+    }
+    if place_wrong(rows, t) {
+        return MISPLACED;
+    }
+    let types = t.types;
+    if type_wrong(rows, types) {
+        return BAD_TYPE;
+    }
+    NO_ERROR
+}
+
+// 0 where no rule applies.
+pub fn rows_refusal(file: FileKind, rows: &[u8]) -> u8
+    ensures { λ r. ⌜ r ≡ lowest (rowRules (fileMeaning file) (now (rows .entry))) ⌝ }
+{
+    let t = tables_of(rows);
+    if form_wrong(file, rows, t) {
+        return BAD_FORM;
+    }
+    if count_wrong(file, t) {
+        return BAD_COUNT;
+    }
+    let name = name_wrong(file, rows, t);
+    let constant = constant_wrong(file, rows, t);
+    if name {
+        return BAD_NAME;
+    }
+    if constant {
+        return BAD_CONSTANT;
+    }
+    match file {
+        FileKind::Profile => link_refusal(rows, t),
+        FileKind::Limits => NO_ERROR,
+    }
+}

@@ -1,0 +1,160 @@
+// Each call's answer as a line at the start of a buffer, with the line's length.
+use lingua::CheckAnswer;
+use lingua::ReadAnswer;
+use lingua::RunAnswer;
+use lingua::WriteAnswer;
+use lingua::sizes::ROW_BYTES;
+use text::first;
+use text::hex::put_hex;
+use text::number::put_decimal;
+use text::put::put;
+use text::put::put_bytes;
+use text::report::put_refused_line;
+use text::sparse::put_cells;
+use text::sparse::put_words;
+
+// What a run that was made answers; `end` is 0 finished, 1 failed, 2 out.
+pub struct Ended {
+    pub end: u8,
+    pub error: u8,
+    pub place: u16,
+    pub steps: u16,
+}
+
+pub fn bad_case(out: &mut [u8]) -> usize {
+    put_bytes(out, 0, b"bad case\n")
+}
+
+// A refusal; `kept` is whether the lent buffers still hold what they held.
+fn refused(number: u8, kept: bool, out: &mut [u8]) -> usize {
+    if kept {
+        return put_refused_line(out, 0, number);
+    }
+    put_bytes(out, 0, b"changed\n")
+}
+
+fn put_field(out: &mut [u8], at: usize, n: u64) -> usize {
+    let end = put(out, at, b' ');
+    put_decimal(out, end, n)
+}
+
+pub fn run_line(
+    answer: RunAnswer,
+    kept: bool,
+    cells: &[i64],
+    states: &[u16],
+    out: &mut [u8],
+) -> usize {
+    match answer {
+        RunAnswer::Refused(number) => refused(number, kept, out),
+        RunAnswer::Finished { steps } => ended_line(
+            Ended {
+                end: 0,
+                error: 0,
+                place: 0,
+                steps,
+            },
+            cells,
+            states,
+            out,
+        ),
+        RunAnswer::Failed {
+            error,
+            place,
+            steps,
+        } => ended_line(
+            Ended {
+                end: 1,
+                error,
+                place,
+                steps,
+            },
+            cells,
+            states,
+            out,
+        ),
+        RunAnswer::Out {
+            error,
+            place,
+            steps,
+        } => ended_line(
+            Ended {
+                end: 2,
+                error,
+                place,
+                steps,
+            },
+            cells,
+            states,
+            out,
+        ),
+    }
+}
+
+fn put_ended(ended: Ended, out: &mut [u8]) -> usize {
+    let name = put_bytes(out, 0, b"run");
+    let end = put_field(out, name, ended.end as u64);
+    let error = put_field(out, end, ended.error as u64);
+    let place = put_field(out, error, ended.place as u64);
+    put_field(out, place, ended.steps as u64)
+}
+
+fn ended_line(ended: Ended, cells: &[i64], states: &[u16], out: &mut [u8]) -> usize {
+    let numbers = put_ended(ended, out);
+    let before = put_bytes(out, numbers, b" cells ");
+    let between = put_cells(out, before, cells);
+    let after = put_bytes(out, between, b" marks ");
+    let end = put_words(out, after, states);
+    put(out, end, b'\n')
+}
+
+pub fn check_line(answer: CheckAnswer, kept: bool, layout: &[u16], out: &mut [u8]) -> usize {
+    match answer {
+        CheckAnswer::Refused(number) => refused(number, kept, out),
+        CheckAnswer::Passed => passed_line(layout, out),
+        CheckAnswer::TypeError { error, place } => type_error_line(error, place, out),
+    }
+}
+
+fn passed_line(layout: &[u16], out: &mut [u8]) -> usize {
+    let at = put_bytes(out, 0, b"pass ");
+    let end = put_words(out, at, layout);
+    put(out, end, b'\n')
+}
+
+fn type_error_line(error: u8, place: u16, out: &mut [u8]) -> usize {
+    let name = put_bytes(out, 0, b"fault");
+    let between = put_field(out, name, error as u64);
+    let end = put_field(out, between, place as u64);
+    put(out, end, b'\n')
+}
+
+pub fn read_line(answer: ReadAnswer, kept: bool, rows: &[u8], out: &mut [u8]) -> usize {
+    match answer {
+        ReadAnswer::Refused(number) => refused(number, kept, out),
+        ReadAnswer::Rows { model, count } => rows_line(model, count, rows, out),
+    }
+}
+
+// Just the rows that are counted, without the zeros that fill the buffer.
+fn rows_line(model: u16, count: u16, rows: &[u8], out: &mut [u8]) -> usize {
+    let name = put_bytes(out, 0, b"rows");
+    let between = put_field(out, name, model as u64);
+    let after = put_field(out, between, count as u64);
+    let before = put(out, after, b' ');
+    let end = put_hex(out, before, first::bytes(rows, count as usize * ROW_BYTES));
+    put(out, end, b'\n')
+}
+
+pub fn write_line(answer: WriteAnswer, kept: bool, file: &[u8], out: &mut [u8]) -> usize {
+    match answer {
+        WriteAnswer::Refused(number) => refused(number, kept, out),
+        WriteAnswer::Written => file_line(file, out),
+    }
+}
+
+fn file_line(file: &[u8], out: &mut [u8]) -> usize {
+    let at = put_bytes(out, 0, b"file ");
+    let end = put_hex(out, at, file);
+    put(out, end, b'\n')
+}

@@ -1,0 +1,66 @@
+// The library's calls, one function for each. One whose call is not built yet answers `Missing`; to add the call, make it here.
+use lingua::CheckAnswer;
+use lingua::FileKind;
+use lingua::ReadAnswer;
+use lingua::RunAnswer;
+use lingua::WriteAnswer;
+
+pub enum ReadCalled {
+    Made(ReadAnswer),
+    Missing,
+}
+
+pub enum WriteCalled {
+    Made(WriteAnswer),
+    Missing,
+}
+
+pub enum CheckCalled {
+    Made(CheckAnswer),
+    Missing,
+}
+
+pub enum RunCalled {
+    Made(RunAnswer),
+    Missing,
+}
+
+pub fn read(kind: FileKind, file: &[u8], rows: &mut [u8]) -> ReadCalled {
+    ReadCalled::Missing
+}
+
+pub fn write(kind: FileKind, model: u16, rows: &[u8], file: &mut [u8]) -> WriteCalled {
+    WriteCalled::Missing
+}
+
+// Document 01: inspection.
+pub fn check_types(profile: &[u8], limits: &[u8], layout: &mut [u16]) -> CheckCalled {
+    CheckCalled::Missing
+}
+
+// Document 01: desk run.
+pub fn run_checked(
+    profile: &[u8],
+    limits: &[u8],
+    variables: &[u16],
+    numbers: &[i64],
+    budget: u16,
+    cells: &mut [i64],
+    states: &mut [u16],
+) -> RunCalled {
+    RunCalled::Missing
+}
+
+// Document 01: chair run.
+pub fn run_erased(
+    profile: &[u8],
+    limits: &[u8],
+    variables: &[u16],
+    numbers: &[i64],
+    budget: u16,
+    cells: &mut [i64],
+    states: &mut [u16],
+    layout: &mut [u16],
+) -> RunCalled {
+    RunCalled::Missing
+}

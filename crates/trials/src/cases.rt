@@ -1,0 +1,276 @@
+// A line taken apart, and the call that it asks for. Whatever is malformed is a bad case.
+ghost use Prim.Native.Nat.{_≤_};
+ghost use lib.ListN.{length};
+use crate::answers::bad_case;
+use crate::answers::check_line;
+use crate::answers::read_line;
+use crate::answers::run_line;
+use crate::answers::write_line;
+use crate::calls;
+use crate::calls::CheckCalled;
+use crate::calls::ReadCalled;
+use crate::calls::RunCalled;
+use crate::calls::WriteCalled;
+use crate::nonsense;
+use lingua::FileKind;
+use text::fields::count_fields;
+use text::fields::field;
+use text::fields::same;
+use text::first;
+use text::hex::decode;
+use text::parse::Count;
+use text::parse::Word;
+use text::parse::parse_inputs;
+use text::parse::parse_word;
+
+pub enum KindFound {
+    Of(FileKind),
+    Bad,
+}
+
+// The answer's line at the start of `out`, and its length.
+pub fn answer(line: &[u8], out: &mut [u8]) -> usize {
+    let kind = field(line, 0);
+    let count = count_fields(line);
+    if count == 3 {
+        if same(kind, b"inspect") {
+            return inspect_case(line, out);
+        }
+        if same(kind, b"read") {
+            return read_case(line, out);
+        }
+    }
+    if count == 4 {
+        if same(kind, b"write") {
+            return write_case(line, out);
+        }
+    }
+    if count == 5 {
+        if same(kind, b"desk") {
+            return run_case(line, true, out);
+        }
+        if same(kind, b"chair") {
+            return run_case(line, false, out);
+        }
+    }
+    bad_case(out)
+}
+
+fn file_kind(name: &[u8]) -> KindFound {
+    if same(name, b"p") {
+        return KindFound::Of(FileKind::Profile);
+    }
+    if same(name, b"l") {
+        return KindFound::Of(FileKind::Limits);
+    }
+    KindFound::Bad
+}
+
+// ---- read KIND FILE
+fn read_case(line: &[u8], out: &mut [u8]) -> usize {
+    let KindFound::Of(kind) = file_kind(field(line, 1)) else {
+        return bad_case(out);
+    };
+    let mut file = [0u8; 32768];
+    let Count::Of(n) = decode(field(line, 2), &mut file) else {
+        return bad_case(out);
+    };
+    read_file(kind, first::bytes(&file, n), out)
+}
+
+fn read_file(kind: FileKind, file: &[u8], out: &mut [u8]) -> usize {
+    let mut rows = [nonsense::BYTE; 8320];
+    match calls::read(kind, file, &mut rows) {
+        ReadCalled::Made(answer) => read_line(answer, nonsense::bytes_kept(&rows), &rows, out),
+        ReadCalled::Missing => bad_case(out),
+    }
+}
+
+// ---- write KIND MODEL ROWS
+fn write_case(line: &[u8], out: &mut [u8]) -> usize {
+    let KindFound::Of(kind) = file_kind(field(line, 1)) else {
+        return bad_case(out);
+    };
+    let Word::Of(model) = parse_word(field(line, 2)) else {
+        return bad_case(out);
+    };
+    let mut rows = [0u8; 32768];
+    let Count::Of(n) = decode(field(line, 3), &mut rows) else {
+        return bad_case(out);
+    };
+    write_rows(kind, model, first::bytes(&rows, n), out)
+}
+
+// The length of the file that holds so many bytes of rows: blocks of 50 rows, at least one, and one for limits.
+fn file_length(kind: FileKind, bytes: usize) -> usize
+    requires { ⌜ bytes ≤ 32768 ⌝ }
+    ensures { λ r. ⌜ r ≤ 33792 ⌝ }
+{
+    match kind {
+        FileKind::Limits => 512,
+        FileKind::Profile => {
+            let blocks = (bytes / 10 + 49) / 50;
+            if blocks == 0 { 512 } else { blocks * 512 }
+        }
+    }
+}
+
+fn write_rows(kind: FileKind, model: u16, rows: &[u8], out: &mut [u8]) -> usize
+    requires { ⌜ length (now rows) ≤ 32768 ⌝ }
+{
+    let mut buffer = [nonsense::BYTE; 33792];
+    write_sized(kind, model, rows, &mut buffer, out)
+}
+
+// The writer is lent just as much as the file takes.
+fn write_sized(kind: FileKind, model: u16, rows: &[u8], buffer: &mut [u8], out: &mut [u8]) -> usize
+    requires { ⌜ (length (now rows) ≤ 32768) × (33792 ≤ length (now buffer)) ⌝ }
+{
+    let size = file_length(kind, rows.len());
+    write_into(kind, model, rows, &mut buffer[..size], out)
+}
+
+fn write_into(kind: FileKind, model: u16, rows: &[u8], file: &mut [u8], out: &mut [u8]) -> usize {
+    match calls::write(kind, model, rows, file) {
+        WriteCalled::Made(answer) => write_line(answer, nonsense::bytes_kept(file), file, out),
+        WriteCalled::Missing => bad_case(out),
+    }
+}
+
+// ---- inspect PROFILE LIMITS
+fn inspect_case(line: &[u8], out: &mut [u8]) -> usize {
+    let mut profile = [0u8; 32768];
+    let Count::Of(p) = decode(field(line, 1), &mut profile) else {
+        return bad_case(out);
+    };
+    let mut limits = [0u8; 32768];
+    let Count::Of(l) = decode(field(line, 2), &mut limits) else {
+        return bad_case(out);
+    };
+    inspect(first::bytes(&profile, p), first::bytes(&limits, l), out)
+}
+
+fn inspect(profile: &[u8], limits: &[u8], out: &mut [u8]) -> usize {
+    let mut layout = [nonsense::WORD; 1024];
+    match calls::check_types(profile, limits, &mut layout) {
+        CheckCalled::Made(answer) => check_line(
+            answer,
+            nonsense::words_kept(&layout),
+            &layout,
+            out,
+        ),
+        CheckCalled::Missing => bad_case(out),
+    }
+}
+
+// ---- desk or chair PROFILE LIMITS READINGS BUDGET
+fn run_case(line: &[u8], checked: bool, out: &mut [u8]) -> usize {
+    let mut profile = [0u8; 32768];
+    let Count::Of(p) = decode(field(line, 1), &mut profile) else {
+        return bad_case(out);
+    };
+    let mut limits = [0u8; 32768];
+    let Count::Of(l) = decode(field(line, 2), &mut limits) else {
+        return bad_case(out);
+    };
+    run_files(
+        line,
+        checked,
+        first::bytes(&profile, p),
+        first::bytes(&limits, l),
+        out,
+    )
+}
+
+// A run takes at most 16 inputs. So where there are more than the 64 that find room, it refuses those 64 as it would all.
+fn run_files(line: &[u8], checked: bool, profile: &[u8], limits: &[u8], out: &mut [u8]) -> usize {
+    let mut variables = [0u16; 64];
+    let mut numbers = [0i64; 64];
+    let Count::Of(n) = parse_inputs(field(line, 3), &mut variables, &mut numbers) else {
+        return bad_case(out);
+    };
+    let Word::Of(budget) = parse_word(field(line, 4)) else {
+        return bad_case(out);
+    };
+    if checked {
+        return run_checked(
+            profile,
+            limits,
+            first::words(&variables, n),
+            first::numbers(&numbers, n),
+            budget,
+            out,
+        );
+    }
+    run_erased(
+        profile,
+        limits,
+        first::words(&variables, n),
+        first::numbers(&numbers, n),
+        budget,
+        out,
+    )
+}
+
+fn run_checked(
+    profile: &[u8],
+    limits: &[u8],
+    variables: &[u16],
+    numbers: &[i64],
+    budget: u16,
+    out: &mut [u8],
+) -> usize {
+    let mut cells = [nonsense::CELL; 1024];
+    let mut states = [nonsense::WORD; 32];
+    let called = calls::run_checked(
+        profile,
+        limits,
+        variables,
+        numbers,
+        budget,
+        &mut cells,
+        &mut states,
+    );
+    let kept = nonsense::cells_kept(&cells) && nonsense::words_kept(&states);
+    run_called(called, kept, &cells, &states, out)
+}
+
+fn run_erased(
+    profile: &[u8],
+    limits: &[u8],
+    variables: &[u16],
+    numbers: &[i64],
+    budget: u16,
+    out: &mut [u8],
+) -> usize {
+    let mut cells = [nonsense::CELL; 1024];
+    let mut states = [nonsense::WORD; 32];
+    let mut layout = [nonsense::WORD; 1024];
+    let called = calls::run_erased(
+        profile,
+        limits,
+        variables,
+        numbers,
+        budget,
+        &mut cells,
+        &mut states,
+        &mut layout,
+    );
+    let kept = nonsense::cells_kept(&cells)
+        && nonsense::words_kept(&states)
+        && nonsense::words_kept(&layout);
+    run_called(called, kept, &cells, &states, out)
+}
+
+fn run_called(
+    called: RunCalled,
+    kept: bool,
+    cells: &[i64],
+    states: &[u16],
+    out: &mut [u8],
+) -> usize {
+    match called {
+        RunCalled::Made(answer) => run_line(answer, kept, cells, states, out),
+        RunCalled::Missing => bad_case(out),
+    }
+}

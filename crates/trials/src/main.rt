@@ -1,0 +1,14 @@
+// The program `trials`: reads cases from standard input, one a line, and writes one answer line for each, in order.
+// The forms of the cases and of their answers are in docs/TRIALS.md.
+mod answers; // answers.rt: each call's answer as a line
+mod calls; // calls.rt: the library's calls
+mod cases; // cases.rt: a line taken apart, and the call that it asks for
+mod lines; // lines.rt: lines from standard input, answers to standard output
+mod nonsense; // nonsense.rt: what lent buffers hold before a call
+
+// A line of 65,535 bytes and its end fill the input whole. The longest answer has 1,024 cells of up to 26 bytes each.
+fn main() {
+    let mut input = [0u8; 65536];
+    let mut out = [0u8; 32768];
+    lines::serve(&mut input, &mut out);
+}

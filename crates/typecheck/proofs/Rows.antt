@@ -1,0 +1,58 @@
+-- What is known of accepted rows where the type check reads them, and what its calls ask. Assumes nothing.
+use mathlib.Core.Path.{_≡_, refl, sym, ap, _∙_, subst}
+use mathlib.Core.Bool.{true}
+use mathlib.Core.List.{List}
+use Prim.Native.Nat.{ℕ, zero, suc, _+_, _*_, _≤_, _<_}
+use native.Mathlib.Omega.{arith}
+use lib.Dec.{ltb}
+use lib.ListN.{length}
+use borrow.Author.Tests.{ltb-true}
+use Rattle.lingua.specs.Numbers.{expression-section, instruction-section}
+use Rattle.lingua.specs.Rows.{tableCount, instructionRow, yokeRoot}
+use Rattle.lingua.specs.Trees.{expressionTree, instructionTree}
+use Rattle.lingua.specs.References.{allBelow}
+use Rattle.safety.specs.Accepted.{AcceptedRows}
+use Rattle.safety.specs.Every.{Every, every-more, every-implies, all-true}
+use Rattle.rules.specs.declared.tables.Tables.{Tables}
+use Rattle.profile.specs.declared.row.ExpressionRow.{ExpressionRow as CodeRow}
+use Rattle.profile.specs.declared.row.InstructionRow.{InstructionRow as CodeInstruction}
+use Rattle.profile.specs.Row.{RowSays, instructionMeaning}
+use Rattle.profile.specs.Accepted.{counts}
+use Rattle.profile.specs.Facts.{RowFacts, row-facts, rowTree, row-tree, InstructionFacts, instruction-facts, instructionRowTree, instruction-row-tree}
+use Rattle.body.specs.Encode.{Held}
+use Rattle.typecheck.specs.Check.{Ready, Asked}
+
+-- ---- an expression row as the code has it
+module _ (rows : List ℕ) (accepted : AcceptedRows rows) (r : ℕ) (l : r < tableCount rows expression-section) (c d : CodeRow) (s : RowSays rows r c) (e : c ≡ d) where
+  pub facts-at : RowFacts rows r d
+  facts-at = subst (λ (x : CodeRow). RowFacts rows r x) e (row-facts rows accepted r l c s)
+
+  pub tree-at : expressionTree rows r ≡ rowTree rows r d
+  tree-at = row-tree rows r c s (row-facts rows accepted r l c s) ∙ ap (rowTree rows r) e
+
+-- ---- an instruction row
+module _ (rows : List ℕ) (accepted : AcceptedRows rows) (r : ℕ) (l : r < tableCount rows instruction-section) (c d : CodeInstruction) (s : instructionMeaning c ≡ instructionRow rows r) (e : c ≡ d) where
+  pub instruction-at : InstructionFacts rows r d
+  instruction-at = subst (λ (x : CodeInstruction). InstructionFacts rows r x) e (instruction-facts rows accepted r l c s)
+
+  pub instruction-tree-at : instructionTree rows r ≡ instructionRowTree rows r d
+  instruction-tree-at =
+      instruction-row-tree rows r c s (instruction-facts rows accepted r l c s) ∙ ap (instructionRowTree rows r) e
+
+-- a yoke that is there is at most the number of expression rows
+pub every-yoke : (n y : ℕ) → Every (λ k. k < n) (yokeRoot y) → y ≤ n
+unfolding yokeRoot
+every-yoke n zero h = omega arith
+every-yoke n (suc r) (every-more h k) = omega arith
+
+pub all-yoke : (n y : ℕ) → allBelow n (yokeRoot y) ≡ true → y ≤ n
+all-yoke n y e = every-yoke n y (every-implies (λ k q. ltb-true k n q) (all-true (λ k. ltb k n) (yokeRoot y) e))
+
+-- ---- what a call asks
+module _ {rows : List ℕ} {t : Tables} {bodies : List ℕ} {r : ℕ} {cur l : List ℕ} (h : Asked rows t bodies r cur l) where
+  pub asked-below : {a : ℕ} {cur' : List ℕ} (l' : List ℕ) → a < r → Held cur' → length l' ≡ length l → Asked rows t bodies a cur' l'
+  asked-below l' p k e =
+      record { ready = h .ready; here = let q = h .here in omega arith; held = k; room = e ∙ h .room }
+
+  pub asked-room : (l' : List ℕ) → length l' ≡ length l → 2 * r + 1 < length l'
+  asked-room l' e = omega (arith, e, h .room, h .here, counts rows (h .ready .accepted .counts) .expressions .most)

@@ -1,0 +1,75 @@
+-- What the code of the type check holds and gives. Assumes nothing: these are definitions.
+use mathlib.Core.Path.{_≡_}
+use mathlib.Core.List.{List}
+use Prim.Native.Nat.{ℕ, _+_, _*_, _≤_, _<_}
+use lib.ListN.{length, getD, set}
+use Rattle.lingua.specs.Numbers.{layout-length, body-cells, declaration-section, type-section, expression-section}
+use Rattle.lingua.specs.Outcome.{Outcome, ok, fail, Result}
+use Rattle.lingua.specs.Body.{Body, boolean, size}
+use Rattle.lingua.specs.Typing.{TypeError, Entry, Typed, Bodies, placed}
+use Rattle.lingua.specs.Rows.{tableCount, pairCount}
+use Rattle.lingua.specs.Trees.{tabulate, bodyOr, declaredBody}
+use Rattle.safety.specs.Accepted.{AcceptedRows}
+use Rattle.profile.specs.Types.{BodiesBelow}
+use Rattle.rules.specs.Tables.{AreTables}
+use Rattle.rules.specs.declared.tables.Tables.{Tables}
+use Rattle.body.specs.Encode.{Holds, Held}
+use Rattle.body.specs.declared.typed.Typed.{Typed as Half-typed}
+use Rattle.typecheck.specs.declared.leaves.Checked.{Checked}
+
+-- ---- what is given
+-- the variables' declared bodies; a number that is no variable's has the body of a Boolean
+unfoldable pub variableBodies : List ℕ → Bodies
+variableBodies rows n = getD (tabulate (pairCount rows declaration-section) (λ d. bodyOr (declaredBody rows d))) n boolean
+
+-- accepted rows, their tables, and the types' bodies
+pub record Ready (rows : List ℕ) (t : Tables) (bodies : List ℕ) : Type 0 where
+  pub accepted : AcceptedRows rows
+  pub tables : AreTables rows t
+  pub types : BodiesBelow rows bodies (tableCount rows type-section)
+
+-- what the check of an expression row asks
+pub record Asked (rows : List ℕ) (t : Tables) (bodies : List ℕ) (row : ℕ) (current layout : List ℕ) : Type 0 where
+  pub ready : Ready rows t bodies
+  pub here : row < tableCount rows expression-section
+  pub held : Held current
+  pub room : length layout ≡ layout-length
+
+-- ---- what it gives
+-- the row's two numbers are in the layout table
+pub record Noted (c : Checked) (row : ℕ) (body : List ℕ) (second : ℕ) (entry exit : List ℕ) : Type 0 where
+  pub passed : c .error ≡ 0
+  pub same : c .body ≡ body
+  pub layout : (b : Body) → Holds body b → exit ≡ set (set entry (2 * row) (size b)) (2 * row + 1) second
+
+-- the body, and the layout table with the entries in it
+pub record Passes (c : Checked) (entry exit : List ℕ) (t : Typed) : Type 0 where
+  pub passed : c .error ≡ 0
+  pub holds : Holds (c .body) (t .body)
+  pub layout : exit ≡ placed (t .entries) entry
+
+-- the type error; what the layout table then holds is not said
+pub record Fails (c : Checked) (e : TypeError) : Type 0 where
+  pub some-error : 1 ≤ e .error
+  pub error : c .error ≡ e .error
+  pub place : c .place ≡ e .place
+
+-- the code's answer is the definition's
+unfoldable pub Gives : Checked → List ℕ → List ℕ → Outcome TypeError Typed → Type 0
+Gives c entry exit (ok t) = Passes c entry exit t
+Gives c entry exit (fail e) = Fails c e
+
+-- an operation's half on bodies, with the layout table's second number
+pub record Half-passes (h : Half-typed) (b : Body) (second : ℕ) : Type 0 where
+  pub passed : h .error ≡ 0
+  pub holds : Holds (h .body) b
+  pub is-second : h .offset ≡ second
+  pub small : h .offset ≤ body-cells
+
+pub record Half-fails (h : Half-typed) (n : ℕ) : Type 0 where
+  pub some-error : 1 ≤ n
+  pub error : h .error ≡ n
+
+unfoldable pub Half : Half-typed → Result Body → (Body → ℕ) → Type 0
+Half h (ok b) second = Half-passes h b (second b)
+Half h (fail n) second = Half-fails h n

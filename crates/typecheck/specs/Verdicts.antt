@@ -1,0 +1,57 @@
+-- What the check of declarations and instructions gives. Assumes nothing: these are definitions.
+use mathlib.Core.Path.{_≡_}
+use mathlib.Core.List.{List}
+use Prim.Native.Nat.{ℕ, _+_, _≤_}
+use lib.ListN.{replicate}
+use Rattle.lingua.specs.Numbers.{layout-length, declaration-place}
+use Rattle.lingua.specs.Outcome.{Outcome, ok, fail, allAnswers, _>>=_}
+use Rattle.lingua.specs.Typing.{TypeError, Entry, checkYoke, checkInstruction, joined, placed, layoutOf}
+use Rattle.lingua.specs.Trees.{tabulate, yokeTree, instructionTree, bodyOr, declaredBody}
+use Rattle.lingua.specs.References.{declaredYoke}
+use Rattle.typecheck.specs.declared.verdicts.Verdict.{Verdict}
+use Rattle.typecheck.specs.Check.{variableBodies}
+
+-- no type error, and the entries are in the layout table
+pub record Settles-passed (v : Verdict) (entry exit : List ℕ) (es : List Entry) : Type 0 where
+  pub passed : v .error ≡ 0
+  pub layout : exit ≡ placed es entry
+
+-- the type error
+pub record Settles-failed (v : Verdict) (e : TypeError) : Type 0 where
+  pub some-error : 1 ≤ e .error
+  pub error : v .error ≡ e .error
+  pub place : v .place ≡ e .place
+
+unfoldable pub Settles : Verdict → List ℕ → List ℕ → Outcome TypeError (List Entry) → Type 0
+Settles v entry exit (ok es) = Settles-passed v entry exit es
+Settles v entry exit (fail e) = Settles-failed v e
+
+-- ---- one after the other
+-- f at 0 to n - 1: the first type error, or all entries
+unfoldable pub inOrder : ℕ → (ℕ → Outcome TypeError (List Entry)) → Outcome TypeError (List Entry)
+inOrder n f = do
+  ess ← allAnswers (tabulate n f)
+  ok (joined ess)
+
+-- declaration d: its yoke on its own declared body
+unfoldable pub declarationCheck : List ℕ → ℕ → Outcome TypeError (List Entry)
+declarationCheck rows d =
+    checkYoke (yokeTree rows (declaredYoke rows d)) (variableBodies rows) (bodyOr (declaredBody rows d)) (declaration-place + d)
+
+unfoldable pub instructionCheck : List ℕ → ℕ → Outcome TypeError (List Entry)
+instructionCheck rows r = checkInstruction (variableBodies rows) (instructionTree rows r)
+
+-- the whole check: a pass leaves the layout table of the entries, a type error leaves zeros
+pub record Concludes-passed (v : Verdict) (exit : List ℕ) (es : List Entry) : Type 0 where
+  pub passed : v .error ≡ 0
+  pub layout : exit ≡ layoutOf es
+
+pub record Concludes-failed (v : Verdict) (exit : List ℕ) (e : TypeError) : Type 0 where
+  pub some-error : 1 ≤ e .error
+  pub error : v .error ≡ e .error
+  pub place : v .place ≡ e .place
+  pub layout : exit ≡ replicate layout-length 0
+
+unfoldable pub Concludes : Verdict → List ℕ → Outcome TypeError (List Entry) → Type 0
+Concludes v exit (ok es) = Concludes-passed v exit es
+Concludes v exit (fail e) = Concludes-failed v exit e

@@ -1,0 +1,58 @@
+// What the walk does at one row: the body of a variable, and the row's note in the layout table.
+use body::walk::measure_body;
+use profile::types::type_body;
+use rules::fields::a_at;
+use rules::tables::Tables;
+ghost use mathlib.Core.Path.{_≡_};
+ghost use Prim.Native.Nat.{_+_, _*_, _≤_, _<_};
+ghost use lib.ListN.{length};
+ghost use Rattle.lingua.specs.Numbers.{declaration-section};
+ghost use Rattle.lingua.specs.Rows.{pairCount};
+ghost use Rattle.body.specs.Encode.{Holds, Held};
+ghost use Rattle.typecheck.specs.Check.{Ready, Noted, variableBodies};
+
+// What the check of an expression gives: the first type error and its place, or, with error 0, the body.
+pub struct Checked {
+    pub error: u8,
+    pub place: usize,
+    pub body: [u8; 96],
+}
+
+pub fn fault(error: u8, place: usize) -> Checked
+    ensures { λ r. ⌜ (r .error ≡ error) × (r .place ≡ place) ⌝ }
+{
+    Checked {
+        error: error,
+        place: place,
+        body: [0u8; 96],
+    }
+}
+
+// A variable's declared body is that of its declaration's type row.
+pub fn variable_body(rows: &[u8], tables: Tables, bodies: &[u8], n: usize) -> [u8; 96]
+    requires { ⌜ Ready (now rows) tables (now bodies) ⌝ }
+    requires { ⌜ n < pairCount (now rows) declaration-section ⌝ }
+    ensures { λ r. ⌜ Holds r (variableBodies (now (rows .entry)) n) ⌝ }
+{
+    let table = tables.declarations;
+    let i = table.start + (2 * n + 1);
+    let t = a_at(rows, i);
+    type_body(bodies, t)
+}
+
+// A row's result has so many cells; beside them stands the row's second number.
+pub fn noted(row: usize, body: [u8; 96], second: usize, layout: &mut [u16]) -> Checked
+    requires { ⌜ Held body ⌝ }
+    requires { ⌜ second ≤ 64 ⌝ }
+    requires { ⌜ 2 * row + 1 < length (now layout) ⌝ }
+    ensures { λ r. ⌜ Noted r row body second (now (layout .entry)) (now (layout .exit)) ⌝ }
+{
+    let m = measure_body(body);
+    layout[2 * row] = m.cells as u16;
+    layout[2 * row + 1] = second as u16;
+    Checked {
+        error: 0,
+        place: 0,
+        body: body,
+    }
+}

@@ -1,0 +1,178 @@
+// The check of tests, yokes, assignments and instructions: each its expression, and then what it asks of the body.
+use crate::leaves::variable_body;
+use crate::walk::check;
+use body::make::simple;
+use body::parts::same;
+use body::unary::is_boolean;
+use body::walk::BOOLEAN;
+use lingua::errors::BOOLEAN_EXPECTED;
+use lingua::errors::NO_COHERENCE;
+use lingua::errors::YOKE_EXPECTED;
+use lingua::sizes::INSTRUCTION_PLACE;
+use profile::row::InstructionRow;
+use profile::row::instruction_row;
+use rules::tables::Tables;
+ghost use mathlib.Core.Path.{_≡_};
+ghost use Prim.Native.Nat.{_+_, _≤_, _<_};
+ghost use lib.ListN.{length};
+ghost use Rattle.lingua.specs.Numbers.{layout-length, declaration-section, expression-section, instruction-section};
+ghost use Rattle.lingua.specs.Body.{Body};
+ghost use Rattle.lingua.specs.Expression.{assign};
+ghost use Rattle.lingua.specs.Rows.{tableCount, pairCount};
+ghost use Rattle.lingua.specs.Typing.{checkYoke, checkTest, checkInstruction};
+ghost use Rattle.lingua.specs.Trees.{expressionTree, yokeTree, instructionTree};
+ghost use Rattle.body.specs.Encode.{Holds, Held};
+ghost use Rattle.typecheck.specs.Check.{Ready, variableBodies};
+ghost use Rattle.typecheck.specs.Verdicts.{Settles};
+
+// The first type error and its place, or error 0.
+pub struct Verdict {
+    pub error: u8,
+    pub place: usize,
+}
+
+pub fn settled(error: u8, place: usize) -> Verdict
+    ensures { λ r. ⌜ (r .error ≡ error) × (r .place ≡ place) ⌝ }
+{
+    Verdict {
+        error: error,
+        place: place,
+    }
+}
+
+// A yoke as in the marks: 0 has no expression, and asks nothing.
+pub fn check_yoke(
+    rows: &[u8],
+    tables: Tables,
+    bodies: &[u8],
+    yoke: usize,
+    current: [u8; 96],
+    place: usize,
+    layout: &mut [u16],
+) -> Verdict
+    requires { ⌜ Ready (now rows) tables (now bodies) ⌝ }
+    requires { ⌜ yoke ≤ tableCount (now rows) expression-section ⌝ }
+    requires { ⌜ Held current ⌝ }
+    requires { ⌜ length (now layout) ≡ layout-length ⌝ }
+    ensures { λ r. ⌜ ((b : Body) → Holds current b → Settles r (now (layout .entry)) (now (layout .exit)) (checkYoke (yokeTree (now (rows .entry)) yoke) (variableBodies (now (rows .entry))) b place)) ⌝ }
+{
+    if yoke == 0 {
+        return settled(0, 0);
+    }
+    let x = check(rows, tables, bodies, yoke - 1, current, layout);
+    if x.error != 0 {
+        return settled(x.error, x.place);
+    }
+    let result = x.body;
+    if !is_boolean(result) {
+        return settled(YOKE_EXPECTED, place);
+    }
+    settled(0, 0)
+}
+
+// Outside yokes there is no current value; its body is that of a Boolean.
+fn check_test(
+    rows: &[u8],
+    tables: Tables,
+    bodies: &[u8],
+    e: usize,
+    place: usize,
+    layout: &mut [u16],
+) -> Verdict
+    requires { ⌜ Ready (now rows) tables (now bodies) ⌝ }
+    requires { ⌜ e < tableCount (now rows) expression-section ⌝ }
+    requires { ⌜ length (now layout) ≡ layout-length ⌝ }
+    ensures { λ r. ⌜ Settles r (now (layout .entry)) (now (layout .exit)) (checkTest (expressionTree (now (rows .entry)) e) (variableBodies (now (rows .entry))) place) ⌝ }
+{
+    let none = simple(BOOLEAN);
+    let x = check(rows, tables, bodies, e, none, layout);
+    if x.error != 0 {
+        return settled(x.error, x.place);
+    }
+    let result = x.body;
+    if !is_boolean(result) {
+        return settled(BOOLEAN_EXPECTED, place);
+    }
+    settled(0, 0)
+}
+
+// The expression, and then that its body is the variable's declared one.
+fn check_assignment(
+    rows: &[u8],
+    tables: Tables,
+    bodies: &[u8],
+    row: usize,
+    n: usize,
+    e: usize,
+    layout: &mut [u16],
+) -> Verdict
+    requires { ⌜ Ready (now rows) tables (now bodies) ⌝ }
+    requires { ⌜ row < 256 ⌝ }
+    requires { ⌜ n < pairCount (now rows) declaration-section ⌝ }
+    requires { ⌜ e < tableCount (now rows) expression-section ⌝ }
+    requires { ⌜ length (now layout) ≡ layout-length ⌝ }
+    ensures { λ r. ⌜ Settles r (now (layout .entry)) (now (layout .exit)) (checkInstruction (variableBodies (now (rows .entry))) (assign row n (expressionTree (now (rows .entry)) e))) ⌝ }
+{
+    let none = simple(BOOLEAN);
+    let x = check(rows, tables, bodies, e, none, layout);
+    if x.error != 0 {
+        return settled(x.error, x.place);
+    }
+    let declared = variable_body(rows, tables, bodies, n);
+    let given = x.body;
+    if !same(declared, given) {
+        return settled(NO_COHERENCE, INSTRUCTION_PLACE + row);
+    }
+    settled(0, 0)
+}
+
+// An instruction's own row; its parts are rows of their own.
+pub fn check_instruction(
+    rows: &[u8],
+    tables: Tables,
+    bodies: &[u8],
+    row: usize,
+    layout: &mut [u16],
+) -> Verdict
+    requires { ⌜ Ready (now rows) tables (now bodies) ⌝ }
+    requires { ⌜ row < tableCount (now rows) instruction-section ⌝ }
+    requires { ⌜ length (now layout) ≡ layout-length ⌝ }
+    ensures { λ r. ⌜ Settles r (now (layout .entry)) (now (layout .exit)) (checkInstruction (variableBodies (now (rows .entry))) (instructionTree (now (rows .entry)) row)) ⌝ }
+{
+    let table = tables.instructions;
+    let i = instruction_row(rows, table, row);
+    match i {
+        InstructionRow::Skip => settled(0, 0),
+        InstructionRow::Assign(n, e) => check_assignment(rows, tables, bodies, row, n, e, layout),
+        InstructionRow::SetYoke(n, y) => {
+            let declared = variable_body(rows, tables, bodies, n);
+            check_yoke(
+                rows,
+                tables,
+                bodies,
+                y,
+                declared,
+                INSTRUCTION_PLACE + row,
+                layout,
+            )
+        }
+        InstructionRow::Sequence(_, _) => settled(0, 0),
+        InstructionRow::Branch(e, _, _) => check_test(
+            rows,
+            tables,
+            bodies,
+            e,
+            INSTRUCTION_PLACE + row,
+            layout,
+        ),
+        InstructionRow::Loop(e, _) => check_test(
+            rows,
+            tables,
+            bodies,
+            e,
+            INSTRUCTION_PLACE + row,
+            layout,
+        ),
+        InstructionRow::Handle(_, _) => settled(0, 0),
+    }
+}
