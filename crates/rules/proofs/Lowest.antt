@@ -1,5 +1,5 @@
 -- The lowest rule that applies: rules stand in rising order, so the first that applies is the answer. Assumes nothing.
-use mathlib.Core.Path.{_≡_, refl, sym, _∙_}
+use mathlib.Core.Path.{_≡_, refl, sym, _∙_, ap}
 use mathlib.Core.Bool.{Bool, true, false, _&&_}
 use mathlib.Core.List.{List, [], _∷_}
 use mathlib.Core.Logic.{_⊎_, inl, inr, ⊎-elim}
@@ -161,3 +161,30 @@ later-profile f rows e = rw e
 pub later-limits : (f : File) (rows : List ℕ) → f ≡ limits → 0 ≡ lowest (later f rows)
 unfolding later lowest
 later-limits f rows e = rw e
+
+-- ---- the answer, by what each test said
+module _ (f : File) (rows : List ℕ) where
+  pub refused-6 : {a : Bool} → a ≡ formWrong f rows → a ≡ true → 6 ≡ lowest (rowRules f rows)
+  refused-6 ea p =
+      form-applies (formWrong f rows) (countWrong f rows) (nameWrong f rows) (constantWrong f rows) (later f rows) (later-above 6 f rows (omega arith)) (sym ea ∙ p)
+      ∙ ap lowest (sym (rules-are f rows))
+
+  pub refused-7 : {a b : Bool} → a ≡ formWrong f rows → b ≡ countWrong f rows → a ≡ false → b ≡ true → 7 ≡ lowest (rowRules f rows)
+  refused-7 ea eb p q =
+      count-applies (formWrong f rows) (countWrong f rows) (nameWrong f rows) (constantWrong f rows) (later f rows) (later-above 7 f rows (omega arith)) (sym ea ∙ p) (sym eb ∙ q)
+      ∙ ap lowest (sym (rules-are f rows))
+
+  pub refused-8 : {a b c : Bool} → a ≡ formWrong f rows → b ≡ countWrong f rows → c ≡ nameWrong f rows → a ≡ false → b ≡ false → c ≡ true → 8 ≡ lowest (rowRules f rows)
+  refused-8 ea eb ec p q r =
+      name-applies (formWrong f rows) (countWrong f rows) (nameWrong f rows) (constantWrong f rows) (later f rows) (later-above 8 f rows (omega arith)) (sym ea ∙ p) (sym eb ∙ q) (sym ec ∙ r)
+      ∙ ap lowest (sym (rules-are f rows))
+
+  pub refused-9 : {a b c d : Bool} → a ≡ formWrong f rows → b ≡ countWrong f rows → c ≡ nameWrong f rows → d ≡ constantWrong f rows → a ≡ false → b ≡ false → c ≡ false → d ≡ true → 9 ≡ lowest (rowRules f rows)
+  refused-9 ea eb ec ed p q r s =
+      constant-applies (formWrong f rows) (countWrong f rows) (nameWrong f rows) (constantWrong f rows) (later f rows) (later-above 9 f rows (omega arith)) (sym ea ∙ p) (sym eb ∙ q) (sym ec ∙ r) (sym ed ∙ s)
+      ∙ ap lowest (sym (rules-are f rows))
+
+  pub refused-later : {a b c d : Bool} → a ≡ formWrong f rows → b ≡ countWrong f rows → c ≡ nameWrong f rows → d ≡ constantWrong f rows → a ≡ false → b ≡ false → c ≡ false → d ≡ false → lowest (later f rows) ≡ lowest (rowRules f rows)
+  refused-later ea eb ec ed p q r s =
+      forms-pass (formWrong f rows) (countWrong f rows) (nameWrong f rows) (constantWrong f rows) (later f rows) (sym ea ∙ p) (sym eb ∙ q) (sym ec ∙ r) (sym ed ∙ s)
+      ∙ ap lowest (sym (rules-are f rows))

@@ -38,6 +38,15 @@ fn put_field(out: &mut [u8], at: usize, n: u64) -> usize {
     put_decimal(out, end, n)
 }
 
+fn ending(end: u8, error: u8, place: u16, steps: u16) -> Ended {
+    Ended {
+        end,
+        error,
+        place,
+        steps,
+    }
+}
+
 pub fn run_line(
     answer: RunAnswer,
     kept: bool,
@@ -47,47 +56,17 @@ pub fn run_line(
 ) -> usize {
     match answer {
         RunAnswer::Refused(number) => refused(number, kept, out),
-        RunAnswer::Finished { steps } => ended_line(
-            Ended {
-                end: 0,
-                error: 0,
-                place: 0,
-                steps,
-            },
-            cells,
-            states,
-            out,
-        ),
+        RunAnswer::Finished { steps } => ended_line(ending(0, 0, 0, steps), cells, states, out),
         RunAnswer::Failed {
             error,
             place,
             steps,
-        } => ended_line(
-            Ended {
-                end: 1,
-                error,
-                place,
-                steps,
-            },
-            cells,
-            states,
-            out,
-        ),
+        } => ended_line(ending(1, error, place, steps), cells, states, out),
         RunAnswer::Out {
             error,
             place,
             steps,
-        } => ended_line(
-            Ended {
-                end: 2,
-                error,
-                place,
-                steps,
-            },
-            cells,
-            states,
-            out,
-        ),
+        } => ended_line(ending(2, error, place, steps), cells, states, out),
     }
 }
 

@@ -26,11 +26,11 @@ pub enum RunCalled {
 }
 
 pub fn read(kind: FileKind, file: &[u8], rows: &mut [u8]) -> ReadCalled {
-    ReadCalled::Missing
+    ReadCalled::Made(format::read(kind, file, rows))
 }
 
 pub fn write(kind: FileKind, model: u16, rows: &[u8], file: &mut [u8]) -> WriteCalled {
-    WriteCalled::Missing
+    WriteCalled::Made(format::write(kind, model, rows, file))
 }
 
 // Document 01: inspection.
