@@ -4,3 +4,5 @@ pub mod Packing
 pub mod ConstantCells
 pub mod TypePlaces
 pub mod TypeRows
+pub mod Declaring
+pub mod Agreeing

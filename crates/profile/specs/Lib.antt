@@ -4,3 +4,4 @@ pub mod Constants
 pub mod Unrolled
 pub mod Facts
 pub mod Types
+pub mod Variables

@@ -35,7 +35,7 @@ pub fn write(kind: FileKind, model: u16, rows: &[u8], file: &mut [u8]) -> WriteC
 
 // Document 01: inspection.
 pub fn check_types(profile: &[u8], limits: &[u8], layout: &mut [u16]) -> CheckCalled {
-    CheckCalled::Missing
+    CheckCalled::Made(typecheck::call::check_types(profile, limits, layout))
 }
 
 // Document 01: desk run.

@@ -4,3 +4,5 @@ pub mod Offsets
 pub mod Returns
 pub mod Settling
 pub mod Wholes
+pub mod Answering
+pub mod Calling

@@ -3,22 +3,21 @@
 use mathlib.Core.Path.{_≡_, refl, sym, ap, _∙_, subst}
 use mathlib.Core.Bool.{Bool, true, false, not}
 use mathlib.Core.List.{List}
-use mathlib.Core.Option.{Option, some, none}
-use Prim.Native.Nat.{ℕ, _+_, _≤_, _<_}
+use Prim.Native.Nat.{ℕ, _+_, _≤_}
 use native.Mathlib.Omega.{arith}
 use lib.Dec.{eqb}
 use Rattle.lingua.specs.Numbers.{body-cells}
 use Rattle.lingua.specs.Errors.{attribute-present, no-such-attribute, no-coherence, body-too-large}
-use Rattle.lingua.specs.Outcome.{Outcome, ok, fail, Result, require, orFail, if_then_else_, _>>=_, _>>_}
+use Rattle.lingua.specs.Outcome.{ok, fail, Result, require, if_then_else_, _>>=_, _>>_}
 use Rattle.lingua.specs.Body.{Body, boolean, number, word, list-of, record-of, Attributes, end, attribute, size, sizes, sameBody, attributesOf, attributeBody, attributeOffset, insertAttribute, tooLarge}
 use Rattle.lingua.specs.Operation.{Unary, negation, make-record, select, make-list, top, pop, Binary, add, subtract, multiply, divide, less, equal, glue, expand, change, push, bounded, present, unaryBody, binaryBody}
-use Rattle.lingua.specs.Typing.{offsetAmong, offsetIn, unarySecond, binarySecond}
+use Rattle.lingua.specs.Typing.{offsetIn, unarySecond, binarySecond}
 use Rattle.laws.specs.Outcomes.{fail-is-ok, ok-same, required, asked}
 use Rattle.body.specs.Encode.{Holds}
 use Rattle.body.specs.declared.typed.Typed.{Typed as Half-typed}
-use Rattle.body.specs.Typed.{typed, Fit, Types, unaryOffset, binaryOffset, offsetAfter}
+use Rattle.body.specs.Typed.{typed, Fit, Types, unaryOffset, binaryOffset}
 use Rattle.body.specs.Typed as code
-use Rattle.typecheck.specs.Check.{Half-passes, Half-fails, Half}
+use Rattle.typecheck.specs.Check.{Half}
 
 -- ---- offsets
 attribute-within : (n : ℕ) (fs : Attributes) → attributeOffset n fs ≤ sizes fs

@@ -1,17 +1,15 @@
 -- A variable's declared body: the declaration's type row is there, and its body is held. Assumes nothing.
-use mathlib.Core.Path.{_≡_, refl, sym, ap, ap₂, _∙_, subst}
-use mathlib.Core.Bool.{Bool, true, false, _&&_, not}
-use mathlib.Core.List.{List, [], _∷_, _++_}
+use mathlib.Core.Path.{_≡_, sym, ap, _∙_, subst}
+use mathlib.Core.Bool.{Bool, true, _&&_}
+use mathlib.Core.List.{List}
 use Prim.Native.Nat.{ℕ, zero, suc, _+_, _-_, _*_, _≤_, _<_}
 use native.Mathlib.Omega.{arith}
-use lib.Dec.{eqb, ltb}
+use lib.Dec.{ltb}
 use lib.ListN.{length, getD}
-use borrow.Author.Tests.{eq-eqb, ne-eqb, eqb-true, eqb-false, ltb-true, not-false}
+use borrow.Author.Tests.{ltb-true, not-false}
 use Rattle.lingua.specs.Numbers.{most-types, declaration-section, type-section, expression-section, instruction-section}
-use Rattle.lingua.specs.Outcome.{if_then_else_}
-use Rattle.lingua.specs.Body.{Body, boolean, number, word, size, nodes, isBoolean}
-use Rattle.lingua.specs.Value.{pad, truth, whole, text, composite}
-use Rattle.lingua.specs.Rows.{kindAt, aAt, wideAt, numberAt, bytesAt, untilZero, rowIn, tableCount, pairCount, detailRow, constantKind, typeRow, yokeRoot}
+use Rattle.lingua.specs.Body.{Body, boolean}
+use Rattle.lingua.specs.Rows.{aAt, rowIn, tableCount, pairCount, detailRow, typeRow, yokeRoot}
 use Rattle.lingua.specs.Trees.{tabulateFrom, tabulate, typeBody, bodyOr, declaredBody}
 use Rattle.lingua.specs.Format.{everyBelow}
 use Rattle.lingua.specs.References.{allBelow, typeParts, declaredYoke, declarationRefers, expressionRefers, instructionRefers, referenceWrong}
@@ -20,7 +18,7 @@ use Rattle.safety.specs.Accepted.{AcceptedRows}
 use Rattle.safety.specs.Every.{below-true}
 use Rattle.rules.specs.declared.tables.Table.{Table}
 use Rattle.rules.specs.Tables.{IsTable}
-use Rattle.body.specs.Encode.{bytes, encoded, Holds, body-bytes}
+use Rattle.body.specs.Encode.{Holds}
 use Rattle.profile.specs.Types.{bodyAt, BodiesBelow}
 use Rattle.typecheck.specs.Check.{variableBodies}
 

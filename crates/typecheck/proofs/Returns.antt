@@ -1,24 +1,24 @@
 -- What the check of an expression row gives, for each way in which its function ends. Every value on the way is a variable here, and
 -- what its function ensures is a premise. Assumes nothing.
 use mathlib.Core.Path.{_≡_, refl, sym, ap, ap₂, _∙_, subst}
-use mathlib.Core.Bool.{Bool, true, false}
+use mathlib.Core.Bool.{true, false}
 use mathlib.Core.List.{List, [], _∷_, _++_}
-use Prim.Native.Nat.{ℕ, _+_, _*_, _≤_, _<_}
+use Prim.Native.Nat.{ℕ, _+_, _*_, _≤_}
 use native.Mathlib.Omega.{arith}
-use lib.ListN.{length, set}
+use lib.ListN.{set}
 use Rattle.lingua.specs.Numbers.{body-cells}
-use Rattle.lingua.specs.Errors.{boolean-expected, list-expected, no-coherence, yoke-expected}
-use Rattle.lingua.specs.Outcome.{Outcome, ok, fail, Result, require, orFail, _>>=_, _>>_}
-use Rattle.lingua.specs.Body.{Body, boolean, size, isBoolean, sameBody, elementBody}
+use Rattle.lingua.specs.Errors.{boolean-expected, no-coherence, yoke-expected}
+use Rattle.lingua.specs.Outcome.{Outcome, ok, fail, Result, _>>=_, _>>_}
+use Rattle.lingua.specs.Body.{Body, boolean, size, isBoolean, sameBody}
 use Rattle.lingua.specs.Value.{Composite}
 use Rattle.lingua.specs.Operation.{Unary, top, Binary, unaryBody, binaryBody}
 use Rattle.lingua.specs.Expression.{Connective, Expression, constant, variable, current, unary, binary, lazy, choice, all-list}
-use Rattle.lingua.specs.Typing.{TypeError, typeError, Entry, Typed, located, unarySecond, binarySecond, Bodies, check, placed}
+use Rattle.lingua.specs.Typing.{TypeError, typeError, Entry, Typed, unarySecond, binarySecond, Bodies, check, placed}
 use Rattle.laws.specs.Outcomes.{is-boolean}
 use Rattle.body.specs.Encode.{Holds, Held}
 use Rattle.typecheck.specs.declared.leaves.Checked.{Checked}
 use Rattle.body.specs.declared.typed.Typed.{Typed as Half-typed}
-use Rattle.typecheck.specs.Check.{Noted, Passes, Fails, Gives, Half-passes, Half-fails, Half}
+use Rattle.typecheck.specs.Check.{Noted, Passes, Gives, Half-passes, Half-fails, Half}
 
 -- ---- outcomes
 pub record Passed (c : Checked) (entry exit : List ℕ) (o : Outcome TypeError Typed) : Type 0 where

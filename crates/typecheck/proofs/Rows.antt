@@ -1,5 +1,5 @@
 -- What is known of accepted rows where the type check reads them, and what its calls ask. Assumes nothing.
-use mathlib.Core.Path.{_≡_, refl, sym, ap, _∙_, subst}
+use mathlib.Core.Path.{_≡_, ap, _∙_, subst}
 use mathlib.Core.Bool.{true}
 use mathlib.Core.List.{List}
 use Prim.Native.Nat.{ℕ, zero, suc, _+_, _*_, _≤_, _<_}
@@ -20,7 +20,7 @@ use Rattle.profile.specs.Row.{RowSays, instructionMeaning}
 use Rattle.profile.specs.Accepted.{counts}
 use Rattle.profile.specs.Facts.{RowFacts, row-facts, rowTree, row-tree, InstructionFacts, instruction-facts, instructionRowTree, instruction-row-tree}
 use Rattle.body.specs.Encode.{Held}
-use Rattle.typecheck.specs.Check.{Ready, Asked}
+use Rattle.typecheck.specs.Check.{Asked}
 
 -- ---- an expression row as the code has it
 module _ (rows : List ℕ) (accepted : AcceptedRows rows) (r : ℕ) (l : r < tableCount rows expression-section) (c d : CodeRow) (s : RowSays rows r c) (e : c ≡ d) where
@@ -56,3 +56,6 @@ module _ {rows : List ℕ} {t : Tables} {bodies : List ℕ} {r : ℕ} {cur l : L
 
   pub asked-room : (l' : List ℕ) → length l' ≡ length l → 2 * r + 1 < length l'
   asked-room l' e = omega (arith, e, h .room, h .here, counts rows (h .ready .accepted .counts) .expressions .most)
+
+  pub asked-small : r < 65536
+  asked-small = omega (arith, h .here, counts rows (h .ready .accepted .counts) .expressions .most)

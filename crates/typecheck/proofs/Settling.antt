@@ -1,27 +1,23 @@
 -- What yokes, tests, assignments and whole lists of them give, for each way in which their functions end. Assumes nothing.
-use mathlib.Core.Path.{_≡_, refl, sym, ap, ap₂, _∙_, subst}
-use mathlib.Core.Bool.{Bool, true, false}
-use mathlib.Core.List.{List, [], _∷_, _++_, append-assoc, append-nil, map}
+use mathlib.Core.Path.{_≡_, refl, sym, ap, _∙_}
+use mathlib.Core.Bool.{true, false}
+use mathlib.Core.List.{List, [], _∷_, _++_, append-assoc, append-nil}
 use Prim.Native.Nat.{ℕ, zero, suc, _+_, _-_, _≤_, _<_}
 use native.Mathlib.Numerals.{add-one}
 use native.Mathlib.Omega.{arith}
-use lib.ListN.{length, getD, replicate}
-use Rattle.lingua.specs.Numbers.{layout-length, instruction-place, declaration-place, declaration-section, instruction-section}
+use Rattle.lingua.specs.Numbers.{instruction-place}
 use Rattle.lingua.specs.Errors.{boolean-expected, no-coherence, yoke-expected}
-use Rattle.lingua.specs.Outcome.{Outcome, ok, fail, require, allAnswers, _>>=_, _>>_}
+use Rattle.lingua.specs.Outcome.{Outcome, ok, fail, allAnswers, _>>=_, _>>_}
 use Rattle.lingua.specs.Body.{Body, boolean, size, nodes, isBoolean, sameBody}
 use Rattle.lingua.specs.Value.{pad}
-use Rattle.lingua.specs.Expression.{Expression, Yoke, always, yoke, Instruction, assign}
-use Rattle.lingua.specs.Run.{Declaration, Profile}
-use Rattle.lingua.specs.Rows.{tableCount, pairCount, bAt, detailRow}
-use Rattle.lingua.specs.Trees.{tabulateFrom, tabulate, expressionTree, yokeTree, instructionTree, bodyOr, declaredBody, declarationAt, profileOf}
-use Rattle.lingua.specs.References.{declaredYoke}
-use Rattle.lingua.specs.Typing.{TypeError, typeError, Entry, Typed, Bodies, check, checkYoke, checkTest, checkInstruction, checkDeclarations, checkProfile, bodiesOf, no-current-body, joined, placed, layoutOf}
+use Rattle.lingua.specs.Expression.{Expression, yoke, assign}
+use Rattle.lingua.specs.Trees.{tabulateFrom, tabulate, expressionTree, yokeTree}
+use Rattle.lingua.specs.Typing.{TypeError, typeError, Entry, Typed, Bodies, check, checkYoke, checkTest, checkInstruction, joined, placed}
 use Rattle.body.specs.Encode.{bytes, encoded, Holds, body-bytes}
 use Rattle.typecheck.specs.declared.leaves.Checked.{Checked}
 use Rattle.typecheck.specs.declared.verdicts.Verdict.{Verdict}
-use Rattle.typecheck.specs.Check.{Passes, Fails, Gives, variableBodies}
-use Rattle.typecheck.specs.Verdicts.{Settles-passed, Settles-failed, Settles, inOrder, declarationCheck, instructionCheck, Concludes-passed, Concludes-failed, Concludes}
+use Rattle.typecheck.specs.Check.{Gives}
+use Rattle.typecheck.specs.Verdicts.{Settles-failed, Settles, inOrder}
 use Rattle.typecheck.proofs.Returns.{Passed, passed, placed-append}
 
 -- the body that stands for no current value

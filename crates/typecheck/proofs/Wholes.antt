@@ -1,22 +1,21 @@
 -- The whole check by its two lists, and how it ends. Assumes nothing.
-use mathlib.Core.Path.{_≡_, refl, sym, ap, ap₂, _∙_, subst, fun-ext}
-use mathlib.Core.List.{List, [], _∷_, _++_, map, append-nil}
-use Prim.Native.Nat.{ℕ, zero, suc, _+_, _≤_, _<_}
+use mathlib.Core.Path.{_≡_, refl, sym, ap, ap₂, _∙_, fun-ext}
+use mathlib.Core.List.{List, _∷_, _++_, map, append-nil}
+use Prim.Native.Nat.{ℕ, zero, suc, _+_}
 use native.Mathlib.Omega.{arith}
 use lib.ListN.{length, getD, replicate, drop}
 use lib.Seq.{drop-length}
-use Rattle.lingua.specs.Numbers.{layout-length, declaration-place, declaration-section, instruction-section}
+use Rattle.lingua.specs.Numbers.{layout-length, declaration-section, instruction-section}
 use Rattle.lingua.specs.Outcome.{Outcome, ok, fail, allAnswers, _>>=_}
 use Rattle.lingua.specs.Body.{Body, boolean}
-use Rattle.lingua.specs.Expression.{Instruction}
-use Rattle.lingua.specs.Run.{Declaration, Profile}
+use Rattle.lingua.specs.Run.{Declaration}
 use Rattle.lingua.specs.Rows.{tableCount, pairCount}
-use Rattle.lingua.specs.Trees.{tabulateFrom, tabulate, instructionTree, bodyOr, declaredBody, declarationAt, profileOf}
+use Rattle.lingua.specs.Trees.{tabulateFrom, tabulate, instructionTree, declarationAt, profileOf}
 use Rattle.lingua.specs.References.{declaredYoke}
 use Rattle.lingua.specs.Typing.{TypeError, Entry, Bodies, checkInstruction, checkDeclarations, checkProfile, bodiesOf, joined, placed, layoutOf}
 use Rattle.typecheck.specs.declared.verdicts.Verdict.{Verdict}
 use Rattle.typecheck.specs.Check.{variableBodies}
-use Rattle.typecheck.specs.Verdicts.{Settles-passed, Settles-failed, Settles, inOrder, declarationCheck, instructionCheck, Concludes-passed, Concludes-failed, Concludes}
+use Rattle.typecheck.specs.Verdicts.{Settles, inOrder, declarationCheck, instructionCheck, Concludes}
 use Rattle.typecheck.proofs.Returns.{placed-append}
 use Rattle.typecheck.proofs.Settling.{Settled, settled}
 

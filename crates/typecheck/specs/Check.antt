@@ -6,7 +6,7 @@ use lib.ListN.{length, getD, set}
 use Rattle.lingua.specs.Numbers.{layout-length, body-cells, declaration-section, type-section, expression-section}
 use Rattle.lingua.specs.Outcome.{Outcome, ok, fail, Result}
 use Rattle.lingua.specs.Body.{Body, boolean, size}
-use Rattle.lingua.specs.Typing.{TypeError, Entry, Typed, Bodies, placed}
+use Rattle.lingua.specs.Typing.{TypeError, Typed, Bodies, placed}
 use Rattle.lingua.specs.Rows.{tableCount, pairCount}
 use Rattle.lingua.specs.Trees.{tabulate, bodyOr, declaredBody}
 use Rattle.safety.specs.Accepted.{AcceptedRows}

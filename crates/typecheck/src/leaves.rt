@@ -14,16 +14,17 @@ ghost use Rattle.typecheck.specs.Check.{Ready, Noted, variableBodies};
 // What the check of an expression gives: the first type error and its place, or, with error 0, the body.
 pub struct Checked {
     pub error: u8,
-    pub place: usize,
+    pub place: u16,
     pub body: [u8; 96],
 }
 
 pub fn fault(error: u8, place: usize) -> Checked
+    requires { ⌜ place < 65536 ⌝ }
     ensures { λ r. ⌜ (r .error ≡ error) × (r .place ≡ place) ⌝ }
 {
     Checked {
         error: error,
-        place: place,
+        place: place as u16,
         body: [0u8; 96],
     }
 }

@@ -9,7 +9,7 @@ use lingua::errors::BOOLEAN_EXPECTED;
 use lingua::errors::NO_COHERENCE;
 use lingua::errors::YOKE_EXPECTED;
 use lingua::sizes::INSTRUCTION_PLACE;
-use profile::row::InstructionRow;
+use profile::row::InstructionRow as Row;
 use profile::row::instruction_row;
 use rules::tables::Tables;
 ghost use mathlib.Core.Path.{_≡_};
@@ -28,10 +28,10 @@ ghost use Rattle.typecheck.specs.Verdicts.{Settles};
 // The first type error and its place, or error 0.
 pub struct Verdict {
     pub error: u8,
-    pub place: usize,
+    pub place: u16,
 }
 
-pub fn settled(error: u8, place: usize) -> Verdict
+pub fn settled(error: u8, place: u16) -> Verdict
     ensures { λ r. ⌜ (r .error ≡ error) × (r .place ≡ place) ⌝ }
 {
     Verdict {
@@ -47,7 +47,7 @@ pub fn check_yoke(
     bodies: &[u8],
     yoke: usize,
     current: [u8; 96],
-    place: usize,
+    place: u16,
     layout: &mut [u16],
 ) -> Verdict
     requires { ⌜ Ready (now rows) tables (now bodies) ⌝ }
@@ -76,7 +76,7 @@ fn check_test(
     tables: Tables,
     bodies: &[u8],
     e: usize,
-    place: usize,
+    place: u16,
     layout: &mut [u16],
 ) -> Verdict
     requires { ⌜ Ready (now rows) tables (now bodies) ⌝ }
@@ -121,7 +121,7 @@ fn check_assignment(
     let declared = variable_body(rows, tables, bodies, n);
     let given = x.body;
     if !same(declared, given) {
-        return settled(NO_COHERENCE, INSTRUCTION_PLACE + row);
+        return settled(NO_COHERENCE, (INSTRUCTION_PLACE + row) as u16);
     }
     settled(0, 0)
 }
@@ -139,40 +139,19 @@ pub fn check_instruction(
     requires { ⌜ length (now layout) ≡ layout-length ⌝ }
     ensures { λ r. ⌜ Settles r (now (layout .entry)) (now (layout .exit)) (checkInstruction (variableBodies (now (rows .entry))) (instructionTree (now (rows .entry)) row)) ⌝ }
 {
+    let place = (INSTRUCTION_PLACE + row) as u16;
     let table = tables.instructions;
     let i = instruction_row(rows, table, row);
     match i {
-        InstructionRow::Skip => settled(0, 0),
-        InstructionRow::Assign(n, e) => check_assignment(rows, tables, bodies, row, n, e, layout),
-        InstructionRow::SetYoke(n, y) => {
+        Row::Skip => settled(0, 0),
+        Row::Assign(n, e) => check_assignment(rows, tables, bodies, row, n, e, layout),
+        Row::SetYoke(n, y) => {
             let declared = variable_body(rows, tables, bodies, n);
-            check_yoke(
-                rows,
-                tables,
-                bodies,
-                y,
-                declared,
-                INSTRUCTION_PLACE + row,
-                layout,
-            )
+            check_yoke(rows, tables, bodies, y, declared, place, layout)
         }
-        InstructionRow::Sequence(_, _) => settled(0, 0),
-        InstructionRow::Branch(e, _, _) => check_test(
-            rows,
-            tables,
-            bodies,
-            e,
-            INSTRUCTION_PLACE + row,
-            layout,
-        ),
-        InstructionRow::Loop(e, _) => check_test(
-            rows,
-            tables,
-            bodies,
-            e,
-            INSTRUCTION_PLACE + row,
-            layout,
-        ),
-        InstructionRow::Handle(_, _) => settled(0, 0),
+        Row::Sequence(_, _) => settled(0, 0),
+        Row::Branch(e, _, _) => check_test(rows, tables, bodies, e, place, layout),
+        Row::Loop(e, _) => check_test(rows, tables, bodies, e, place, layout),
+        Row::Handle(_, _) => settled(0, 0),
     }
 }

@@ -15,7 +15,7 @@ use lingua::errors::YOKE_EXPECTED;
 use lingua::operations::BinaryOperation;
 use lingua::operations::UnaryOperation;
 use profile::constants::constant_body;
-use profile::row::ExpressionRow;
+use profile::row::ExpressionRow as Row;
 use profile::row::expression_row;
 use rules::tables::Tables;
 ghost use Prim.Native.Nat.{_<_};
@@ -42,40 +42,20 @@ pub fn check(
     let table = tables.expressions;
     let e = expression_row(rows, table, row);
     match e {
-        ExpressionRow::Constant => {
+        Row::Constant => {
             let body = constant_body(rows, table, row);
             noted(row, body, 0, layout)
         }
-        ExpressionRow::Variable(n) => {
+        Row::Variable(n) => {
             let body = variable_body(rows, tables, bodies, n);
             noted(row, body, 0, layout)
         }
-        ExpressionRow::Current => noted(row, current, 0, layout),
-        ExpressionRow::Unary(o, a) => unary(rows, tables, bodies, row, o, a, current, layout),
-        ExpressionRow::Binary(o, a, b) => binary(
-            rows,
-            tables,
-            bodies,
-            row,
-            o,
-            a,
-            b,
-            current,
-            layout,
-        ),
-        ExpressionRow::Lazy(_, a, b) => lazy(rows, tables, bodies, row, a, b, current, layout),
-        ExpressionRow::Choice(a, b, c) => choice(
-            rows,
-            tables,
-            bodies,
-            row,
-            a,
-            b,
-            c,
-            current,
-            layout,
-        ),
-        ExpressionRow::AllList(a) => all_list(rows, tables, bodies, row, a, current, layout),
+        Row::Current => noted(row, current, 0, layout),
+        Row::Unary(o, a) => unary(rows, tables, bodies, row, o, a, current, layout),
+        Row::Binary(o, a, b) => binary(rows, tables, bodies, row, o, a, b, current, layout),
+        Row::Lazy(_, a, b) => lazy(rows, tables, bodies, row, a, b, current, layout),
+        Row::Choice(a, b, c) => choice(rows, tables, bodies, row, a, b, c, current, layout),
+        Row::AllList(a) => all_list(rows, tables, bodies, row, a, current, layout),
     }
 }
 

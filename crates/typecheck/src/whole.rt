@@ -35,15 +35,8 @@ fn check_declaration(
     let i = table.start + (2 * d + 1);
     let yoke = b_at(rows, i);
     let declared = variable_body(rows, tables, bodies, d);
-    check_yoke(
-        rows,
-        tables,
-        bodies,
-        yoke,
-        declared,
-        DECLARATION_PLACE + d,
-        layout,
-    )
+    let place = (DECLARATION_PLACE + d) as u16;
+    check_yoke(rows, tables, bodies, yoke, declared, place, layout)
 }
 
 fn check_declarations(rows: &[u8], tables: Tables, bodies: &[u8], layout: &mut [u16]) -> Verdict

@@ -1,5 +1,4 @@
 -- `typecheck::halves::unary_half` meets its contract: `unary-is` at each operation. Assumes nothing.
-use denote.Ref.{now}
 use borrow.Author.Needs.{needs}
 use Rattle.lingua.specs.Operation.{negation, make-record, select, make-list, top, pop}
 use Rattle.lingua.specs.Operations.{unaryMeaning}

@@ -1,6 +1,6 @@
 -- `typecheck::leaves::variable_body` meets its contract: `variable-holds`. Assumes nothing.
 use denote.Ref.{now}
-use mathlib.Core.Path.{_≡_, sym, ap, subst, _∙_}
+use mathlib.Core.Path.{sym, ap, subst, _∙_}
 use Prim.Native.Nat.{ℕ, _<_}
 use native.Mathlib.Omega.{arith}
 use Rattle.lingua.specs.Numbers.{type-section}

@@ -1,5 +1,6 @@
 -- `typecheck::verdicts::check_assignment` meets its contract: its ways out are the laws of Settling on assignments. Assumes nothing.
 use mathlib.Core.Path.{sym, _∙_}
+use native.Mathlib.Omega.{arith}
 use borrow.Author.Tests.{not-true, not-false}
 use Rattle.lingua.specs.Body.{boolean}
 use Rattle.typecheck.proofs.Returns.{passed}
@@ -31,6 +32,9 @@ same-requires c κs = search needs
 
 add-settled : tie.Need-add-settled
 add-settled c = search needs
+
+cast-settled : tie.Need-cast-settled
+cast-settled c = omega (arith, c .before .before .before .before .before .before .before .before .before .before .before .before .before .before .pre .1 .0)
 
 settled-requires-2 : tie.Need-settled-requires-2
 settled-requires-2 c κs = search needs
@@ -66,6 +70,7 @@ check-assignment-spec =
     variable-body-requires
     same-requires
     add-settled
+    cast-settled
     settled-requires-2
     same-length-2
     returns-2

@@ -10,6 +10,12 @@ use borrow.Author.Needs.{needs}
 use Rattle.typecheck.proofs.verdicts.check_instruction.Statement.{statement}
 use Rattle.typecheck.proofs.verdicts.check_instruction.Tie as tie
 
+add-place : tie.Need-add-place
+add-place c = search needs
+
+cast-place : tie.Need-cast-place
+cast-place c = omega (arith, c .before .before .before .pre .1 .0, counts (now (c .before .before .before .args .rows)) (c .before .before .before .pre .0 .accepted .counts) .instructions .most)
+
 instruction-row-requires : tie.Need-instruction-row-requires
 instruction-row-requires c κs = search needs
 
@@ -35,9 +41,6 @@ variable-body-requires : tie.Need-variable-body-requires
 unfolding InstructionFacts
 variable-body-requires c κs = (c .before .before .before .before .before .before .before .before .pre .0, instruction-at (now (c .before .before .before .before .before .before .before .before .args .rows)) (c .before .before .before .before .before .before .before .before .pre .0 .accepted) (c .before .before .before .before .before .before .before .before .args .row) (c .before .before .before .before .before .before .before .before .pre .1 .0) _ _ (c .before .before .before .instruction-row .ensures) (c .before .i2 .given .1) .0)
 
-add-check-yoke : tie.Need-add-check-yoke
-add-check-yoke c = search needs
-
 check-yoke-requires : tie.Need-check-yoke-requires
 unfolding InstructionFacts
 check-yoke-requires c κs =
@@ -53,18 +56,12 @@ settled-requires-2 c κs = search needs
 enum-known-i-3 : tie.Need-enum-known-i-3
 enum-known-i-3 c = search needs
 
-add-check-test : tie.Need-add-check-test
-add-check-test c = search needs
-
 check-test-requires : tie.Need-check-test-requires
 unfolding InstructionFacts
 check-test-requires c κs = (c .before .before .before .before .before .before .before .before .before .pre .0, (instruction-at (now (c .before .before .before .before .before .before .before .before .before .args .rows)) (c .before .before .before .before .before .before .before .before .before .pre .0 .accepted) (c .before .before .before .before .before .before .before .before .before .args .row) (c .before .before .before .before .before .before .before .before .before .pre .1 .0) _ _ (c .before .before .before .before .instruction-row .ensures) (c .before .before .i3 .given .1) .0, c .before .before .before .before .before .before .before .before .before .pre .1 .1))
 
 enum-known-i-4 : tie.Need-enum-known-i-4
 enum-known-i-4 c = search needs
-
-add-check-test-2 : tie.Need-add-check-test-2
-add-check-test-2 c = search needs
 
 check-test-requires-2 : tie.Need-check-test-requires-2
 unfolding InstructionFacts
@@ -120,6 +117,8 @@ pub check-instruction-spec : {M : Type 1} → statement M
 check-instruction-spec =
     tie.close
     (tie.spec
+    add-place
+    cast-place
     instruction-row-requires
     enum-told
     settled-requires
@@ -127,15 +126,12 @@ check-instruction-spec =
     check-assignment-requires
     enum-known-i-2
     variable-body-requires
-    add-check-yoke
     check-yoke-requires
     enum-told-2
     settled-requires-2
     enum-known-i-3
-    add-check-test
     check-test-requires
     enum-known-i-4
-    add-check-test-2
     check-test-requires-2
     enum-told-3
     settled-requires-3

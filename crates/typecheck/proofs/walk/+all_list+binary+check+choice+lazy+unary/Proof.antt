@@ -10,7 +10,7 @@ use borrow.Author.Tests.{not-true, not-false}
 use Rattle.lingua.specs.Operations.{unaryMeaning}
 use Rattle.profile.specs.Accepted.{expression-attributes}
 use Rattle.profile.specs.Facts.{RowFacts, rowTree}
-use Rattle.typecheck.proofs.Rows.{facts-at, tree-at, asked-below, asked-room}
+use Rattle.typecheck.proofs.Rows.{facts-at, tree-at, asked-below, asked-room, asked-small}
 use Rattle.typecheck.proofs.Returns.{Passed, passed, result-held, half-held, half-small, constant-passes, variable-passes, current-passes, unary-operand, unary-own, unary-passes, binary-first, binary-second, binary-own, binary-passes, lazy-first, lazy-first-own, lazy-second, lazy-second-own, lazy-passes, choice-test, choice-test-own, choice-first, choice-second, choice-own, choice-passes, all-list-own, element-of, all-list-inner, all-list-result, all-list-passes}
 use Prim.Native.Nat.{ℕ, _<_}
 use borrow.Fn.Kinds.{In}
@@ -123,7 +123,7 @@ all-list-unary-half-requires : (t : ℕ) → all-list-lts.Need-unary-half-requir
 all-list-unary-half-requires t c κs = c .before .before .before .pre .1 .0 .held
 
 all-list-fault-requires : (t : ℕ) → all-list-lts.Need-fault-requires (all-list-calls t) (all-list-at t) all-list.Post
-all-list-fault-requires t c κs = search needs
+all-list-fault-requires t c κs = asked-small (c .before .before .before .before .before .before .pre .1 .0)
 
 all-list-returns : (t : ℕ) → all-list-lts.Need-returns (all-list-calls t) (all-list-at t) all-list.Post
 unfolding unaryMeaning
@@ -148,7 +148,7 @@ all-list-is-boolean-requires : (t : ℕ) → all-list-lts.Need-is-boolean-requir
 all-list-is-boolean-requires t c κs = search needs
 
 all-list-fault-requires-2 : (t : ℕ) → all-list-lts.Need-fault-requires-2 (all-list-calls t) (all-list-at t) all-list.Post
-all-list-fault-requires-2 t c κs = search needs
+all-list-fault-requires-2 t c κs = asked-small (c .before .before .before .before .before .before .before .before .before .before .before .before .before .before .before .before .pre .1 .0)
 
 all-list-same-length-2 : (t : ℕ) → all-list-lts.Need-same-length-2 (all-list-calls t) (all-list-at t) all-list.Post
 all-list-same-length-2 t c = search needs
@@ -206,7 +206,7 @@ binary-binary-half-requires : (t : ℕ) → binary-lts.Need-binary-half-requires
 binary-binary-half-requires t c κs = (result-held _ _ _ _ (c .before .before .before .before .before .before .before .before .before .before .before .before .check .ensures _ (c .before .before .before .before .before .before .before .before .before .before .before .before .before .before .before .before .before .pre .1 .0 .held .holds)) (c .before .before .before .before .before .before .before .before .if1 .left), result-held _ _ _ _ (c .before .before .before .before .before .before .check2 .ensures _ (c .before .before .before .before .before .before .before .before .before .before .before .before .before .before .before .before .before .pre .1 .0 .held .holds)) (c .before .before .if2 .left))
 
 binary-fault-requires : (t : ℕ) → binary-lts.Need-fault-requires (binary-calls t) (binary-at t) binary.Post
-binary-fault-requires t c κs = search needs
+binary-fault-requires t c κs = asked-small (c .before .before .before .before .before .before .before .before .before .before .before .before .before .before .before .before .before .before .before .before .pre .1 .0)
 
 binary-same-length-3 : (t : ℕ) → binary-lts.Need-same-length-3 (binary-calls t) (binary-at t) binary.Post
 binary-same-length-3 t c = search needs
@@ -371,7 +371,7 @@ choice-is-boolean-requires : (t : ℕ) → choice-lts.Need-is-boolean-requires (
 choice-is-boolean-requires t c κs = search needs
 
 choice-fault-requires : (t : ℕ) → choice-lts.Need-fault-requires (choice-calls t) (choice-at t) choice.Post
-choice-fault-requires t c κs = search needs
+choice-fault-requires t c κs = asked-small (c .before .before .before .before .before .before .before .before .before .before .before .before .pre .1 .0)
 
 choice-same-length-2 : (t : ℕ) → choice-lts.Need-same-length-2 (choice-calls t) (choice-at t) choice.Post
 choice-same-length-2 t c = search needs
@@ -408,7 +408,7 @@ choice-same-requires : (t : ℕ) → choice-lts.Need-same-requires (choice-calls
 choice-same-requires t c κs = search needs
 
 choice-fault-requires-2 : (t : ℕ) → choice-lts.Need-fault-requires-2 (choice-calls t) (choice-at t) choice.Post
-choice-fault-requires-2 t c κs = search needs
+choice-fault-requires-2 t c κs = asked-small (c .before .before .before .before .before .before .before .before .before .before .before .before .before .before .before .before .before .before .before .before .before .before .before .before .before .before .before .before .pre .1 .0)
 
 choice-same-length-5 : (t : ℕ) → choice-lts.Need-same-length-5 (choice-calls t) (choice-at t) choice.Post
 choice-same-length-5 t c = c .before .before .before .before .before .before .before .before .before .check3 .kept .1 .1 .1 .1 .1 .0 ∙ c .before .before .before .before .before .before .before .before .before .before .before .before .before .before .before .check2 .kept .1 .1 .1 .1 .1 .0 ∙ c .before .before .before .before .before .before .before .before .before .before .before .before .before .before .before .before .before .before .before .before .before .before .before .before .check .kept .1 .1 .1 .1 .1 .0
@@ -447,7 +447,7 @@ lazy-is-boolean-requires : (t : ℕ) → lazy-lts.Need-is-boolean-requires (lazy
 lazy-is-boolean-requires t c κs = search needs
 
 lazy-fault-requires : (t : ℕ) → lazy-lts.Need-fault-requires (lazy-calls t) (lazy-at t) lazy.Post
-lazy-fault-requires t c κs = search needs
+lazy-fault-requires t c κs = asked-small (c .before .before .before .before .before .before .before .before .before .before .before .before .pre .1 .0)
 
 lazy-same-length-2 : (t : ℕ) → lazy-lts.Need-same-length-2 (lazy-calls t) (lazy-at t) lazy.Post
 lazy-same-length-2 t c = search needs
@@ -472,7 +472,7 @@ lazy-is-boolean-requires-2 : (t : ℕ) → lazy-lts.Need-is-boolean-requires-2 (
 lazy-is-boolean-requires-2 t c κs = search needs
 
 lazy-fault-requires-2 : (t : ℕ) → lazy-lts.Need-fault-requires-2 (lazy-calls t) (lazy-at t) lazy.Post
-lazy-fault-requires-2 t c κs = search needs
+lazy-fault-requires-2 t c κs = asked-small (c .before .before .before .before .before .before .before .before .before .before .before .before .before .before .before .before .before .before .before .before .before .pre .1 .0)
 
 lazy-same-length-4 : (t : ℕ) → lazy-lts.Need-same-length-4 (lazy-calls t) (lazy-at t) lazy.Post
 lazy-same-length-4 t c = search needs
@@ -509,7 +509,7 @@ unary-unary-half-requires : (t : ℕ) → unary-lts.Need-unary-half-requires (un
 unary-unary-half-requires t c κs = result-held _ _ _ _ (c .before .before .before .before .before .check .ensures _ (c .before .before .before .before .before .before .before .before .before .before .pre .1 .0 .held .holds)) (c .before .if1 .left)
 
 unary-fault-requires : (t : ℕ) → unary-lts.Need-fault-requires (unary-calls t) (unary-at t) unary.Post
-unary-fault-requires t c κs = search needs
+unary-fault-requires t c κs = asked-small (c .before .before .before .before .before .before .before .before .before .before .before .before .before .pre .1 .0)
 
 unary-same-length-2 : (t : ℕ) → unary-lts.Need-same-length-2 (unary-calls t) (unary-at t) unary.Post
 unary-same-length-2 t c = search needs

@@ -8,6 +8,7 @@ use Rattle.lingua.specs.Body.{Body}
 use Rattle.lingua.specs.Rows.{bAt, tableCount}
 use Rattle.lingua.specs.References.{declaredYoke}
 use Rattle.body.specs.Encode.{Holds}
+use Rattle.profile.specs.Accepted.{counts}
 use Rattle.typecheck.specs.Verdicts.{declarationCheck}
 use Rattle.typecheck.proofs.Rows.{all-yoke}
 use Rattle.typecheck.proofs.Parts.{variable-is, declared-yoke, detail-is, detail-within}
@@ -30,8 +31,11 @@ b-at-requires c κs = detail-within (now (c .before .before .before .before .bef
 variable-body-requires : tie.Need-variable-body-requires
 variable-body-requires c κs = search needs
 
-add-check-yoke : tie.Need-add-check-yoke
-add-check-yoke c = omega (arith, detail-within (now (c .before .before .before .before .before .before .before .args .rows)) (c .before .before .before .before .before .before .before .args .tables .declarations) (c .before .before .before .before .before .before .before .pre .0 .tables .declarations) (c .before .before .before .before .before .before .before .args .d) (c .before .before .before .before .before .before .before .pre .1 .0))
+add-place : tie.Need-add-place
+add-place c = omega (arith, detail-within (now (c .before .before .before .before .before .before .before .args .rows)) (c .before .before .before .before .before .before .before .args .tables .declarations) (c .before .before .before .before .before .before .before .pre .0 .tables .declarations) (c .before .before .before .before .before .before .before .args .d) (c .before .before .before .before .before .before .before .pre .1 .0))
+
+cast-place : tie.Need-cast-place
+cast-place c = omega (arith, c .before .before .before .before .before .before .before .pre .1 .0, counts (now (c .before .before .before .before .before .before .before .args .rows)) (c .before .before .before .before .before .before .before .pre .0 .accepted .counts) .variables .most)
 
 check-yoke-requires : tie.Need-check-yoke-requires
 unfolding declaredYoke
@@ -57,7 +61,8 @@ check-declaration-spec =
     add-i-2
     b-at-requires
     variable-body-requires
-    add-check-yoke
+    add-place
+    cast-place
     check-yoke-requires
     same-length
     returns)

@@ -1,0 +1,157 @@
+-- A new value's checks, one law for each way that they end. Assumes nothing.
+use mathlib.Core.Path.{_≡_, refl, sym, ap, ap₂, _∙_, subst}
+use mathlib.Core.Bool.{Bool, true, false, _&&_}
+use mathlib.Core.List.{List}
+use mathlib.Core.Option.{Option, some, none}
+use Prim.Native.Nat.{ℕ, zero, suc, _+_, _*_, _≤_, _<_}
+use native.Mathlib.Omega.{arith}
+use lib.IntN.{ℤ, pos}
+use lib.ListN.{length, take, drop, getD}
+use lib.Seq.{getD-take, getD-drop}
+use lib.Signed.{leZ}
+use mir.Syntax.{w64}
+use mir.Val.{ofZ}
+use Rattle.lingua.specs.Numbers.{states-length}
+use Rattle.lingua.specs.Errors.{no-coherence, yoke-expected, yoke-not-satisfied}
+use Rattle.lingua.specs.Outcome.{ok, fail, Result, require, _>>=_, _>>_}
+use Rattle.lingua.specs.Body.{Body, boolean, number, word, list-of, record-of, size, isNumber, sameBody}
+use Rattle.lingua.specs.Value.{Value, Fits, fit-truth, fit-whole, fit-text, fit-items, fit-fields, asWhole, Composite}
+use Rattle.lingua.specs.Expression.{Expression, rowOf, Yoke, yokeNumber}
+use Rattle.lingua.specs.Evaluation.{Variables, truthOr, evalYoke}
+use Rattle.lingua.specs.Rows.{ExpressionRow, constant-row, variable-row, current-row, unary-row, binary-row, lazy-row, choice-row, all-list-row, expressionRow}
+use Rattle.lingua.specs.Store.{Limit, Variable, variableAt, contents, filledFlag, storeStates, statesIn, within, admitted}
+use Rattle.lingua.specs.Trees.{expressionOf, expressionIn, expressionTree, yokeTree}
+use Rattle.laws.specs.Outcomes.{is-number, false-is-true}
+use Rattle.laws.specs.Stores.{states-at}
+use Rattle.rules.specs.declared.tables.Table.{Table}
+use Rattle.body.specs.Encode.{Holds}
+use Rattle.body.proofs.Tags as tags
+use Rattle.cells.specs.Stack.{Lies}
+use Rattle.cells.proofs.Singles.{number-cell}
+use Rattle.checked.specs.declared.answer.Evaluated.{Evaluated}
+use Rattle.checked.specs.declared.answer.Truth.{Truth}
+use Rattle.checked.specs.Meaning.{Stored, World, Running, YokeOf, LimitAt, Current, HasCurrent, Gives, Tells, Admits}
+use Rattle.checked.proofs.Storing.{lies-long, pad-long}
+
+-- ---- limits
+pub no-limit : (limits : List ℤ) (at : ℕ) (l : Option Limit) (z : ℤ) → LimitAt limits at l → ofZ w64 (getD limits at (pos 0)) ≡ 0 → true ≡ within l z
+unfolding LimitAt within
+no-limit limits at none z h e = refl
+no-limit limits at (some l) z h e = absurd (let k : ofZ w64 (pos 1) ≡ 0 = ap (λ (y : ℤ). ofZ w64 y) (sym (h .0)) ∙ e in let j : ⊥ = omega arith in j)
+
+pub limit-is : (limits : List ℤ) (at : ℕ) (l : Option Limit) (z : ℤ) → LimitAt limits at l → (ofZ w64 (getD limits at (pos 0)) ≡ 0 → ⊥) → (leZ (getD limits (at + 1) (pos 0)) z && leZ z (getD limits (at + 2) (pos 0))) ≡ within l z
+unfolding LimitAt within
+limit-is limits at none z h f = absurd (f (ap (λ (y : ℤ). ofZ w64 y) h))
+limit-is limits at (some l) z h f = ap (λ (y : ℤ). leZ y z && leZ z (getD limits (at + 2) (pos 0))) (h .1) ∙ ap (λ (y : ℤ). leZ (l .low) z && leZ z y) (h .2)
+
+-- ---- a number's cell
+pub number-room : {value : List ℤ} {body : List ℕ} {x : Composite} → Current value body x → getD body 0 0 ≡ 2 → 0 < length value
+unfolding size
+number-room {value} {body} {x} h e = let b = is-number (x .body) (tags.is-number body (x .body) (h .holds) e) in omega (arith, lies-long (h .lies), ap size b)
+
+pub whole-is : {value : List ℤ} {body : List ℕ} {x : Composite} → Current value body x → getD body 0 0 ≡ 2 → getD value 0 (pos 0) ≡ asWhole (x .value)
+whole-is {value} {body} {x} h e = number-cell (subst (λ (b : Body). Lies value 0 b (x .value)) (is-number (x .body) (tags.is-number body (x .body) (h .holds) e)) (h .lies))
+
+none-whole : {v : Value} {b : Body} → Fits v b → isNumber b ≡ false → pos 0 ≡ asWhole v
+unfolding asWhole isNumber
+none-whole fit-truth e = refl
+none-whole (fit-whole r) e = false-is-true (sym e)
+none-whole (fit-text r) e = refl
+none-whole (fit-items n r) e = refl
+none-whole (fit-fields r) e = refl
+
+pub other-whole : {value : List ℤ} {body : List ℕ} {x : Composite} → Current value body x → (getD body 0 0 ≡ 2 → ⊥) → pos 0 ≡ asWhole (x .value)
+other-whole {value} {body} {x} h f = none-whole (h .lies .fit) (tags.not-number body (x .body) (h .holds) f)
+
+-- ---- the current yoke
+row-of : (r : ℕ) (e : ExpressionRow) (look : ℕ → Expression) → rowOf (expressionOf r e look) ≡ r
+unfolding rowOf expressionOf
+row-of r (constant-row c) look = refl
+row-of r (variable-row n) look = refl
+row-of r current-row look = refl
+row-of r (unary-row o a) look = refl
+row-of r (binary-row o a b) look = refl
+row-of r (lazy-row k a b) look = refl
+row-of r (choice-row a b c) look = refl
+row-of r (all-list-row a) look = refl
+
+pub number-of : (rows : List ℕ) (y : ℕ) → yokeNumber (yokeTree rows y) ≡ y
+unfolding yokeNumber yokeTree expressionTree expressionIn
+number-of rows zero = refl
+number-of rows (suc r) = ap suc (row-of r (expressionRow rows r) _)
+
+module _ {rows : List ℕ} {t : Table} {variables : List ℕ} {limits cells : List ℤ} {states : List ℕ} {vs : List Variable} (h : Running rows t variables limits cells states vs) (n : ℕ) (lt : n < length vs) where
+  pub word-room : 2 * n + 1 < length states
+  unfolding statesIn
+  word-room = let s = h .world .stored in omega (arith, ap (λ (l : List ℕ). length l) (s .states-are), pad-long states-length 0 (storeStates vs), s .few, lt)
+
+  word-is : getD states (2 * n + 1) 0 ≡ yokeNumber (variableAt vs n .current)
+  word-is =
+      ap (λ (l : List ℕ). getD l (2 * n + 1) 0) (h .world .stored .states-are)
+      ∙ sym (getD-drop (2 * n) (statesIn vs) 1 0)
+      ∙ sym (getD-take 2 (drop (2 * n) (statesIn vs)) 1 0 (omega arith))
+      ∙ ap (λ (l : List ℕ). getD l 1 0) (states-at vs n lt)
+
+  yoke-is : getD states (2 * n + 1) 0 ≡ h .yokes n lt .number
+  yoke-is = word-is ∙ ap yokeNumber (h .yokes n lt .is) ∙ number-of rows (h .yokes n lt .number)
+
+  pub yoke-there : getD states (2 * n + 1) 0 ≤ t .count
+  yoke-there = omega (arith, yoke-is, h .yokes n lt .there, h .world .table .count)
+
+  pub own-yoke : (x : Composite) → evalYoke (yokeTree rows (getD states (2 * n + 1) 0)) (contents vs) x ≡ evalYoke (variableAt vs n .current) (contents vs) x
+  own-yoke x = ap (λ (k : ℕ). evalYoke (yokeTree rows k) (contents vs) x) yoke-is ∙ ap (λ (y : Yoke). evalYoke y (contents vs) x) (sym (h .yokes n lt .is))
+
+-- ---- the checks
+pub admits-error : {r : ℕ} {o : Result (Unit {0})} → (r ≡ 0 → ⊥) → o ≡ fail r → Admits r o
+admits-error f e = record { answer = λ z. absurd (f z); error = λ g. e }
+
+module _ (vs : List Variable) (v : Variable) (x : Composite) {y : Evaluated} {s : List ℤ} (g : Gives y s (evalYoke (v .current) (contents vs) x)) where
+  pub yoke-error : (y .error ≡ 0 → ⊥) → Admits (y .error) (admitted vs v x)
+  unfolding admitted
+  yoke-error f = admits-error f (ap (λ (o : Result Composite). o >>= λ w. require (sameBody (v .body) (x .body)) no-coherence >> (truthOr yoke-expected w >>= λ t. require (t && within (v .limit) (asWhole (x .value))) yoke-not-satisfied)) (g .error f))
+
+  module _ (z : y .error ≡ 0) (b : Bool) (same : b ≡ sameBody (v .body) (x .body)) where
+    reached : admitted vs v x ≡ (require b no-coherence >> (truthOr yoke-expected (g .answer z .value) >>= λ t. require (t && within (v .limit) (asWhole (x .value))) yoke-not-satisfied))
+    unfolding admitted
+    reached =
+        ap (λ (o : Result Composite). o >>= λ w. require (sameBody (v .body) (x .body)) no-coherence >> (truthOr yoke-expected w >>= λ t. require (t && within (v .limit) (asWhole (x .value))) yoke-not-satisfied)) (g .answer z .is)
+        ∙ ap (λ (c : Bool). require c no-coherence >> (truthOr yoke-expected (g .answer z .value) >>= λ t. require (t && within (v .limit) (asWhole (x .value))) yoke-not-satisfied)) (sym same)
+
+    pub other-body : b ≡ false → Admits no-coherence (admitted vs v x)
+    other-body f = admits-error (λ e. omega arith) (reached ∙ ap (λ (c : Bool). require c no-coherence >> (truthOr yoke-expected (g .answer z .value) >>= λ t. require (t && within (v .limit) (asWhole (x .value))) yoke-not-satisfied)) f)
+
+    module _ (f : b ≡ true) (p : Truth) (tells : Tells p (evalYoke (v .current) (contents vs) x >>= truthOr yoke-expected)) where
+      asked : admitted vs v x ≡ ((evalYoke (v .current) (contents vs) x >>= truthOr yoke-expected) >>= λ t. require (t && within (v .limit) (asWhole (x .value))) yoke-not-satisfied)
+      asked =
+          reached
+          ∙ ap (λ (c : Bool). require c no-coherence >> (truthOr yoke-expected (g .answer z .value) >>= λ t. require (t && within (v .limit) (asWhole (x .value))) yoke-not-satisfied)) f
+          ∙ ap (λ (o : Result Composite). (o >>= truthOr yoke-expected) >>= λ t. require (t && within (v .limit) (asWhole (x .value))) yoke-not-satisfied) (sym (g .answer z .is))
+
+      pub no-truth : (p .error ≡ 0 → ⊥) → Admits (p .error) (admitted vs v x)
+      no-truth e = admits-error e (asked ∙ ap (λ (o : Result Bool). o >>= λ t. require (t && within (v .limit) (asWhole (x .value))) yoke-not-satisfied) (tells .error e))
+
+      told-is : p .error ≡ 0 → admitted vs v x ≡ require (p .holds && within (v .limit) (asWhole (x .value))) yoke-not-satisfied
+      told-is e = asked ∙ ap (λ (o : Result Bool). o >>= λ t. require (t && within (v .limit) (asWhole (x .value))) yoke-not-satisfied) (tells .answer e)
+
+      pub not-satisfied : p .error ≡ 0 → p .holds ≡ false → Admits yoke-not-satisfied (admitted vs v x)
+      not-satisfied e q = admits-error (λ k. omega arith) (told-is e ∙ ap (λ (t : Bool). require (t && within (v .limit) (asWhole (x .value))) yoke-not-satisfied) q)
+
+      within-is : p .error ≡ 0 → p .holds ≡ true → (c : Bool) → c ≡ within (v .limit) (asWhole (x .value)) → admitted vs v x ≡ require c yoke-not-satisfied
+      within-is e q c w = told-is e ∙ ap (λ (t : Bool). require (t && within (v .limit) (asWhole (x .value))) yoke-not-satisfied) q ∙ ap (λ (t : Bool). require t yoke-not-satisfied) (sym w)
+
+      pub out-of-limits : p .error ≡ 0 → p .holds ≡ true → (c : Bool) → c ≡ within (v .limit) (asWhole (x .value)) → c ≡ false → Admits yoke-not-satisfied (admitted vs v x)
+      out-of-limits e q c w k = admits-error (λ j. omega arith) (within-is e q c w ∙ ap (λ (t : Bool). require t yoke-not-satisfied) k)
+
+      pub passes : p .error ≡ 0 → p .holds ≡ true → (c : Bool) → c ≡ within (v .limit) (asWhole (x .value)) → c ≡ true → Admits 0 (admitted vs v x)
+      passes e q c w k = record { answer = λ j. within-is e q c w ∙ ap (λ (t : Bool). require t yoke-not-satisfied) k; error = λ j. absurd (j refl) }
+
+-- ---- the code's comparisons, on numbers as it reads them back
+module _ {low high z low' high' z' : ℤ} (l : low' ≡ low) (h : high' ≡ high) (k : z' ≡ z) where
+  pub between-yes : leZ low' z' ≡ true → leZ z' high' ≡ (leZ low z && leZ z high)
+  between-yes e = ap₂ (λ (a b : ℤ). leZ a b) k h ∙ ap (λ (t : Bool). t && leZ z high) (sym (sym (ap₂ (λ (a b : ℤ). leZ a b) l k) ∙ e))
+
+  pub between-no : leZ low' z' ≡ false → false ≡ (leZ low z && leZ z high)
+  between-no e = ap (λ (t : Bool). t && leZ z high) (sym (sym (ap₂ (λ (a b : ℤ). leZ a b) l k) ∙ e))
+
+  pub between-as : (leZ low' z' && leZ z' high') ≡ (leZ low z && leZ z high)
+  between-as = ap₂ (λ (a b : Bool). a && b) (ap₂ (λ (a b : ℤ). leZ a b) l k) (ap₂ (λ (a b : ℤ). leZ a b) k h)

@@ -1,0 +1,14 @@
+pub mod Giving
+pub mod Operating
+pub mod Seeing
+pub mod Storing
+pub mod Stacking
+pub mod Walking
+pub mod Cycle
+pub mod Yokes
+pub mod Admitting
+pub mod Yoking
+pub mod Keeping
+pub mod Assigning
+pub mod Changing
+pub mod Readings

@@ -1,0 +1,184 @@
+-- An operation on evaluated operands, from its half on bodies and its half on values. Assumes nothing.
+use mathlib.Core.Path.{_≡_, refl, sym, ap, _∙_, subst}
+use mathlib.Core.List.{List}
+use Prim.Native.Nat.{ℕ, _≤_}
+use native.Mathlib.Omega.{arith}
+use lib.ListN.{length, drop}
+use lib.IntN.{ℤ}
+use Rattle.lingua.specs.Numbers.{body-cells}
+use Rattle.lingua.specs.Outcome.{ok, fail, Result, _>>=_}
+use Rattle.lingua.specs.Body.{Body, size}
+use Rattle.lingua.specs.Value.{Value, Composite, composite}
+use Rattle.lingua.specs.Operation.{Unary, Binary, unaryBody, binaryBody}
+use Rattle.lingua.specs.Compute.{unaryValue, binaryValue}
+use Rattle.lingua.specs.Evaluation.{applyUnary, applyBinary}
+use Rattle.lingua.specs.Typing.{unarySecond, binarySecond}
+use Rattle.body.specs.Encode.{Holds, Held}
+use Rattle.body.specs.declared.typed.Typed.{Typed}
+use Rattle.cells.specs.Stack.{Lies, Leaves}
+use Rattle.cells.specs.Operands.{Operand, HasOperand, Operands, HasOperands}
+use Rattle.halves.specs.Half.{Half, Half-passes}
+use Rattle.checked.specs.declared.answer.Evaluated.{Evaluated}
+use Rattle.checked.specs.Meaning.{Answers, Gives, Given}
+use Rattle.checked.proofs.Giving.{gives-answer, gives-error}
+
+pub given-held : {x : Evaluated} {s : List ℤ} → Given x s → x .error ≡ 0 → Held (x .body)
+given-held g e = let a = g .gives .answer e in record { body = a .value .body; holds = a .holds }
+
+-- ---- the half on bodies
+half-error : (t : Typed) (r : Result Body) (second : Body → ℕ) → Half t r second → (t .error ≡ 0 → ⊥) → r ≡ fail (t .error)
+unfolding Half
+half-error t (ok b) second h f = absurd (f (h .passed))
+half-error t (fail n) second h f = ap {B = Result Body} fail (sym (h .error))
+
+record Passed (t : Typed) (r : Result Body) (second : Body → ℕ) : Type 0 where
+  body : Body
+  is : r ≡ ok body
+  passes : Half-passes t body (second body)
+
+half-passed : (t : Typed) (r : Result Body) (second : Body → ℕ) → Half t r second → t .error ≡ 0 → Passed t r second
+unfolding Half
+half-passed t (ok b) second h e = record { body = b; is = refl; passes = h }
+half-passed t (fail n) second h e = absurd (let k : ⊥ = omega (arith, h .some-error, h .error) in k)
+
+-- ---- one operand
+-- the operand, and the body that the operation gives
+pub record Halved (o : Unary) (x : Evaluated) (t : Typed) (s : List ℤ) (p : Result Composite) : Type 0 where
+  pub answers : Answers x s p
+  pub body : Body
+  pub operand : Operand o s (x .cells) (t .cells) (t .offset) (answers .value .body) body (answers .value .value)
+  pub holds : Holds (t .body) body
+
+module _ (o : Unary) (x : Evaluated) (t : Typed) (s : List ℤ) (half : (b : Body) → Holds (x .body) b → Half t (unaryBody o b) (λ d. unarySecond o b)) where
+  pub unary-halved : {p : Result Composite} → Gives x s p → x .error ≡ 0 → t .error ≡ 0 → Halved o x t s p
+  unary-halved h e q =
+      let a = h .answer e in
+      let d = half-passed t (unaryBody o (a .value .body)) _ (half (a .value .body) (a .holds)) q in
+      record {
+        answers = a;
+        body = d .body;
+        operand = record { half = d .is; cells-are = sym (a .cells); result-is = sym (d .passes .cells); offset-is = sym (d .passes .is-second); small = a .holds .few-cells; lies = a .lies };
+        holds = d .passes .holds;
+      }
+
+  pub unary-has : Given x s → x .error ≡ 0 → t .error ≡ 0 → HasOperand o s (x .cells) (t .cells) (t .offset)
+  unary-has g e q =
+      let u = unary-halved (g .gives) e q in
+      record { body = u .answers .value .body; given = u .body; value = u .answers .value .value; operand = u .operand }
+
+  -- the bodies' half gives an error
+  pub unary-no-body : {p : Result Composite} → Gives x s p → x .error ≡ 0 → (t .error ≡ 0 → ⊥) → (p >>= applyUnary o) ≡ fail (t .error)
+  unfolding applyUnary
+  unary-no-body h e f =
+      let a = h .answer e in
+      ap (λ (q : Result Composite). q >>= applyUnary o) (a .is)
+      ∙ ap (λ (q : Result Body). q >>= λ d. unaryValue o (a .value .value) >>= λ v. ok (composite d v)) (half-error t (unaryBody o (a .value .body)) _ (half (a .value .body) (a .holds)) f)
+
+  applied : {p : Result Composite} (u : Halved o x t s p) → (p >>= applyUnary o) ≡ (unaryValue o (u .answers .value .value) >>= λ v. ok (composite (u .body) v))
+  unfolding applyUnary
+  applied u =
+      ap (λ (q : Result Composite). q >>= applyUnary o) (u .answers .is)
+      ∙ ap (λ (q : Result Body). q >>= λ d. unaryValue o (u .answers .value .value) >>= λ v. ok (composite d v)) (u .operand .half)
+
+  -- the values' half
+  module _ (n : ℕ) (after : List ℤ) (leaves : (b d : Body) (v : Value) → Operand o s (x .cells) (t .cells) (t .offset) b d v → Leaves n after d (unaryValue o v)) where
+    pub unary-no-value : {p : Result Composite} → Gives x s p → x .error ≡ 0 → t .error ≡ 0 → (n ≡ 0 → ⊥) → (p >>= applyUnary o) ≡ fail n
+    unary-no-value h e q f =
+        let u = unary-halved h e q in
+        applied u
+        ∙ ap (λ (r : Result Value). r >>= λ v. ok (composite (u .body) v)) (leaves _ _ _ (u .operand) .error f)
+
+    pub unary-value : {p : Result Composite} → Gives x s p → x .error ≡ 0 → t .error ≡ 0 → n ≡ 0 → (r : Evaluated) → r .error ≡ 0 → r .body ≡ t .body → r .cells ≡ t .cells → Gives r after (p >>= applyUnary o)
+    unary-value h e q z r re rb rc =
+        let u = unary-halved h e q in
+        let l = leaves _ _ _ (u .operand) .answer z in
+        gives-answer re (record {
+          value = composite (u .body) (l .value);
+          is = applied u ∙ ap (λ (r : Result Value). r >>= λ v. ok (composite (u .body) v)) (l .is);
+          holds = subst (λ (b : List ℕ). Holds b (u .body)) (sym rb) (u .holds);
+          lies = l .lies;
+          cells = rc ∙ sym (u .operand .result-is);
+        })
+
+-- ---- two operands
+-- what lies above the first operand lies there in the whole
+above : {s : List ℤ} {b : Body} {v : Value} → Lies (drop body-cells s) 0 b v → Lies s body-cells b v
+above h = record { cells = h .cells; fit = h .fit }
+
+pub record BothHalved (o : Binary) (x y : Evaluated) (t : Typed) (s : List ℤ) (p q : Result Composite) : Type 0 where
+  pub first : Answers x s p
+  pub second : Answers y (drop body-cells s) q
+  pub body : Body
+  pub operands : Operands o s (x .cells) (y .cells) (t .offset) (first .value .body) (second .value .body) body (first .value .value) (second .value .value)
+  pub holds : Holds (t .body) body
+  pub size-is : t .cells ≡ size body
+
+module _ (o : Binary) (x y : Evaluated) (t : Typed) (s : List ℤ) (half : (b c : Body) → Holds (x .body) b → Holds (y .body) c → Half t (binaryBody o b c) (λ d. binarySecond o d)) where
+  pub both-halved : {p q : Result Composite} → Gives x s p → Gives y (drop body-cells s) q → x .error ≡ 0 → y .error ≡ 0 → t .error ≡ 0 → BothHalved o x y t s p q
+  both-halved h k e f z =
+      let a = h .answer e in
+      let b = k .answer f in
+      let d = half-passed t (binaryBody o (a .value .body) (b .value .body)) _ (half (a .value .body) (b .value .body) (a .holds) (b .holds)) z in
+      record {
+        first = a;
+        second = b;
+        body = d .body;
+        operands = record { half = d .is; cells-are = sym (a .cells); others-are = sym (b .cells); offset-is = sym (d .passes .is-second); small = a .holds .few-cells; small-other = b .holds .few-cells; lies = a .lies; lies-other = above (b .lies) };
+        holds = d .passes .holds;
+        size-is = d .passes .cells;
+      }
+
+  pub binary-has : Given x s → Given y (drop body-cells s) → x .error ≡ 0 → y .error ≡ 0 → t .error ≡ 0 → HasOperands o s (x .cells) (y .cells) (t .offset)
+  binary-has g k e f z =
+      let u = both-halved (g .gives) (k .gives) e f z in
+      record { body = u .first .value .body; other = u .second .value .body; given = u .body; value = u .first .value .value; other-value = u .second .value .value; operands = u .operands }
+
+  both : {p q : Result Composite} (a : Answers x s p) (b : Answers y (drop body-cells s) q) → (p >>= λ u. q >>= λ v. applyBinary o u v) ≡ applyBinary o (a .value) (b .value)
+  both {p} {q} a b =
+      ap (λ (r : Result Composite). r >>= λ u. q >>= λ v. applyBinary o u v) (a .is)
+      ∙ ap (λ (r : Result Composite). r >>= λ v. applyBinary o (a .value) v) (b .is)
+
+  pub binary-no-body : {p q : Result Composite} → Gives x s p → Gives y (drop body-cells s) q → x .error ≡ 0 → y .error ≡ 0 → (t .error ≡ 0 → ⊥) → (p >>= λ u. q >>= λ v. applyBinary o u v) ≡ fail (t .error)
+  unfolding applyBinary
+  binary-no-body h k e f z =
+      let a = h .answer e in
+      let b = k .answer f in
+      both a b
+      ∙ ap (λ (r : Result Body). r >>= λ d. binaryValue o (a .value .value) (b .value .value) >>= λ v. ok (composite d v)) (half-error t (binaryBody o (a .value .body) (b .value .body)) _ (half (a .value .body) (b .value .body) (a .holds) (b .holds)) z)
+
+  applied-both : {p q : Result Composite} (u : BothHalved o x y t s p q) → (p >>= λ a. q >>= λ b. applyBinary o a b) ≡ (binaryValue o (u .first .value .value) (u .second .value .value) >>= λ v. ok (composite (u .body) v))
+  unfolding applyBinary
+  applied-both u =
+      both (u .first) (u .second)
+      ∙ ap (λ (r : Result Body). r >>= λ d. binaryValue o (u .first .value .value) (u .second .value .value) >>= λ v. ok (composite d v)) (u .operands .half)
+
+  module _ (n : ℕ) (after : List ℤ) (leaves : (b c d : Body) (v w : Value) → Operands o s (x .cells) (y .cells) (t .offset) b c d v w → Leaves n after d (binaryValue o v w)) where
+    pub binary-no-value : {p q : Result Composite} → Gives x s p → Gives y (drop body-cells s) q → x .error ≡ 0 → y .error ≡ 0 → t .error ≡ 0 → (n ≡ 0 → ⊥) → (p >>= λ u. q >>= λ v. applyBinary o u v) ≡ fail n
+    binary-no-value h k e f z g =
+        let u = both-halved h k e f z in
+        applied-both u
+        ∙ ap (λ (r : Result Value). r >>= λ v. ok (composite (u .body) v)) (leaves _ _ _ _ _ (u .operands) .error g)
+
+    pub binary-value : {p q : Result Composite} → Gives x s p → Gives y (drop body-cells s) q → x .error ≡ 0 → y .error ≡ 0 → t .error ≡ 0 → n ≡ 0 → (r : Evaluated) → r .error ≡ 0 → r .body ≡ t .body → r .cells ≡ t .cells → Gives r after (p >>= λ u. q >>= λ v. applyBinary o u v)
+    binary-value h k e f z g r re rb rc =
+        let u = both-halved h k e f z in
+        let l = leaves _ _ _ _ _ (u .operands) .answer g in
+        gives-answer re (record {
+          value = composite (u .body) (l .value);
+          is = applied-both u ∙ ap (λ (r : Result Value). r >>= λ v. ok (composite (u .body) v)) (l .is);
+          holds = subst (λ (b : List ℕ). Holds b (u .body)) (sym rb) (u .holds);
+          lies = l .lies;
+          cells = rc ∙ u .size-is;
+        })
+
+-- an operand's error
+module _ (o : Binary) (x y : Evaluated) (s : List ℤ) where
+  pub first-error : {p : Result Composite} (q : Result Composite) (after : List ℤ) → Gives x s p → (x .error ≡ 0 → ⊥) → Gives x after (p >>= λ u. q >>= λ v. applyBinary o u v)
+  first-error q after h e = gives-error (x .error) refl e (ap (λ (r : Result Composite). r >>= λ u. q >>= λ v. applyBinary o u v) (h .error e))
+
+  pub second-error : {p q : Result Composite} (after : List ℤ) → Gives x s p → Gives y (drop body-cells s) q → x .error ≡ 0 → (y .error ≡ 0 → ⊥) → Gives y after (p >>= λ u. q >>= λ v. applyBinary o u v)
+  second-error {p} {q} after h k e f =
+      let a = h .answer e in
+      gives-error (y .error) refl f
+      (ap (λ (r : Result Composite). r >>= λ u. q >>= λ v. applyBinary o u v) (a .is)
+      ∙ ap (λ (r : Result Composite). r >>= λ v. applyBinary o (a .value) v) (k .error f))

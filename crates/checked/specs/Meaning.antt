@@ -1,0 +1,174 @@
+-- What the code of the checked run holds and gives. Assumes nothing: these are definitions.
+use mathlib.Core.Path.{_≡_}
+use mathlib.Core.Bool.{Bool, true}
+use mathlib.Core.List.{List}
+use mathlib.Core.Option.{Option, some, none}
+use Prim.Native.Nat.{ℕ, _+_, _*_, _≤_, _<_}
+use lib.IntN.{ℤ, pos}
+use lib.ListN.{length, take, drop, getD}
+use Rattle.lingua.specs.Numbers.{declaration-section, expression-section, most-variables}
+use Rattle.lingua.specs.Errors.{no-error}
+use Rattle.lingua.specs.Outcome.{ok, fail, Result, allAnswers}
+use Rattle.lingua.specs.Body.{size, isBoolean}
+use Rattle.lingua.specs.Value.{Composite, allOf, asTruth}
+use Rattle.lingua.specs.Rows.{tableCount, pairCount}
+use Rattle.lingua.specs.Store.{Limit, Reading, Variable, variableAt, cellsIn, statesIn}
+use Rattle.lingua.specs.Expression.{Yoke}
+use Rattle.lingua.specs.Trees.{yokeTree}
+use Rattle.safety.specs.Accepted.{AcceptedRows}
+use Rattle.safety.specs.Constants.{Fitting}
+use Rattle.rules.specs.Tables.{IsTable}
+use Rattle.rules.specs.declared.tables.Table.{Table}
+use Rattle.body.specs.Encode.{Holds, body-bytes}
+use Rattle.cells.specs.Stack.{Lies, first-place}
+use Rattle.checked.specs.declared.answer.Evaluated.{Evaluated}
+use Rattle.checked.specs.declared.answer.Truth.{Truth}
+use Rattle.checked.specs.declared.seen.Seen.{Seen}
+
+-- ---- what is given
+-- a variable's value has its declared body and fits
+pub record Filled (v : Variable) (x : Composite) : Type 0 where
+  pub coherent : x .body ≡ v .body
+  pub fits : Fitting x
+
+-- the caller's memory holds the store's variables, and 96 bytes for each hold their declared bodies
+pub record Stored (variables : List ℕ) (cells : List ℤ) (states : List ℕ) (vs : List Variable) : Type 0 where
+  pub cells-are : cells ≡ cellsIn vs
+  pub states-are : states ≡ statesIn vs
+  pub few : length vs ≤ most-variables
+  pub room : body-bytes * length vs ≤ length variables
+  pub bodies : (n : ℕ) → n < length vs → Holds (take body-bytes (drop (body-bytes * n) variables)) (variableAt vs n .body)
+  pub filled : (n : ℕ) (x : Composite) → variableAt vs n .content ≡ some x → Filled (variableAt vs n) x
+
+-- some such store
+pub record HasStored (variables : List ℕ) (cells : List ℤ) (states : List ℕ) (n : ℕ) : Type 0 where
+  pub store : List Variable
+  pub stored : Stored variables cells states store
+  pub there : n < length store
+
+-- accepted rows with their table, and a store of the declared variables
+pub record World (rows : List ℕ) (t : Table) (variables : List ℕ) (cells : List ℤ) (states : List ℕ) (vs : List Variable) : Type 0 where
+  pub accepted : AcceptedRows rows
+  pub table : IsTable rows expression-section t
+  pub stored : Stored variables cells states vs
+  pub count : length vs ≡ pairCount rows declaration-section
+
+-- some such store
+pub record HasWorld (rows : List ℕ) (t : Table) (variables : List ℕ) (cells : List ℤ) (states : List ℕ) : Type 0 where
+  pub store : List Variable
+  pub world : World rows t variables cells states store
+
+-- the current value
+pub record Current (current : List ℤ) (body : List ℕ) (x : Composite) : Type 0 where
+  pub lies : Lies current first-place (x .body) (x .value)
+  pub holds : Holds body (x .body)
+
+pub record HasCurrent (current : List ℤ) (body : List ℕ) : Type 0 where
+  pub value : Composite
+  pub is : Current current body value
+
+-- what evaluation asks
+pub record Ready (rows : List ℕ) (t : Table) (variables : List ℕ) (cells : List ℤ) (states : List ℕ) (current : List ℤ) (body : List ℕ) : Type 0 where
+  pub store : List Variable
+  pub world : World rows t variables cells states store
+  pub has : HasCurrent current body
+
+-- ---- what assignments ask
+-- a limit in three cells: whether there is one, and its two ends
+unfoldable pub LimitAt : List ℤ → ℕ → Option Limit → Type 0
+LimitAt limits at none = getD limits at (pos 0) ≡ pos 0
+LimitAt limits at (some l) = (getD limits at (pos 0) ≡ pos 1) × (getD limits (at + 1) (pos 0) ≡ l .low) × (getD limits (at + 2) (pos 0) ≡ l .high)
+
+-- a yoke of the profile, by its number
+pub record YokeOf (rows : List ℕ) (y : Yoke) : Type 0 where
+  pub number : ℕ
+  pub there : number ≤ tableCount rows expression-section
+  pub is : y ≡ yokeTree rows number
+
+-- a store of a run, with the limits of its variables
+pub record Running (rows : List ℕ) (t : Table) (variables : List ℕ) (limits : List ℤ) (cells : List ℤ) (states : List ℕ) (vs : List Variable) : Type 0 where
+  pub world : World rows t variables cells states vs
+  pub room : 3 * length vs ≤ length limits
+  pub limited : (n : ℕ) → n < length vs → LimitAt limits (3 * n) (variableAt vs n .limit)
+  pub yokes : (n : ℕ) → n < length vs → YokeOf rows (variableAt vs n .current)
+
+-- some such store, with a variable n
+pub record HasRunning (rows : List ℕ) (t : Table) (variables : List ℕ) (limits : List ℤ) (cells : List ℤ) (states : List ℕ) (n : ℕ) : Type 0 where
+  pub store : List Variable
+  pub running : Running rows t variables limits cells states store
+  pub there : n < length store
+
+-- some such store, and some value for variable n
+pub record Checkable (rows : List ℕ) (t : Table) (variables : List ℕ) (limits : List ℤ) (cells : List ℤ) (states : List ℕ) (n : ℕ) (value : List ℤ) (body : List ℕ) : Type 0 where
+  pub store : List Variable
+  pub running : Running rows t variables limits cells states store
+  pub there : n < length store
+  pub has : HasCurrent value body
+
+-- the checks passed, or the error
+pub record Admits (r : ℕ) (o : Result (Unit {0})) : Type 0 where
+  pub answer : r ≡ no-error → o ≡ ok tt
+  pub error : (r ≡ no-error → ⊥) → o ≡ fail r
+
+-- ---- what evaluation gives
+-- the value lies at the stack's front, and its body and the number of its cells are given
+pub record Answers (r : Evaluated) (stack : List ℤ) (o : Result Composite) : Type 0 where
+  pub value : Composite
+  pub is : o ≡ ok value
+  pub holds : Holds (r .body) (value .body)
+  pub lies : Lies stack first-place (value .body) (value .value)
+  pub cells : r .cells ≡ size (value .body)
+
+pub record Gives (r : Evaluated) (stack : List ℤ) (o : Result Composite) : Type 0 where
+  pub answer : r .error ≡ no-error → Answers r stack o
+  pub error : (r .error ≡ no-error → ⊥) → o ≡ fail (r .error)
+
+-- some such result
+pub record Given (r : Evaluated) (stack : List ℤ) : Type 0 where
+  pub outcome : Result Composite
+  pub gives : Gives r stack outcome
+
+-- a reading of variable n
+abbrev pub reading : ℕ → ℤ → Reading
+reading n z = record { variable = n; number = z }
+
+-- ---- what an assignment gives
+-- a store of a run, and an evaluated value for its variable n
+pub record Assignable (rows : List ℕ) (t : Table) (variables : List ℕ) (limits : List ℤ) (cells : List ℤ) (states : List ℕ) (n : ℕ) (x : Evaluated) (stack : List ℤ) : Type 0 where
+  pub store : List Variable
+  pub running : Running rows t variables limits cells states store
+  pub there : n < length store
+  pub given : Given x stack
+
+-- the new store is the one in the memory
+pub record Stores (rows : List ℕ) (t : Table) (variables : List ℕ) (limits : List ℤ) (cells : List ℤ) (states : List ℕ) (p : Result (List Variable)) : Type 0 where
+  pub store : List Variable
+  pub is : p ≡ ok store
+  pub running : Running rows t variables limits cells states store
+
+-- the error, and the memory as it was
+pub record Keeps (r : ℕ) (cells after : List ℤ) (states words : List ℕ) (p : Result (List Variable)) : Type 0 where
+  pub is : p ≡ fail r
+  pub same-cells : after ≡ cells
+  pub same-states : words ≡ states
+
+pub record Assigns (r : ℕ) (rows : List ℕ) (t : Table) (variables : List ℕ) (limits : List ℤ) (cells after : List ℤ) (states words : List ℕ) (p : Result (List Variable)) : Type 0 where
+  pub answer : r ≡ no-error → Stores rows t variables limits after words p
+  pub error : (r ≡ no-error → ⊥) → Keeps r cells after states words p
+
+-- a Boolean's value, or the error
+pub record Tells (r : Truth) (o : Result Bool) : Type 0 where
+  pub answer : r .error ≡ no-error → o ≡ ok (r .holds)
+  pub error : (r .error ≡ no-error → ⊥) → o ≡ fail (r .error)
+
+-- ---- what is seen of the results of an all-list yoke
+-- whether all are Booleans, and, where they are, whether all are true
+pub record AllSeen (s : Seen) (rs : List (Result Composite)) : Type 0 where
+  pub values : List Composite
+  pub are : allAnswers rs ≡ ok values
+  pub booleans : s .booleans ≡ allOf (λ x. isBoolean (x .body)) values
+  pub all : s .booleans ≡ true → s .all ≡ allOf (λ x. asTruth (x .value)) values
+
+pub record Sees (s : Seen) (rs : List (Result Composite)) : Type 0 where
+  pub answers : s .error ≡ no-error → AllSeen s rs
+  pub error : (s .error ≡ no-error → ⊥) → allAnswers rs ≡ fail (s .error)

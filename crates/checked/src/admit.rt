@@ -1,0 +1,106 @@
+// A new value's checks, in order: its yoke's error, its body, the yoke's body, the yoke and the limits.
+use crate::answer::truth_of;
+use crate::leaves::declared;
+use crate::yoke::eval_yoke;
+use body::parts::same;
+use body::walk::NUMBER;
+use lingua::errors::NO_COHERENCE;
+use lingua::errors::NO_ERROR;
+use lingua::errors::YOKE_EXPECTED;
+use lingua::errors::YOKE_NOT_SATISFIED;
+use rules::tables::Table;
+ghost use mathlib.Core.Path.{_≡_};
+ghost use mathlib.Core.Bool.{_&&_};
+ghost use mathlib.Core.List.{List};
+ghost use mathlib.Core.Option.{Option};
+ghost use Prim.Native.Nat.{_+_, _*_, _<_, _≤_};
+ghost use lib.ListN.{length};
+ghost use lib.Signed.{leZ};
+ghost use Rattle.lingua.specs.Numbers.{body-cells};
+ghost use Rattle.lingua.specs.Value.{Composite, asWhole};
+ghost use Rattle.lingua.specs.Store.{Limit, Variable, variableAt, within, admitted as checks};
+ghost use Rattle.checked.specs.Meaning.{Current, HasCurrent, LimitAt, Running, Checkable, Admits};
+
+pub fn between(low: i64, high: i64, z: i64) -> bool
+    ensures { λ r. ⌜ r ≡ (leZ low z && leZ z high) ⌝ }
+{
+    if low <= z {
+        return z <= high;
+    }
+    false
+}
+
+// Whether a number lies within variable n's limit, where it has one.
+fn in_limits(limits: &[i64], n: usize, z: i64) -> bool
+    requires { ⌜ 3 * n + 3 ≤ length (now limits) ⌝ }
+    ensures { λ r. ⌜ ((l : Option Limit) → LimitAt (now (limits .entry)) (3 * n) l → r ≡ within l z) ⌝ }
+{
+    if limits[3 * n] == 0 {
+        return true;
+    }
+    let low = limits[3 * n + 1];
+    let high = limits[3 * n + 2];
+    between(low, high, z)
+}
+
+// A number's cell; for a value of another body 0 stands.
+fn whole(body: [u8; 96], value: &[i64]) -> i64
+    requires { ⌜ HasCurrent (now value) body ⌝ }
+    ensures { λ r. ⌜ ((x : Composite) → Current (now (value .entry)) body x → r ≡ asWhole (x .value)) ⌝ }
+{
+    if body[0] == NUMBER {
+        return value[0];
+    }
+    0
+}
+
+// Whether variable n may take a value of a body, which lies outside the stack: its yoke is evaluated there.
+pub fn admitted(
+    rows: &[u8],
+    t: Table,
+    variables: &[u8],
+    limits: &[i64],
+    cells: &[i64],
+    states: &[u16],
+    n: usize,
+    value: &[i64],
+    body: [u8; 96],
+    stack: &mut [i64],
+) -> u8
+    requires { ⌜ Checkable (now rows) t (now variables) (now limits) (now cells) (now states) n (now value) body ⌝ }
+    requires { ⌜ body-cells * (t .count + 1) ≤ length (now stack) ⌝ }
+    ensures { λ r. ⌜ ((vs : List Variable) (x : Composite) → Running (now (rows .entry)) t (now (variables .entry)) (now (limits .entry)) (now (cells .entry)) (now (states .entry)) vs → n < length vs → Current (now (value .entry)) body x
+        → Admits r (checks vs (variableAt vs n) x)) ⌝ }
+{
+    let yoke = states[2 * n + 1] as usize;
+    let given = eval_yoke(
+        rows,
+        t,
+        variables,
+        cells,
+        states,
+        yoke,
+        value,
+        body,
+        &mut *stack,
+    );
+    if given.error != NO_ERROR {
+        return given.error;
+    }
+    let own = declared(variables, n);
+    if !same(own, body) {
+        return NO_COHERENCE;
+    }
+    let told = truth_of(given, YOKE_EXPECTED, stack);
+    if told.error != NO_ERROR {
+        return told.error;
+    }
+    if !told.holds {
+        return YOKE_NOT_SATISFIED;
+    }
+    let z = whole(body, value);
+    if !in_limits(limits, n, z) {
+        return YOKE_NOT_SATISFIED;
+    }
+    NO_ERROR
+}

@@ -1,0 +1,36 @@
+// Yoke change: the value that the variable has must satisfy the new yoke, which is then noted in its state word.
+use crate::holds::yoke_holds;
+use lingua::errors::NO_ERROR;
+use rules::tables::Table;
+ghost use mathlib.Core.List.{List};
+ghost use Prim.Native.Nat.{_+_, _*_, _<_, _≤_};
+ghost use lib.ListN.{length};
+ghost use Rattle.lingua.specs.Numbers.{body-cells};
+ghost use Rattle.lingua.specs.Store.{Variable, yokeChanged};
+ghost use Rattle.lingua.specs.Trees.{yokeTree};
+ghost use Rattle.checked.specs.Meaning.{Running, HasRunning, Assigns};
+
+pub fn change_yoke(
+    rows: &[u8],
+    t: Table,
+    variables: &[u8],
+    limits: &[i64],
+    cells: &[i64],
+    states: &mut [u16],
+    n: usize,
+    y: u16,
+    stack: &mut [i64],
+) -> u8
+    requires { ⌜ HasRunning (now rows) t (now variables) (now limits) (now cells) (now states) n ⌝ }
+    requires { ⌜ y ≤ t .count ⌝ }
+    requires { ⌜ body-cells * (y + 1) ≤ length (now stack) ⌝ }
+    ensures { λ r. ⌜ ((vs : List Variable) → Running (now (rows .entry)) t (now (variables .entry)) (now (limits .entry)) (now (cells .entry)) (now (states .entry)) vs → n < length vs
+        → Assigns r (now (rows .entry)) t (now (variables .entry)) (now (limits .entry)) (now (cells .entry)) (now (cells .entry)) (now (states .entry)) (now (states .exit)) (yokeChanged vs n (yokeTree (now (rows .entry)) y))) ⌝ }
+{
+    let error = yoke_holds(rows, t, variables, cells, states, n, y as usize, stack);
+    if error != NO_ERROR {
+        return error;
+    }
+    states[2 * n + 1] = y;
+    NO_ERROR
+}

@@ -1,0 +1,46 @@
+// Readings (document 01): a number from outside, in range or an overflow, is assigned to its variable.
+use crate::admit::between;
+use crate::answer::Evaluated;
+use crate::assign::assign;
+use body::make::simple;
+use body::walk::NUMBER;
+use lingua::errors::NO_ERROR;
+use lingua::errors::OVERFLOW;
+use lingua::sizes::HIGHEST_NUMBER;
+use lingua::sizes::LOWEST_NUMBER;
+use rules::tables::Table;
+ghost use mathlib.Core.List.{List};
+ghost use Prim.Native.Nat.{_+_, _*_, _<_, _≤_};
+ghost use lib.ListN.{length};
+ghost use Rattle.lingua.specs.Numbers.{body-cells};
+ghost use Rattle.lingua.specs.Store.{Variable, readingTaken};
+ghost use Rattle.checked.specs.Meaning.{reading, Running, HasRunning, Assigns};
+
+pub fn take_reading(
+    rows: &[u8],
+    t: Table,
+    variables: &[u8],
+    limits: &[i64],
+    cells: &mut [i64],
+    states: &mut [u16],
+    n: usize,
+    z: i64,
+    stack: &mut [i64],
+) -> u8
+    requires { ⌜ HasRunning (now rows) t (now variables) (now limits) (now cells) (now states) n ⌝ }
+    requires { ⌜ body-cells * (t .count + 1) ≤ length (now stack) ⌝ }
+    ensures { λ r. ⌜ ((vs : List Variable) → Running (now (rows .entry)) t (now (variables .entry)) (now (limits .entry)) (now (cells .entry)) (now (states .entry)) vs → n < length vs
+        → Assigns r (now (rows .entry)) t (now (variables .entry)) (now (limits .entry)) (now (cells .entry)) (now (cells .exit)) (now (states .entry)) (now (states .exit)) (readingTaken vs (reading n z))) ⌝ }
+{
+    if !between(LOWEST_NUMBER, HIGHEST_NUMBER, z) {
+        return OVERFLOW;
+    }
+    let body = simple(NUMBER);
+    stack[0] = z;
+    let x = Evaluated {
+        error: NO_ERROR,
+        body: body,
+        cells: 1,
+    };
+    assign(rows, t, variables, limits, cells, states, n, x, stack)
+}

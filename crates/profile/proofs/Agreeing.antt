@@ -1,0 +1,137 @@
+-- Rules 15 and 16: the order of signed numbers, and tests of every limit and every reading. Assumes nothing.
+use mathlib.Core.Path.{_≡_, refl, sym, ap, _∙_}
+use mathlib.Core.Bool.{Bool, true, false, not, _&&_, _||_, and-false}
+use mathlib.Core.List.{List, [], _∷_}
+use Prim.Native.Nat.{ℕ, zero, suc, _+_, _≤_, _<_}
+use native.Mathlib.Omega.{arith}
+use lib.Dec.{ltb, leb}
+use lib.ListN.{length, getD}
+use lib.IntN.{ℤ, pos, negsuc}
+use lib.Signed.{ltZ, leZ}
+use borrow.Author.Tests.{ltb-true, ltb-false, lt-ltb, le-ltb, le-leb, lt-leb}
+use Rattle.lingua.specs.Numbers.{lowest-number, highest-number, most-readings, declaration-section, limit-section}
+use Rattle.lingua.specs.Value.{inRange, allOf}
+use Rattle.lingua.specs.Compute.{sameText}
+use Rattle.lingua.specs.Rows.{pairCount}
+use Rattle.lingua.specs.Trees.{limitRow, nameAt}
+use Rattle.lingua.specs.Format.{everyBelow}
+use Rattle.lingua.specs.Refusal.{isNumberVariable, namesNumber, limitFits, limitWrong, readingWrong}
+use Rattle.laws.specs.Outcomes.{and-both}
+use Rattle.laws.specs.Tests.{every-at, every-false}
+
+-- ---- order
+nat-order : (a b : ℕ) → leb b a ≡ not (ltb a b)
+nat-order a b = by (ltb a b) refl
+  where
+    by : (t : Bool) → ltb a b ≡ t → leb b a ≡ not t
+    by true e = lt-leb b a (ltb-true a b e)
+    by false e = le-leb b a (ltb-false a b e)
+
+order : (a b : ℤ) → leZ b a ≡ not (ltZ a b)
+order (pos a) (pos b) = nat-order a b
+order (pos a) (negsuc b) = refl
+order (negsuc a) (pos b) = refl
+order (negsuc a) (negsuc b) = nat-order b a
+
+pub below-range : (z : ℤ) → ltZ z lowest-number ≡ true → false ≡ inRange z
+unfolding inRange
+below-range z e = sym (ap (λ (t : Bool). t && leZ z highest-number) (order z lowest-number ∙ ap not e))
+
+pub above-range : (z : ℤ) → ltZ highest-number z ≡ true → false ≡ inRange z
+unfolding inRange
+above-range z e = sym (ap (λ (t : Bool). leZ lowest-number z && t) (order highest-number z ∙ ap not e) ∙ and-false (leZ lowest-number z))
+
+pub in-its-range : (z : ℤ) → ltZ z lowest-number ≡ false → ltZ highest-number z ≡ false → true ≡ inRange z
+unfolding inRange
+in-its-range z e f = sym (and-both (leZ lowest-number z) (leZ z highest-number) (order z lowest-number ∙ ap not e) (order highest-number z ∙ ap not f))
+
+-- ---- tests one after another
+pub one-wrong : (n : ℕ) (p : ℕ → Bool) (k : ℕ) → p k ≡ false → k < n → true ≡ not (everyBelow n p)
+one-wrong n p k e h = ap not (sym (every-false n p k e h))
+
+pub none-wrong : (n i : ℕ) (p : ℕ → Bool) → everyBelow i p ≡ true → i ≡ n → false ≡ not (everyBelow n p)
+none-wrong n i p h e = ap not (sym (ap (λ (k : ℕ). everyBelow k p) (sym e) ∙ h))
+
+pub every-begins : (p : ℕ → Bool) → everyBelow 0 p ≡ true
+unfolding everyBelow
+every-begins p = refl
+
+-- ---- names
+module _ (rows name : List ℕ) where
+  pub name-test : ℕ → Bool
+  name-test d = not (sameText (nameAt rows declaration-section d) name && isNumberVariable rows d)
+
+  pub test-fails : (d : ℕ) (b : Bool) → b ≡ (sameText (nameAt rows declaration-section d) name && isNumberVariable rows d) → b ≡ true → name-test d ≡ false
+  unfolding name-test
+  test-fails d b e h = ap not (sym e ∙ h)
+
+  pub test-passes : (d : ℕ) (b : Bool) → b ≡ (sameText (nameAt rows declaration-section d) name && isNumberVariable rows d) → b ≡ false → name-test d ≡ true
+  unfolding name-test
+  test-passes d b e h = ap not (sym e ∙ h)
+
+  pub name-found : (n d : ℕ) → n ≡ pairCount rows declaration-section → name-test d ≡ false → d < n → true ≡ namesNumber rows name
+  unfolding namesNumber name-test
+  name-found n d q e h = one-wrong (pairCount rows declaration-section) name-test d e (omega arith)
+
+  pub name-missing : (n d : ℕ) → n ≡ pairCount rows declaration-section → everyBelow d name-test ≡ true → d ≡ n → false ≡ namesNumber rows name
+  unfolding namesNumber name-test
+  name-missing n d q e h = none-wrong (pairCount rows declaration-section) d name-test e (h ∙ q)
+
+pub both-so : (a b c d : Bool) → a ≡ b → a ≡ true → c ≡ d → c ≡ (b && d)
+both-so a b c d e h q = q ∙ sym (ap (λ (t : Bool). t && d) (sym e ∙ h))
+
+pub first-not : (a b d : Bool) → a ≡ b → a ≡ false → false ≡ (b && d)
+first-not a b d e h = sym (ap (λ (t : Bool). t && d) (sym e ∙ h))
+
+-- ---- a limit
+module _ (rows limits : List ℕ) (l : ℕ) (low high : ℤ) (el : low ≡ limitRow limits l .low) (eh : high ≡ limitRow limits l .high) where
+  fits-by : (a b c d : Bool) → leZ low high ≡ a → inRange low ≡ b → inRange high ≡ c → namesNumber rows (nameAt limits limit-section l) ≡ d → limitFits rows limits l ≡ (a && b && c && d)
+  unfolding limitFits
+  fits-by a b c d p q r s = rw (← el, ← eh, p, q, r, s)
+
+  pub ends-crossed : ltZ high low ≡ true → false ≡ limitFits rows limits l
+  ends-crossed e = sym (fits-by false (inRange low) (inRange high) _ (order high low ∙ ap not e) refl refl refl)
+
+  pub low-outside : (b : Bool) → ltZ high low ≡ false → b ≡ inRange low → b ≡ false → false ≡ limitFits rows limits l
+  low-outside b e q h = sym (fits-by true false (inRange high) _ (order high low ∙ ap not e) (sym q ∙ h) refl refl)
+
+  pub high-outside : (b c : Bool) → ltZ high low ≡ false → b ≡ inRange low → b ≡ true → c ≡ inRange high → c ≡ false → false ≡ limitFits rows limits l
+  high-outside b c e q h r k = sym (fits-by true true false _ (order high low ∙ ap not e) (sym q ∙ h) (sym r ∙ k) refl)
+
+  pub name-decides : (b c d : Bool) → ltZ high low ≡ false → b ≡ inRange low → b ≡ true → c ≡ inRange high → c ≡ true → d ≡ namesNumber rows (nameAt limits limit-section l) → d ≡ limitFits rows limits l
+  name-decides b c d e q h r k s = sym (fits-by true true true d (order high low ∙ ap not e) (sym q ∙ h) (sym r ∙ k) (sym s))
+
+pub limits-wrong : (rows limits : List ℕ) (n l : ℕ) (b : Bool) → n ≡ pairCount limits limit-section → b ≡ limitFits rows limits l → b ≡ false → l < n → true ≡ limitWrong rows limits
+unfolding limitWrong
+limits-wrong rows limits n l b q e h k = one-wrong (pairCount limits limit-section) (λ j. limitFits rows limits j) l (sym e ∙ h) (omega arith)
+
+pub limits-right : (rows limits : List ℕ) (n l : ℕ) → n ≡ pairCount limits limit-section → everyBelow l (λ j. limitFits rows limits j) ≡ true → l ≡ n → false ≡ limitWrong rows limits
+unfolding limitWrong
+limits-right rows limits n l q e h = none-wrong (pairCount limits limit-section) l (λ j. limitFits rows limits j) e (h ∙ q)
+
+-- ---- readings
+all-by : (p : ℕ → Bool) (vs : List ℕ) → ((k : ℕ) → k < length vs → p (getD vs k 0) ≡ true) → allOf p vs ≡ true
+unfolding allOf
+all-by p [] h = refl
+all-by p (v ∷ vs) h = and-both (p v) (allOf p vs) (h 0 (omega arith)) (all-by p vs (λ k l. h (suc k) (omega arith)))
+
+all-fails : (p : ℕ → Bool) (vs : List ℕ) (k : ℕ) → k < length vs → p (getD vs k 0) ≡ false → allOf p vs ≡ false
+unfolding allOf
+all-fails p [] k h e = absurd (let z : ⊥ = omega arith in z)
+all-fails p (v ∷ vs) zero h e = ap (λ (t : Bool). t && allOf p vs) e
+all-fails p (v ∷ vs) (suc k) h e = ap (λ (t : Bool). p v && t) (all-fails p vs k (omega arith) e) ∙ and-false (p v)
+
+module _ (rows vs : List ℕ) where
+  pub too-many : most-readings < length vs → true ≡ readingWrong rows vs
+  unfolding readingWrong
+  too-many h = rw (lt-ltb most-readings (length vs) h)
+
+  pub reading-fails : (i : ℕ) (b : Bool) → length vs ≤ most-readings → i < length vs → b ≡ isNumberVariable rows (getD vs i 0) → b ≡ false → true ≡ readingWrong rows vs
+  unfolding readingWrong
+  reading-fails i b n h e f =
+      rw (le-ltb most-readings (length vs) n, all-fails (λ v. isNumberVariable rows v) vs i h (sym e ∙ f))
+
+  pub readings-right : (i : ℕ) → length vs ≤ most-readings → everyBelow i (λ k. isNumberVariable rows (getD vs k 0)) ≡ true → length vs ≤ i → false ≡ readingWrong rows vs
+  unfolding readingWrong
+  readings-right i n h l =
+      rw (le-ltb most-readings (length vs) n, all-by (λ v. isNumberVariable rows v) vs (λ k q. every-at i (λ j. isNumberVariable rows (getD vs j 0)) k h (omega arith)))

@@ -1,0 +1,124 @@
+-- Declarations and limits: their rows, a variable's body, and the search for a name. Assumes nothing.
+use mathlib.Core.Path.{_≡_, refl, sym, ap, ap₂, _∙_, subst}
+use mathlib.Core.Logic.{_≢_}
+use mathlib.Core.Bool.{Bool, true, false, _&&_}
+use mathlib.Core.List.{List}
+use mathlib.Core.Option.{Option, some, none}
+use Prim.Native.Nat.{ℕ, zero, suc, _+_, _-_, _*_, _/_, _≤_, _<_}
+use native.Mathlib.Numerals.{add-one}
+use native.Mathlib.Omega.{arith}
+use lib.Dec.{eqb, ltb}
+use lib.ListN.{length, getD}
+use lib.IntN.{ℤ}
+use mir.Syntax.{w32}
+use mir.Val.{toZ}
+use borrow.Author.Tests.{eqb-true, eqb-false, lt-ltb, le-ltb}
+use Rattle.lingua.specs.Numbers.{declaration-section, type-section, limit-section, row-bytes}
+use Rattle.lingua.specs.Outcome.{ok, Result}
+use Rattle.lingua.specs.Body.{Body, isNumber}
+use Rattle.lingua.specs.Compute.{sameText}
+use Rattle.lingua.specs.Store.{Limit}
+use Rattle.lingua.specs.Rows.{word32, aAt, bAt, lowAt, highAt, bytesAt, tableStart, tableCount, rowIn, pairCount, nameRow, detailRow}
+use Rattle.lingua.specs.Trees.{typeBody, declaredBody, limitRow, nameAt, limitIf, limitFrom, limitOf}
+use Rattle.lingua.specs.References.{declaredYoke}
+use Rattle.lingua.specs.Refusal.{isNumberBody, isNumberVariable}
+use Rattle.safety.specs.Accepted.{AcceptedRows, declared-type}
+use Rattle.rules.specs.Tables.{IsTable}
+use Rattle.rules.specs.declared.tables.Table.{Table}
+use Rattle.body.specs.Encode.{Holds}
+use Rattle.body.proofs.Tags.{is-number, not-number}
+use Rattle.profile.specs.Accepted.{counts}
+use Rattle.profile.specs.Types.{bodyAt, BodiesBelow}
+use Rattle.profile.specs.Variables.{DeclaredIs, limitMeaning}
+use Rattle.profile.specs.declared.limits.Limit.the-variants.{Within, Nothing}
+
+-- ---- rows of pairs
+module _ (rows : List ℕ) (s : ℕ) (t : Table) (is : IsTable rows s t) where
+  pub detail-place : (d : ℕ) → t .start + (2 * d + 1) ≡ detailRow rows s d
+  unfolding detailRow rowIn
+  detail-place d = ap (λ (n : ℕ). n + (2 * d + 1)) (is .start)
+
+  pub name-place : (d : ℕ) → t .start + 2 * d ≡ nameRow rows s d
+  unfolding nameRow rowIn
+  name-place d = ap (λ (n : ℕ). n + 2 * d) (is .start)
+
+  pub pairs : t .count / 2 ≡ pairCount rows s
+  unfolding pairCount
+  pairs = ap (λ (n : ℕ). n / 2) (is .count)
+
+  -- a name that is compared
+  pub same-name : (d : ℕ) (name cs : List ℕ) (b : Bool) → cs ≡ bytesAt rows (t .start + 2 * d) → b ≡ sameText cs name → b ≡ sameText (nameAt rows s d) name
+  unfolding nameAt
+  same-name d name cs b e h = h ∙ ap (λ (l : List ℕ). sameText l name) (e ∙ ap (bytesAt rows) (name-place d))
+
+pub yoke-is : (rows : List ℕ) (t : Table) (d r : ℕ) → IsTable rows declaration-section t → r ≡ bAt rows (t .start + (2 * d + 1)) → r ≡ declaredYoke rows d
+unfolding declaredYoke
+yoke-is rows t d r is e = e ∙ ap (bAt rows) (detail-place rows declaration-section t is d)
+
+-- ---- a variable's body
+module _ (rows bodies : List ℕ) (accepted : AcceptedRows rows) (t : Table) (is : IsTable rows declaration-section t) (held : BodiesBelow rows bodies (tableCount rows type-section)) (d : ℕ) (l : d < t .count / 2) where
+  type-there : aAt rows (detailRow rows declaration-section d) < tableCount rows type-section
+  type-there = declared-type rows accepted d (omega (arith, pairs rows declaration-section t is))
+
+  pub type-inside : (r : ℕ) → r ≡ aAt rows (detailRow rows declaration-section d) → 96 * r + 96 ≤ length bodies
+  type-inside r e = omega (arith, type-there, held .long, counts rows (accepted .counts) .types .most)
+
+  pub declared-is : (r : ℕ) (x : List ℕ) → r ≡ aAt rows (detailRow rows declaration-section d) → x ≡ bodyAt bodies r → DeclaredIs rows d x
+  unfolding declaredBody
+  declared-is r x e q =
+      let h = held .each (aAt rows (detailRow rows declaration-section d)) type-there in
+      record { body = h .body; is = h .is; holds = subst (λ (y : List ℕ). Holds y (h .body)) (sym (q ∙ ap (bodyAt bodies) e)) (h .holds) }
+
+number-flag : (x : List ℕ) (b : Body) → Holds x b → eqb (getD x 0 0) 2 ≡ isNumber b
+number-flag x b h = by (eqb (getD x 0 0) 2) refl
+  where
+    by : (f : Bool) → eqb (getD x 0 0) 2 ≡ f → f ≡ isNumber b
+    by true e = sym (is-number x b h (eqb-true (getD x 0 0) 2 e))
+    by false e = sym (not-number x b h (eqb-false (getD x 0 0) 2 e))
+
+pub no-variable-there : (rows : List ℕ) (t : Table) (d : ℕ) → IsTable rows declaration-section t → t .count / 2 ≤ d → false ≡ isNumberVariable rows d
+unfolding isNumberVariable
+no-variable-there rows t d is h = rw (le-ltb d (pairCount rows declaration-section) (omega (arith, pairs rows declaration-section t is)))
+
+pub number-there : (rows : List ℕ) (t : Table) (d : ℕ) (x : List ℕ) → IsTable rows declaration-section t → d < t .count / 2 → DeclaredIs rows d x → eqb (getD x 0 0) 2 ≡ isNumberVariable rows d
+unfolding isNumberVariable
+number-there rows t d x is h v =
+    number-flag x (v .body) (v .holds)
+    ∙ rw (lt-ltb d (pairCount rows declaration-section) (omega (arith, pairs rows declaration-section t is)), v .is)
+
+-- ---- limits
+module _ (limits : List ℕ) (t : Table) (is : IsTable limits limit-section t) (l n : ℕ) (z : ℤ) where
+  pub low-is : n ≡ word32 limits (10 * (t .start + (2 * l + 1)) + 2) → z ≡ toZ w32 n → z ≡ limitRow limits l .low
+  unfolding limitRow lowAt
+  low-is e h = h ∙ ap (λ (i : ℕ). toZ w32 i) (e ∙ ap (λ (i : ℕ). word32 limits (10 * i + 2)) (detail-place limits limit-section t is l))
+
+  pub high-is : n ≡ word32 limits (10 * (t .start + (2 * l + 1)) + 6) → z ≡ toZ w32 n → z ≡ limitRow limits l .high
+  unfolding limitRow highAt
+  high-is e h = h ∙ ap (λ (i : ℕ). toZ w32 i) (e ∙ ap (λ (i : ℕ). word32 limits (10 * i + 6)) (detail-place limits limit-section t is l))
+
+module _ (limits name : List ℕ) where
+  pub search-begins : (count : ℕ) → count ≡ pairCount limits limit-section → limitOf limits name ≡ limitFrom 0 (count - 0) limits name
+  unfolding limitOf
+  search-begins count e = ap (λ (n : ℕ). limitFrom 0 n limits name) (let q : pairCount limits limit-section ≡ count - 0 = omega arith in q)
+
+  module _ (l count : ℕ) where
+    turn : l < count → limitFrom l (count - l) limits name ≡ limitIf (sameText (nameAt limits limit-section l) name) (limitRow limits l) (limitFrom (suc l) (count - (l + 1)) limits name)
+    unfolding limitFrom
+    turn h = ap (λ (n : ℕ). limitFrom l n limits name) (let q : count - l ≡ suc (count - (l + 1)) = omega arith in q)
+
+    pub search-found : (low high : ℤ) → l < count → true ≡ sameText (nameAt limits limit-section l) name → low ≡ limitRow limits l .low → high ≡ limitRow limits l .high
+        → limitOf limits name ≡ limitFrom l (count - l) limits name → limitMeaning (Within low high) ≡ limitOf limits name
+    unfolding limitMeaning
+    search-found low high h b p q e =
+        ap₂ (λ (x y : ℤ). some (record { low = x; high = y })) p q
+        ∙ sym (e ∙ turn h ∙ ap (λ (t : Bool). limitIf t (limitRow limits l) (limitFrom (suc l) (count - (l + 1)) limits name)) (sym b))
+
+    pub search-goes-on : l < count → false ≡ sameText (nameAt limits limit-section l) name
+        → limitOf limits name ≡ limitFrom l (count - l) limits name → limitOf limits name ≡ limitFrom (l + 1) (count - (l + 1)) limits name
+    search-goes-on h b e =
+        e ∙ turn h ∙ ap (λ (t : Bool). limitIf t (limitRow limits l) (limitFrom (suc l) (count - (l + 1)) limits name)) (sym b)
+        ∙ ap (λ (k : ℕ). limitFrom k (count - (l + 1)) limits name) (sym (add-one l))
+
+    pub search-ends : count ≤ l → limitOf limits name ≡ limitFrom l (count - l) limits name → limitMeaning Nothing ≡ limitOf limits name
+    unfolding limitMeaning limitFrom
+    search-ends h e = sym (e ∙ ap (λ (n : ℕ). limitFrom l n limits name) (let q : count - l ≡ 0 = omega arith in q))

@@ -1,0 +1,73 @@
+-- The ways in which the public call ends: refused, or by what the whole check concludes. Assumes nothing.
+use mathlib.Core.Path.{_≡_, refl, sym, ap, _∙_, subst}
+use mathlib.Core.Bool.{true, not}
+use mathlib.Core.List.{List}
+use Prim.Native.Nat.{ℕ, zero, suc}
+use lib.Dec.{eqb}
+use lib.ListN.{length, take}
+use borrow.Author.Tests.{eq-eqb, ne-eqb}
+use Rattle.lingua.specs.Numbers.{layout-length, type-section}
+use Rattle.lingua.specs.Errors.{bad-buffer}
+use Rattle.lingua.specs.Value.{allOf}
+use Rattle.lingua.specs.Rows.{tableCount}
+use Rattle.lingua.specs.Format.{rowsOf}
+use Rattle.lingua.specs.Refusal.{lowest, fileRules, rowRules, wholeFileRules, pairRules, checkRefusal}
+use Rattle.lingua.specs.Trees.{profileOf}
+use Rattle.lingua.specs.Typing.{checkProfile}
+use Rattle.lingua.specs.Answers.{checkMeaning}
+use Rattle.lingua.specs.declared.CheckAnswer.the-variants as check-answer
+use Rattle.lingua.specs.Calls.{checkUnless, checkCall, checkResult}
+use Rattle.laws.specs.Refusals.{lowest-skip, lowest-first, allAbove}
+use Rattle.safety.specs.Accepted.{AcceptedRows, accepted-pair}
+use Rattle.profile.specs.Types.{BodiesBelow}
+use Rattle.accept.specs.Pair.{PairIs}
+use Rattle.accept.specs.declared.Pair.{Pair}
+use Rattle.typecheck.specs.declared.verdicts.Verdict.{Verdict}
+use Rattle.typecheck.specs.Verdicts.{Concludes}
+use Rattle.typecheck.proofs.Answering.{verdict-passed, verdict-failed}
+
+above-one : (prof lims : List ℕ) → allAbove 1 (pairRules prof lims) ≡ true
+unfolding pairRules wholeFileRules fileRules rowRules allOf
+above-one prof lims = refl
+
+call-refused : (prof lims layout : List ℕ) (n m : ℕ) → checkRefusal prof lims layout ≡ n → n ≡ suc m → checkResult (check-answer.Refused n) layout ≡ checkCall prof lims layout
+unfolding checkResult checkCall checkUnless checkMeaning
+call-refused prof lims layout n m e s = rw (e, s)
+
+pub check-short : (prof lims layout : List ℕ) → (length layout ≡ layout-length → ⊥) → checkResult (check-answer.Refused 1) layout ≡ checkCall prof lims layout
+unfolding checkRefusal
+check-short prof lims layout h =
+    call-refused prof lims layout 1 0
+    (lowest-first bad-buffer (not (eqb (length layout) layout-length)) (pairRules prof lims) (ap not (ne-eqb (length layout) layout-length h)) (above-one prof lims)) refl
+
+module _ (prof lims layout areas others bodies : List ℕ) (p : Pair) (room : length layout ≡ layout-length) (h : PairIs p prof lims areas others bodies) where
+  refusal-is : checkRefusal prof lims layout ≡ p .refusal
+  unfolding checkRefusal
+  refusal-is =
+      lowest-skip bad-buffer (not (eqb (length layout) layout-length)) (pairRules prof lims) (ap not (eq-eqb (length layout) layout-length room)) ∙ sym (h .refusal)
+
+  some-number : (n : ℕ) → (n ≡ 0 → ⊥) → (m : ℕ) × (n ≡ suc m)
+  some-number zero k = absurd (k refl)
+  some-number (suc m) k = (m, refl)
+
+  pub check-refused : (p .refusal ≡ 0 → ⊥) → checkResult (check-answer.Refused (p .refusal)) layout ≡ checkCall prof lims layout
+  check-refused k = let s = some-number (p .refusal) k in call-refused prof lims layout (p .refusal) (s .0) refusal-is (s .1)
+
+  module _ (z : p .refusal ≡ 0) where
+    pub rows-accepted : AcceptedRows (take (p .rows) areas)
+    rows-accepted = subst (λ (rows : List ℕ). AcceptedRows rows) (sym (h .taken z .rows)) (accepted-pair prof lims (sym (h .refusal) ∙ z))
+
+    pub bodies-held : BodiesBelow (take (p .rows) areas) bodies (tableCount (take (p .rows) areas) type-section)
+    bodies-held = subst (λ (rows : List ℕ). BodiesBelow rows bodies (tableCount rows type-section)) (sym (h .taken z .rows)) (h .taken z .held)
+
+    module _ (v : Verdict) (exit : List ℕ) (c : (limits : List ℕ) → Concludes v exit (checkProfile (profileOf (take (p .rows) areas) limits))) where
+      concludes : Concludes v exit (checkProfile (profileOf (rowsOf prof) (rowsOf lims)))
+      concludes = subst (λ (rows : List ℕ). Concludes v exit (checkProfile (profileOf rows (rowsOf lims)))) (h .taken z .rows) (c (rowsOf lims))
+
+      pub check-passed : v .error ≡ 0 → checkResult check-answer.Passed exit ≡ checkCall prof lims layout
+      unfolding checkResult checkCall checkUnless checkMeaning
+      check-passed e = rw (refusal-is, z) (sym (verdict-passed v exit (checkProfile (profileOf (rowsOf prof) (rowsOf lims))) concludes e))
+
+      pub check-failed : (v .error ≡ 0 → ⊥) → checkResult (check-answer.TypeError (v .error) (v .place)) exit ≡ checkCall prof lims layout
+      unfolding checkResult checkCall checkUnless checkMeaning
+      check-failed k = rw (refusal-is, z) (sym (verdict-failed v exit (checkProfile (profileOf (rowsOf prof) (rowsOf lims))) concludes k))
