@@ -21,7 +21,7 @@ pub struct Ended {
     pub steps: u16,
 }
 
-pub fn bad_case(out: &mut [u8]) -> usize {
+pub(crate) fn bad_case(out: &mut [u8]) -> usize {
     put_bytes(out, 0, b"bad case\n")
 }
 
@@ -47,7 +47,7 @@ fn ending(end: u8, error: u8, place: u16, steps: u16) -> Ended {
     }
 }
 
-pub fn run_line(
+pub(crate) fn run_line(
     answer: RunAnswer,
     kept: bool,
     cells: &[i64],
@@ -87,7 +87,7 @@ fn ended_line(ended: Ended, cells: &[i64], states: &[u16], out: &mut [u8]) -> us
     put(out, end, b'\n')
 }
 
-pub fn check_line(answer: CheckAnswer, kept: bool, layout: &[u16], out: &mut [u8]) -> usize {
+pub(crate) fn check_line(answer: CheckAnswer, kept: bool, layout: &[u16], out: &mut [u8]) -> usize {
     match answer {
         CheckAnswer::Refused(number) => refused(number, kept, out),
         CheckAnswer::Passed => passed_line(layout, out),
@@ -108,7 +108,7 @@ fn type_error_line(error: u8, place: u16, out: &mut [u8]) -> usize {
     put(out, end, b'\n')
 }
 
-pub fn read_line(answer: ReadAnswer, kept: bool, rows: &[u8], out: &mut [u8]) -> usize {
+pub(crate) fn read_line(answer: ReadAnswer, kept: bool, rows: &[u8], out: &mut [u8]) -> usize {
     match answer {
         ReadAnswer::Refused(number) => refused(number, kept, out),
         ReadAnswer::Rows { model, count } => rows_line(model, count, rows, out),
@@ -125,7 +125,7 @@ fn rows_line(model: u16, count: u16, rows: &[u8], out: &mut [u8]) -> usize {
     put(out, end, b'\n')
 }
 
-pub fn write_line(answer: WriteAnswer, kept: bool, file: &[u8], out: &mut [u8]) -> usize {
+pub(crate) fn write_line(answer: WriteAnswer, kept: bool, file: &[u8], out: &mut [u8]) -> usize {
     match answer {
         WriteAnswer::Refused(number) => refused(number, kept, out),
         WriteAnswer::Written => file_line(file, out),

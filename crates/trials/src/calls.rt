@@ -25,21 +25,21 @@ pub enum RunCalled {
     Missing,
 }
 
-pub fn read(kind: FileKind, file: &[u8], rows: &mut [u8]) -> ReadCalled {
+pub(crate) fn read(kind: FileKind, file: &[u8], rows: &mut [u8]) -> ReadCalled {
     ReadCalled::Made(format::read(kind, file, rows))
 }
 
-pub fn write(kind: FileKind, model: u16, rows: &[u8], file: &mut [u8]) -> WriteCalled {
+pub(crate) fn write(kind: FileKind, model: u16, rows: &[u8], file: &mut [u8]) -> WriteCalled {
     WriteCalled::Made(format::write(kind, model, rows, file))
 }
 
 // Document 01: inspection.
-pub fn check_types(profile: &[u8], limits: &[u8], layout: &mut [u16]) -> CheckCalled {
+pub(crate) fn check_types(profile: &[u8], limits: &[u8], layout: &mut [u16]) -> CheckCalled {
     CheckCalled::Made(typecheck::call::check_types(profile, limits, layout))
 }
 
 // Document 01: desk run.
-pub fn run_checked(
+pub(crate) fn run_checked(
     profile: &[u8],
     limits: &[u8],
     variables: &[u16],
@@ -52,7 +52,7 @@ pub fn run_checked(
 }
 
 // Document 01: chair run.
-pub fn run_erased(
+pub(crate) fn run_erased(
     profile: &[u8],
     limits: &[u8],
     variables: &[u16],

@@ -29,7 +29,7 @@ pub enum KindFound {
 }
 
 // The answer's line at the start of `out`, and its length.
-pub fn answer(line: &[u8], out: &mut [u8]) -> usize {
+pub(crate) fn answer(line: &[u8], out: &mut [u8]) -> usize {
     let kind = field(line, 0);
     let count = count_fields(line);
     if count == 3 {

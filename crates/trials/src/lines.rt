@@ -21,7 +21,7 @@ pub struct Reading {
 
 // A proved loop has to end, and nothing says that the input does. So the turns are counted down, from a number that no
 // run uses up.
-pub fn serve(input: &mut [u8], out: &mut [u8]) {
+pub(crate) fn serve(input: &mut [u8], out: &mut [u8]) {
     let mut reading = Reading {
         from: 0,
         to: 0,

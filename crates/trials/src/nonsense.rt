@@ -5,7 +5,7 @@ pub const WORD: u16 = 42405;
 
 pub const CELL: i64 = -6510615555426900571;
 
-pub fn bytes_kept(bytes: &[u8]) -> bool {
+pub(crate) fn bytes_kept(bytes: &[u8]) -> bool {
     let mut i = 0;
     while i < bytes.len() {
         if bytes[i] != BYTE {
@@ -16,7 +16,7 @@ pub fn bytes_kept(bytes: &[u8]) -> bool {
     true
 }
 
-pub fn words_kept(words: &[u16]) -> bool {
+pub(crate) fn words_kept(words: &[u16]) -> bool {
     let mut i = 0;
     while i < words.len() {
         if words[i] != WORD {
@@ -27,7 +27,7 @@ pub fn words_kept(words: &[u16]) -> bool {
     true
 }
 
-pub fn cells_kept(cells: &[i64]) -> bool {
+pub(crate) fn cells_kept(cells: &[i64]) -> bool {
     let mut i = 0;
     while i < cells.len() {
         if cells[i] != CELL {
