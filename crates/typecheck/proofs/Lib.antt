@@ -1,6 +1,5 @@
 pub mod Rows
 pub mod Parts
-pub mod Offsets
 pub mod Returns
 pub mod Settling
 pub mod Wholes

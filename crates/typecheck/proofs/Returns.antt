@@ -18,7 +18,8 @@ use Rattle.laws.specs.Outcomes.{is-boolean}
 use Rattle.body.specs.Encode.{Holds, Held}
 use Rattle.typecheck.specs.declared.leaves.Checked.{Checked}
 use Rattle.body.specs.declared.typed.Typed.{Typed as Half-typed}
-use Rattle.typecheck.specs.Check.{Noted, Passes, Gives, Half-passes, Half-fails, Half}
+use Rattle.halves.specs.Half.{Half-passes, Half-fails, Half}
+use Rattle.typecheck.specs.Check.{Noted, Passes, Gives}
 
 -- ---- outcomes
 pub record Passed (c : Checked) (entry exit : List ℕ) (o : Outcome TypeError Typed) : Type 0 where

@@ -3,8 +3,8 @@ use mathlib.Core.Path.{_≡_}
 use mathlib.Core.List.{List}
 use Prim.Native.Nat.{ℕ, _+_, _*_, _≤_, _<_}
 use lib.ListN.{length, getD, set}
-use Rattle.lingua.specs.Numbers.{layout-length, body-cells, declaration-section, type-section, expression-section}
-use Rattle.lingua.specs.Outcome.{Outcome, ok, fail, Result}
+use Rattle.lingua.specs.Numbers.{layout-length, declaration-section, type-section, expression-section}
+use Rattle.lingua.specs.Outcome.{Outcome, ok, fail}
 use Rattle.lingua.specs.Body.{Body, boolean, size}
 use Rattle.lingua.specs.Typing.{TypeError, Typed, Bodies, placed}
 use Rattle.lingua.specs.Rows.{tableCount, pairCount}
@@ -14,7 +14,6 @@ use Rattle.profile.specs.Types.{BodiesBelow}
 use Rattle.rules.specs.Tables.{AreTables}
 use Rattle.rules.specs.declared.tables.Tables.{Tables}
 use Rattle.body.specs.Encode.{Holds, Held}
-use Rattle.body.specs.declared.typed.Typed.{Typed as Half-typed}
 use Rattle.typecheck.specs.declared.leaves.Checked.{Checked}
 
 -- ---- what is given
@@ -58,18 +57,3 @@ pub record Fails (c : Checked) (e : TypeError) : Type 0 where
 unfoldable pub Gives : Checked → List ℕ → List ℕ → Outcome TypeError Typed → Type 0
 Gives c entry exit (ok t) = Passes c entry exit t
 Gives c entry exit (fail e) = Fails c e
-
--- an operation's half on bodies, with the layout table's second number
-pub record Half-passes (h : Half-typed) (b : Body) (second : ℕ) : Type 0 where
-  pub passed : h .error ≡ 0
-  pub holds : Holds (h .body) b
-  pub is-second : h .offset ≡ second
-  pub small : h .offset ≤ body-cells
-
-pub record Half-fails (h : Half-typed) (n : ℕ) : Type 0 where
-  pub some-error : 1 ≤ n
-  pub error : h .error ≡ n
-
-unfoldable pub Half : Half-typed → Result Body → (Body → ℕ) → Type 0
-Half h (ok b) second = Half-passes h b (second b)
-Half h (fail n) second = Half-fails h n

@@ -1,6 +1,5 @@
 // The type check (document 01: inspection): the checks of a run on bodies alone, and the layout table.
 pub mod call; // call.rt: the public call
-pub mod halves; // halves.rt: an operation's half on bodies
 pub mod leaves; // leaves.rt: what the walk does at one row
 pub mod verdicts; // verdicts.rt: yokes, tests and instructions
 pub mod walk; // walk.rt: down an expression's tree

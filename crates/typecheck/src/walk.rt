@@ -1,7 +1,5 @@
 // The check of an expression, down its tree: operands are lower rows, so the row number falls at each call. Each row is noted in
 // the layout table after its operands.
-use crate::halves::binary_half;
-use crate::halves::unary_half;
 use crate::leaves::Checked;
 use crate::leaves::fault;
 use crate::leaves::noted;
@@ -9,6 +7,8 @@ use crate::leaves::variable_body;
 use body::parts::same;
 use body::unary::is_boolean;
 use body::walk::measure_body;
+use halves::binary_half;
+use halves::unary_half;
 use lingua::errors::BOOLEAN_EXPECTED;
 use lingua::errors::NO_COHERENCE;
 use lingua::errors::YOKE_EXPECTED;
