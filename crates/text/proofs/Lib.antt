@@ -1,6 +1,5 @@
 mod Texts
 mod Spelling
-mod Signs
-mod Parsed
+pub mod Signs
 mod Cells
 mod Names

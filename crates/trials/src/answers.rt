@@ -1,17 +1,17 @@
 // Each call's answer as a line at the start of a buffer, with the line's length.
+use crate::first;
+use crate::hex::put_hex;
+use crate::sparse::put_cells;
+use crate::sparse::put_words;
 use lingua::CheckAnswer;
 use lingua::ReadAnswer;
 use lingua::RunAnswer;
 use lingua::WriteAnswer;
 use lingua::sizes::ROW_BYTES;
-use text::first;
-use text::hex::put_hex;
 use text::number::put_decimal;
 use text::put::put;
 use text::put::put_bytes;
 use text::report::put_refused_line;
-use text::sparse::put_cells;
-use text::sparse::put_words;
 
 // What a run that was made answers; `end` is 0 finished, 1 failed, 2 out.
 pub struct Ended {

@@ -11,17 +11,17 @@ use crate::calls::CheckCalled;
 use crate::calls::ReadCalled;
 use crate::calls::RunCalled;
 use crate::calls::WriteCalled;
+use crate::fields::count_fields;
+use crate::fields::field;
+use crate::fields::same;
+use crate::first;
+use crate::hex::decode;
 use crate::nonsense;
+use crate::parse::Count;
+use crate::parse::Word;
+use crate::parse::parse_inputs;
+use crate::parse::parse_word;
 use lingua::FileKind;
-use text::fields::count_fields;
-use text::fields::field;
-use text::fields::same;
-use text::first;
-use text::hex::decode;
-use text::parse::Count;
-use text::parse::Word;
-use text::parse::parse_inputs;
-use text::parse::parse_word;
 
 pub enum KindFound {
     Of(FileKind),

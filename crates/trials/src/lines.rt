@@ -5,10 +5,10 @@ ghost use lib.ListN.{length};
 ghost use Rattle.trials.specs.Inside.{Inside};
 use crate::answers::bad_case;
 use crate::cases::answer;
+use crate::fields::find;
+use crate::first;
 use libc::STDIN_FILENO;
 use libc::STDOUT_FILENO;
-use text::fields::find;
-use text::first;
 
 // Where the input stands: what was read and not yet taken lies from `from` to `to`. While `skipping`, it belongs to a
 // line that was too long and has its answer already.

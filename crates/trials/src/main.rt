@@ -3,8 +3,13 @@
 mod answers; // answers.rt: each call's answer as a line
 mod calls; // calls.rt: the library's calls
 mod cases; // cases.rt: a line taken apart, and the call that it asks for
+mod fields; // fields.rt: the parts of a line
+mod first; // first.rt: the first elements of a slice
+mod hex; // hex.rt: bytes in hex, both ways
 mod lines; // lines.rt: lines from standard input, answers to standard output
 mod nonsense; // nonsense.rt: what lent buffers hold before a call
+mod parse; // parse.rt: decimal numbers and lists of readings, from text
+mod sparse; // sparse.rt: lists of the places that are not zero
 
 // A line of 65,535 bytes and its end fill the input whole. The longest answer has 1,024 cells of up to 26 bytes each.
 fn main() {
