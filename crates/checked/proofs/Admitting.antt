@@ -30,7 +30,8 @@ use Rattle.cells.specs.Stack.{Lies}
 use Rattle.cells.proofs.Singles.{number-cell}
 use Rattle.checked.specs.declared.answer.Evaluated.{Evaluated}
 use Rattle.checked.specs.declared.answer.Truth.{Truth}
-use Rattle.checked.specs.Meaning.{Stored, World, Running, YokeOf, LimitAt, Current, HasCurrent, Gives, Tells, Admits}
+use Rattle.profile.specs.Variables.{LimitAt}
+use Rattle.checked.specs.Meaning.{Stored, World, Running, YokeOf, Current, HasCurrent, Gives, Tells, Admits}
 use Rattle.checked.proofs.Storing.{lies-long, pad-long}
 
 -- ---- limits

@@ -12,3 +12,5 @@ pub mod Keeping
 pub mod Assigning
 pub mod Changing
 pub mod Readings
+pub mod Acting
+pub mod Instructing

@@ -1,26 +1,30 @@
 -- What the code of the checked run holds and gives. Assumes nothing: these are definitions.
 use mathlib.Core.Path.{_≡_}
-use mathlib.Core.Bool.{Bool, true}
+use mathlib.Core.Bool.{Bool, true, false}
 use mathlib.Core.List.{List}
-use mathlib.Core.Option.{Option, some, none}
-use Prim.Native.Nat.{ℕ, _+_, _*_, _≤_, _<_}
-use lib.IntN.{ℤ, pos}
-use lib.ListN.{length, take, drop, getD}
+use mathlib.Core.Option.{some}
+use Prim.Native.Nat.{ℕ, _*_, _≤_, _<_}
+use lib.IntN.{ℤ}
+use lib.ListN.{length, take, drop}
 use Rattle.lingua.specs.Numbers.{declaration-section, expression-section, most-variables}
 use Rattle.lingua.specs.Errors.{no-error}
 use Rattle.lingua.specs.Outcome.{ok, fail, Result, allAnswers}
 use Rattle.lingua.specs.Body.{size, isBoolean}
 use Rattle.lingua.specs.Value.{Composite, allOf, asTruth}
 use Rattle.lingua.specs.Rows.{tableCount, pairCount}
-use Rattle.lingua.specs.Store.{Limit, Reading, Variable, variableAt, cellsIn, statesIn}
-use Rattle.lingua.specs.Expression.{Yoke}
+use Rattle.lingua.specs.Store.{Reading, Variable, variableAt, cellsIn, statesIn}
+use Rattle.lingua.specs.Expression.{Yoke, Instruction}
 use Rattle.lingua.specs.Trees.{yokeTree}
+use Rattle.lingua.specs.Run.{Progress, exec}
 use Rattle.safety.specs.Accepted.{AcceptedRows}
 use Rattle.safety.specs.Constants.{Fitting}
 use Rattle.rules.specs.Tables.{IsTable}
+use Rattle.profile.specs.Variables.{LimitAt}
 use Rattle.rules.specs.declared.tables.Table.{Table}
 use Rattle.body.specs.Encode.{Holds, body-bytes}
 use Rattle.cells.specs.Stack.{Lies, first-place}
+use Rattle.steps.specs.Moments.{stateOf, progressOf}
+use Rattle.steps.specs.declared.Moment.{Moment}
 use Rattle.checked.specs.declared.answer.Evaluated.{Evaluated}
 use Rattle.checked.specs.declared.answer.Truth.{Truth}
 use Rattle.checked.specs.declared.seen.Seen.{Seen}
@@ -74,11 +78,6 @@ pub record Ready (rows : List ℕ) (t : Table) (variables : List ℕ) (cells : L
   pub has : HasCurrent current body
 
 -- ---- what assignments ask
--- a limit in three cells: whether there is one, and its two ends
-unfoldable pub LimitAt : List ℤ → ℕ → Option Limit → Type 0
-LimitAt limits at none = getD limits at (pos 0) ≡ pos 0
-LimitAt limits at (some l) = (getD limits at (pos 0) ≡ pos 1) × (getD limits (at + 1) (pos 0) ≡ l .low) × (getD limits (at + 2) (pos 0) ≡ l .high)
-
 -- a yoke of the profile, by its number
 pub record YokeOf (rows : List ℕ) (y : Yoke) : Type 0 where
   pub number : ℕ
@@ -155,6 +154,29 @@ pub record Keeps (r : ℕ) (cells after : List ℤ) (states words : List ℕ) (p
 pub record Assigns (r : ℕ) (rows : List ℕ) (t : Table) (variables : List ℕ) (limits : List ℤ) (cells after : List ℤ) (states words : List ℕ) (p : Result (List Variable)) : Type 0 where
   pub answer : r ≡ no-error → Stores rows t variables limits after words p
   pub error : (r ≡ no-error → ⊥) → Keeps r cells after states words p
+
+-- ---- what instructions ask and give
+-- a run that goes on; a place is recorded only with an error
+pub record Going (m : Moment) : Type 0 where
+  pub not-out : m .out ≡ false
+  pub clean : m .error ≡ no-error → m .place ≡ 0
+
+-- the run stands where the definition does: the store in memory, and the moment beside it
+pub record Reaches (rows : List ℕ) (t : Table) (variables : List ℕ) (limits : List ℤ) (cells : List ℤ) (states : List ℕ) (m : Moment) (q : Progress) : Type 0 where
+  pub store : List Variable
+  pub is : q ≡ progressOf (m .out) (stateOf m store)
+  pub running : Running rows t variables limits cells states store
+  pub clean : m .error ≡ no-error → m .place ≡ 0
+
+-- an instruction that leaves the store as it is
+pub record Passes (m r : Moment) (i : Instruction) : Type 0 where
+  pub is : (vs : List Variable) → exec i (stateOf m vs) ≡ progressOf (r .out) (stateOf r vs)
+  pub clean : r .error ≡ no-error → r .place ≡ 0
+
+-- some store of a run
+pub record HasRun (rows : List ℕ) (t : Table) (variables : List ℕ) (limits : List ℤ) (cells : List ℤ) (states : List ℕ) : Type 0 where
+  pub store : List Variable
+  pub running : Running rows t variables limits cells states store
 
 -- a Boolean's value, or the error
 pub record Tells (r : Truth) (o : Result Bool) : Type 0 where

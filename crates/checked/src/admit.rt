@@ -19,7 +19,8 @@ ghost use lib.Signed.{leZ};
 ghost use Rattle.lingua.specs.Numbers.{body-cells};
 ghost use Rattle.lingua.specs.Value.{Composite, asWhole};
 ghost use Rattle.lingua.specs.Store.{Limit, Variable, variableAt, within, admitted as checks};
-ghost use Rattle.checked.specs.Meaning.{Current, HasCurrent, LimitAt, Running, Checkable, Admits};
+ghost use Rattle.profile.specs.Variables.{LimitAt};
+ghost use Rattle.checked.specs.Meaning.{Current, HasCurrent, Running, Checkable, Admits};
 
 pub fn between(low: i64, high: i64, z: i64) -> bool
     ensures { λ r. ⌜ r ≡ (leZ low z && leZ z high) ⌝ }

@@ -1,12 +1,13 @@
 // The checked run (document 01: desk run): with bodies and every check.
 mod admit; // admit.rt: the checks of a new value
-mod assign; // assign.rt: assignment
+pub mod assign; // assign.rt: assignment
 pub mod answer; // answer.rt: what evaluation gives
-mod change; // change.rt: yoke change
+pub mod change; // change.rt: yoke change
+pub mod exec; // exec.rt: instructions, by their rows
 mod holds; // holds.rt: whether a value satisfies a new yoke
 mod leaves; // leaves.rt: constants, variables and the current value
 mod operate; // operate.rt: an operation on evaluated operands
-mod reading; // reading.rt: numbers from outside
+pub mod reading; // reading.rt: numbers from outside
 mod seen; // seen.rt: the results of an all-list yoke
 pub mod eval; // eval.rt: expressions on the operand stack
 pub mod yoke; // yoke.rt: yokes, and expressions outside them

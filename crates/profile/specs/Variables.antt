@@ -1,8 +1,10 @@
--- A variable's declared body, and its limit, as the code has them. Assumes nothing: these are definitions.
+-- A variable's declared body, and its limit, as the code has them; and limits as a run keeps them. Assumes nothing: these are definitions.
 use mathlib.Core.Path.{_≡_}
 use mathlib.Core.List.{List}
 use mathlib.Core.Option.{Option, some, none}
-use Prim.Native.Nat.{ℕ}
+use Prim.Native.Nat.{ℕ, _+_}
+use lib.IntN.{ℤ, pos}
+use lib.ListN.{getD}
 use Rattle.lingua.specs.Outcome.{ok}
 use Rattle.lingua.specs.Body.{Body}
 use Rattle.lingua.specs.Store.{Limit}
@@ -19,3 +21,8 @@ pub record DeclaredIs (rows : List ℕ) (d : ℕ) (x : List ℕ) : Type 0 where
 unfoldable pub limitMeaning : CodeLimit → Option Limit
 limitMeaning (Within low high) = some (record { low = low; high = high })
 limitMeaning Nothing = none
+
+-- a limit in three cells: whether there is one, and its two ends
+unfoldable pub LimitAt : List ℤ → ℕ → Option Limit → Type 0
+LimitAt limits at none = getD limits at (pos 0) ≡ pos 0
+LimitAt limits at (some l) = (getD limits at (pos 0) ≡ pos 1) × (getD limits (at + 1) (pos 0) ≡ l .low) × (getD limits (at + 2) (pos 0) ≡ l .high)

@@ -43,8 +43,8 @@ pub fn type_body(bodies: &[u8], r: usize) -> [u8; 96]
     out
 }
 
-// The body of type row r is kept in its place.
-fn keep_body(bodies: &mut [u8], r: usize, body: [u8; 96])
+// A body is kept in place r of an array of bodies: a type row's, or a variable's.
+pub fn keep_body(bodies: &mut [u8], r: usize, body: [u8; 96])
     requires { ⌜ 96 * r + 96 ≤ length (now bodies) ⌝ }
     ensures { λ u. ⌜ now (bodies .exit) ≡ paste (now (bodies .entry)) (96 * r) body 96 ⌝ }
 {

@@ -1,0 +1,536 @@
+-- The cycle of instructions meets its contracts: exec on a row calls the others at that row, and they call exec on lower rows.
+-- One law of Instructing.antt for each way that a member ends. Assumes nothing.
+use mathlib.Core.Path.{_≡_, refl}
+use mathlib.Core.List.{List}
+use Prim.Native.Nat.{_+_, _*_}
+use native.Mathlib.Omega.{arith}
+use lib.ListN.{length}
+use borrow.Author.Needs.{needs}
+use borrow.Author.Tests.{not-true, not-false}
+use Rattle.lingua.specs.Store.{Variable}
+use Rattle.lingua.specs.Expression.{loop}
+use Rattle.lingua.specs.Trees.{expressionTree, instructionTree}
+use Rattle.lingua.specs.Run.{exec as meaning}
+use Rattle.profile.specs.Facts.{InstructionFacts, instructionRowTree}
+use Rattle.steps.specs.Moments.{stateOf}
+use Rattle.checked.specs.Meaning.{Running}
+use Rattle.checked.proofs.Acting.{going-after, stays, reaches-as}
+use Rattle.checked.proofs.Instructing.{few-instructions, sequence-out, sequence-on, branch-passed, branch-out, branch-failed, branch-yes, branch-no, handle-out, handle-other, handle-own, cleared-going, Turning, first-turn, turns-over, turn-out, turn-failed, turn-last, body-out, fewer-left, next-turn, meant-as, row-facts, yoke-within, by-instruction}
+use Prim.Native.Nat.{ℕ, _<_}
+use borrow.Fn.Kinds.{In}
+use borrow.Fn.PlainCycle.{Measures, is, falls, and}
+use Rattle.checked.proofs.exec.branch.Reads as branch
+use Rattle.checked.proofs.exec.branch.Kinds as branch-kinds
+use Rattle.checked.proofs.exec.+branch+exec+handle+turns.Lts-branch as branch-lts
+use Rattle.checked.proofs.exec.exec.Reads as exec
+use Rattle.checked.proofs.exec.exec.Kinds as exec-kinds
+use Rattle.checked.proofs.exec.+branch+exec+handle+turns.Lts-exec as exec-lts
+use Rattle.checked.proofs.exec.handle.Reads as handle
+use Rattle.checked.proofs.exec.handle.Kinds as handle-kinds
+use Rattle.checked.proofs.exec.+branch+exec+handle+turns.Lts-handle as handle-lts
+use Rattle.checked.proofs.exec.turns.Reads as turns
+use Rattle.checked.proofs.exec.turns.Kinds as turns-kinds
+use Rattle.checked.proofs.exec.+branch+exec+handle+turns.Lts-turns as turns-lts
+use Rattle.checked.proofs.exec.assignment.Reads as assignment-reads
+use Rattle.checked.proofs.exec.skip.Reads as skip-reads
+use Rattle.checked.proofs.exec.yoke_change.Reads as yoke-change-reads
+use Rattle.checked.proofs.yoke.eval_test.Reads as eval-test-reads
+use Rattle.profile.proofs.row.instruction_row.Reads as instruction-row-reads
+use Rattle.steps.proofs.cleared.Reads as cleared-reads
+use Rattle.steps.proofs.settled.Reads as settled-reads
+use Rattle.steps.proofs.stepped.Reads as stepped-reads
+use Rattle.checked.proofs.exec.+branch+exec+handle+turns.{statement}
+use Rattle.checked.proofs.exec.+branch+exec+handle+turns.Tie.{close}
+
+abbrev μ-branch : Measures 6 branch-kinds.ps ℕ
+μ-branch κs a = 2 * a .1 .1 .1 .1 .1 .1 .1 .0
+
+abbrev μ-exec : Measures 6 exec-kinds.ps ℕ
+μ-exec κs a = 2 * a .1 .1 .1 .1 .1 .1 .1 .0 + 1
+
+abbrev μ-handle : Measures 6 handle-kinds.ps ℕ
+μ-handle κs a = 2 * a .1 .1 .1 .1 .1 .1 .1 .0
+
+abbrev μ-turns : Measures 6 turns-kinds.ps ℕ
+μ-turns κs a = 2 * a .1 .1 .1 .1 .1 .1 .1 .0
+
+abbrev branch-at : ℕ → In 6 branch-kinds.ps
+branch-at t = and 6 branch-kinds.ps (is 6 branch-kinds.ps μ-branch t) branch.Pre
+
+abbrev branch-below : ℕ → In 6 branch-kinds.ps
+branch-below t = and 6 branch-kinds.ps (falls 6 branch-kinds.ps _<_ μ-branch t) branch.Pre
+
+abbrev exec-at : ℕ → In 6 exec-kinds.ps
+exec-at t = and 6 exec-kinds.ps (is 6 exec-kinds.ps μ-exec t) exec.Pre
+
+abbrev exec-below : ℕ → In 6 exec-kinds.ps
+exec-below t = and 6 exec-kinds.ps (falls 6 exec-kinds.ps _<_ μ-exec t) exec.Pre
+
+abbrev handle-at : ℕ → In 6 handle-kinds.ps
+handle-at t = and 6 handle-kinds.ps (is 6 handle-kinds.ps μ-handle t) handle.Pre
+
+abbrev handle-below : ℕ → In 6 handle-kinds.ps
+handle-below t = and 6 handle-kinds.ps (falls 6 handle-kinds.ps _<_ μ-handle t) handle.Pre
+
+abbrev turns-at : ℕ → In 6 turns-kinds.ps
+turns-at t = and 6 turns-kinds.ps (is 6 turns-kinds.ps μ-turns t) turns.Pre
+
+abbrev turns-below : ℕ → In 6 turns-kinds.ps
+turns-below t = and 6 turns-kinds.ps (falls 6 turns-kinds.ps _<_ μ-turns t) turns.Pre
+
+abbrev branch-calls : ℕ → branch-lts.Claims
+branch-calls t = (stepped-reads.Asked, stepped-reads.Learnt, eval-test-reads.Asked, eval-test-reads.Learnt, settled-reads.Asked, settled-reads.Learnt, exec-below t, exec.Post)
+
+abbrev exec-calls : ℕ → exec-lts.Claims
+exec-calls t = (instruction-row-reads.Asked, instruction-row-reads.Learnt, skip-reads.Asked, skip-reads.Learnt, assignment-reads.Asked, assignment-reads.Learnt, yoke-change-reads.Asked, yoke-change-reads.Learnt, exec-below t, exec.Post, branch-below t, branch.Post, turns-below t, turns.Post, handle-below t, handle.Post)
+
+abbrev handle-calls : ℕ → handle-lts.Claims
+handle-calls t = (stepped-reads.Asked, stepped-reads.Learnt, cleared-reads.Asked, cleared-reads.Learnt, exec-below t, exec.Post)
+
+abbrev turns-calls : ℕ → turns-lts.Claims
+turns-calls t = (stepped-reads.Asked, stepped-reads.Learnt, eval-test-reads.Asked, eval-test-reads.Learnt, settled-reads.Asked, settled-reads.Learnt, exec-below t, exec.Post)
+
+branch-returns : (t : ℕ) → branch-lts.Need-returns (branch-calls t) (branch-at t) branch.Post
+branch-returns t c = λ vs w. branch-passed w (c .before .before .before .before .before .pre .1 .1 .1 .1 .0) _ _ _ _ (c .if1 .taken)
+
+branch-stepped-requires : (t : ℕ) → branch-lts.Need-stepped-requires (branch-calls t) (branch-at t) branch.Post
+branch-stepped-requires t c κs = search needs
+
+branch-returns-2 : (t : ℕ) → branch-lts.Need-returns-2 (branch-calls t) (branch-at t) branch.Post
+branch-returns-2 t c = λ vs w. branch-out w (c .before .before .before .before .before .before .before .pre .1 .1 .1 .1 .0) _ _ _ _ (c .before .stepped .ensures) (c .before .before .if1 .left) (c .if2 .taken)
+
+branch-eval-test-requires : (t : ℕ) → branch-lts.Need-eval-test-requires (branch-calls t) (branch-at t) branch.Post
+branch-eval-test-requires t c κs = (record { store = c .before .before .before .before .before .before .before .before .before .before .pre .1 .0 .store; world = c .before .before .before .before .before .before .before .before .before .before .pre .1 .0 .running .world }, (c .before .before .before .before .before .before .before .before .before .before .pre .1 .1 .1 .0 .1, omega (arith, c .before .before .before .before .before .before .before .before .before .before .pre .1 .1 .1 .0 .1, c .before .before .before .before .before .before .before .before .before .before .pre .1 .1 .1 .1 .1)))
+
+branch-cast-settled : (t : ℕ) → branch-lts.Need-cast-settled (branch-calls t) (branch-at t) branch.Post
+branch-cast-settled t c = record { fits = omega (arith, c .before .before .before .before .before .before .before .before .before .before .before .before .before .before .pre .1 .1 .1 .0 .0, few-instructions (c .before .before .before .before .before .before .before .before .before .before .before .before .before .before .pre .1 .0 .running) (c .before .before .before .before .before .before .before .before .before .before .before .before .before .before .pre .1 .1 .0)) }
+
+branch-settled-requires : (t : ℕ) → branch-lts.Need-settled-requires (branch-calls t) (branch-at t) branch.Post
+branch-settled-requires t c κs = search needs
+
+branch-same-length : (t : ℕ) → branch-lts.Need-same-length (branch-calls t) (branch-at t) branch.Post
+branch-same-length t c = search needs
+
+branch-same-length-2 : (t : ℕ) → branch-lts.Need-same-length-2 (branch-calls t) (branch-at t) branch.Post
+branch-same-length-2 t c = search needs
+
+branch-same-length-3 : (t : ℕ) → branch-lts.Need-same-length-3 (branch-calls t) (branch-at t) branch.Post
+branch-same-length-3 t c = search needs
+
+branch-returns-3 : (t : ℕ) → branch-lts.Need-returns-3 (branch-calls t) (branch-at t) branch.Post
+branch-returns-3 t c = λ vs w. branch-failed w (c .before .before .before .before .before .before .before .before .before .before .before .before .before .before .before .pre .1 .1 .1 .1 .0) _ _ _ _ (c .before .before .before .before .before .before .before .before .before .stepped .ensures) (c .before .before .before .before .before .before .before .before .before .before .if1 .left) (c .before .before .before .before .before .before .before .before .if2 .left) (c .before .before .before .before .eval-test .ensures vs (w .world)) _ (c .before .if3 .taken) (c .settled .ensures)
+
+branch-exec-requires : (t : ℕ) → branch-lts.Need-exec-requires (branch-calls t) (branch-at t) branch.Post
+branch-exec-requires t c κs = (omega (arith, c .before .before .before .before .before .before .before .before .before .before .before .before .before .before .before .before .before .before .pre .0, c .before .before .before .before .before .before .before .before .before .before .before .before .before .before .before .before .before .before .pre .1 .1 .1 .0 .2), (c .before .before .before .before .before .before .before .before .before .before .before .before .before .before .before .before .before .before .pre .1 .0, (c .before .before .before .before .before .before .before .before .before .before .before .before .before .before .before .before .before .before .pre .1 .1 .0, (omega (arith, c .before .before .before .before .before .before .before .before .before .before .before .before .before .before .before .before .before .before .pre .1 .1 .1 .0 .0, c .before .before .before .before .before .before .before .before .before .before .before .before .before .before .before .before .before .before .pre .1 .1 .1 .0 .2), (going-after (c .before .before .before .before .before .before .before .before .before .before .before .before .before .before .before .before .before .before .pre .1 .1 .1 .1 .0) (c .before .before .before .before .before .before .before .before .before .before .before .before .stepped .ensures) (c .before .before .before .before .before .before .before .before .before .before .before .if2 .left), omega (arith, c .before .before .before .before .before .before .before .before .before .before .before .before .before .before .before .before .before .before .pre .1 .1 .1 .1 .1, c .before .before .before .before .before .before .before .eval-test .kept))))))
+
+branch-same-length-4 : (t : ℕ) → branch-lts.Need-same-length-4 (branch-calls t) (branch-at t) branch.Post
+branch-same-length-4 t c = search needs
+
+branch-same-length-5 : (t : ℕ) → branch-lts.Need-same-length-5 (branch-calls t) (branch-at t) branch.Post
+branch-same-length-5 t c = search needs
+
+branch-same-length-6 : (t : ℕ) → branch-lts.Need-same-length-6 (branch-calls t) (branch-at t) branch.Post
+branch-same-length-6 t c = search needs
+
+branch-returns-4 : (t : ℕ) → branch-lts.Need-returns-4 (branch-calls t) (branch-at t) branch.Post
+branch-returns-4 t c = λ vs w. reaches-as (branch-yes w (c .before .before .before .before .before .before .before .before .before .before .before .before .before .before .before .before .before .before .before .before .before .before .before .pre .1 .1 .1 .1 .0) _ _ _ _ (c .before .before .before .before .before .before .before .before .before .before .before .before .before .before .before .before .before .stepped .ensures) (c .before .before .before .before .before .before .before .before .before .before .before .before .before .before .before .before .before .before .if1 .left) (c .before .before .before .before .before .before .before .before .before .before .before .before .before .before .before .before .if2 .left) (c .before .before .before .before .before .before .before .before .before .before .before .before .eval-test .ensures vs (w .world)) (c .before .before .before .before .before .before .before .before .before .if3 .left) (c .before .before .before .before .before .before .before .before .if4 .taken)) (c .before .before .before .before .exec .ensures vs w)
+
+branch-exec-requires-2 : (t : ℕ) → branch-lts.Need-exec-requires-2 (branch-calls t) (branch-at t) branch.Post
+branch-exec-requires-2 t c κs = (omega (arith, c .before .before .before .before .before .before .before .before .before .before .before .before .before .before .before .before .before .before .pre .0, c .before .before .before .before .before .before .before .before .before .before .before .before .before .before .before .before .before .before .pre .1 .1 .1 .0 .3), (c .before .before .before .before .before .before .before .before .before .before .before .before .before .before .before .before .before .before .pre .1 .0, (c .before .before .before .before .before .before .before .before .before .before .before .before .before .before .before .before .before .before .pre .1 .1 .0, (omega (arith, c .before .before .before .before .before .before .before .before .before .before .before .before .before .before .before .before .before .before .pre .1 .1 .1 .0 .0, c .before .before .before .before .before .before .before .before .before .before .before .before .before .before .before .before .before .before .pre .1 .1 .1 .0 .3), (going-after (c .before .before .before .before .before .before .before .before .before .before .before .before .before .before .before .before .before .before .pre .1 .1 .1 .1 .0) (c .before .before .before .before .before .before .before .before .before .before .before .before .stepped .ensures) (c .before .before .before .before .before .before .before .before .before .before .before .if2 .left), omega (arith, c .before .before .before .before .before .before .before .before .before .before .before .before .before .before .before .before .before .before .pre .1 .1 .1 .1 .1, c .before .before .before .before .before .before .before .eval-test .kept))))))
+
+branch-same-length-7 : (t : ℕ) → branch-lts.Need-same-length-7 (branch-calls t) (branch-at t) branch.Post
+branch-same-length-7 t c = search needs
+
+branch-same-length-8 : (t : ℕ) → branch-lts.Need-same-length-8 (branch-calls t) (branch-at t) branch.Post
+branch-same-length-8 t c = search needs
+
+branch-same-length-9 : (t : ℕ) → branch-lts.Need-same-length-9 (branch-calls t) (branch-at t) branch.Post
+branch-same-length-9 t c = search needs
+
+branch-returns-5 : (t : ℕ) → branch-lts.Need-returns-5 (branch-calls t) (branch-at t) branch.Post
+branch-returns-5 t c = λ vs w. reaches-as (branch-no w (c .before .before .before .before .before .before .before .before .before .before .before .before .before .before .before .before .before .before .before .before .before .before .before .pre .1 .1 .1 .1 .0) _ _ _ _ (c .before .before .before .before .before .before .before .before .before .before .before .before .before .before .before .before .before .stepped .ensures) (c .before .before .before .before .before .before .before .before .before .before .before .before .before .before .before .before .before .before .if1 .left) (c .before .before .before .before .before .before .before .before .before .before .before .before .before .before .before .before .if2 .left) (c .before .before .before .before .before .before .before .before .before .before .before .before .eval-test .ensures vs (w .world)) (c .before .before .before .before .before .before .before .before .before .if3 .left) (c .before .before .before .before .before .before .before .before .if4 .left)) (c .before .before .before .before .exec2 .ensures vs w)
+
+exec-instruction-row-requires : (t : ℕ) → exec-lts.Need-instruction-row-requires (exec-calls t) (exec-at t) exec.Post
+exec-instruction-row-requires t c κs = (c .before .before .before .pre .1 .1 .0, c .before .before .before .pre .1 .1 .1 .0)
+
+exec-enum-told : (t : ℕ) → exec-lts.Need-enum-told (exec-calls t) (exec-at t) exec.Post
+exec-enum-told t c = search needs
+
+exec-skip-requires : (t : ℕ) → exec-lts.Need-skip-requires (exec-calls t) (exec-at t) exec.Post
+exec-skip-requires t c κs = (c .before .before .before .before .before .before .pre .1 .1 .1 .1 .0)
+
+exec-enum-known-says : (t : ℕ) → exec-lts.Need-enum-known-says (exec-calls t) (exec-at t) exec.Post
+exec-enum-known-says t c = search needs
+
+exec-assignment-requires : (t : ℕ) → exec-lts.Need-assignment-requires (exec-calls t) (exec-at t) exec.Post
+unfolding InstructionFacts
+exec-assignment-requires t c κs = let f = row-facts (c .before .before .before .before .before .before .before .before .before .before .pre .1 .0 .running) (c .before .before .before .before .before .before .before .before .before .before .pre .1 .1 .0) (c .before .before .before .before .before .before .before .before .before .before .pre .1 .1 .1 .0) (meant-as (c .before .before .before .before .says .given .1) (c .before .before .before .before .before .before .instruction-row .ensures)) in (c .before .before .before .before .before .before .before .before .before .before .pre .1 .0, (f .0, ((omega (arith, f .1, c .before .before .before .before .before .before .before .before .before .before .pre .1 .0 .running .world .table .count), omega (arith, c .before .before .before .before .before .before .before .before .before .before .pre .1 .1 .1 .0, few-instructions (c .before .before .before .before .before .before .before .before .before .before .pre .1 .0 .running) (c .before .before .before .before .before .before .before .before .before .before .pre .1 .1 .0))), ((c .before .before .before .before .before .before .before .before .before .before .pre .1 .1 .1 .1 .0), c .before .before .before .before .before .before .before .before .before .before .pre .1 .1 .1 .1 .1))))
+
+exec-enum-known-says-2 : (t : ℕ) → exec-lts.Need-enum-known-says-2 (exec-calls t) (exec-at t) exec.Post
+exec-enum-known-says-2 t c = search needs
+
+exec-yoke-change-requires : (t : ℕ) → exec-lts.Need-yoke-change-requires (exec-calls t) (exec-at t) exec.Post
+unfolding InstructionFacts
+exec-yoke-change-requires t c κs = let f = row-facts (c .before .before .before .before .before .before .before .before .before .before .pre .1 .0 .running) (c .before .before .before .before .before .before .before .before .before .before .pre .1 .1 .0) (c .before .before .before .before .before .before .before .before .before .before .pre .1 .1 .1 .0) (meant-as (c .before .before .before .before .says2 .given .1) (c .before .before .before .before .before .before .instruction-row .ensures)) in (c .before .before .before .before .before .before .before .before .before .before .pre .1 .0, (f .0, ((yoke-within (c .before .before .before .before .before .before .before .before .before .before .pre .1 .0 .running) (c .before .before .before .before .before .before .before .before .before .before .pre .1 .1 .0) (c .before .before .before .before .before .before .before .before .before .before .pre .1 .1 .1 .0) (meant-as (c .before .before .before .before .says2 .given .1) (c .before .before .before .before .before .before .instruction-row .ensures)), omega (arith, c .before .before .before .before .before .before .before .before .before .before .pre .1 .1 .1 .0, few-instructions (c .before .before .before .before .before .before .before .before .before .before .pre .1 .0 .running) (c .before .before .before .before .before .before .before .before .before .before .pre .1 .1 .0))), ((c .before .before .before .before .before .before .before .before .before .before .pre .1 .1 .1 .1 .0), c .before .before .before .before .before .before .before .before .before .before .pre .1 .1 .1 .1 .1))))
+
+exec-enum-known-says-3 : (t : ℕ) → exec-lts.Need-enum-known-says-3 (exec-calls t) (exec-at t) exec.Post
+exec-enum-known-says-3 t c = search needs
+
+exec-exec-requires : (t : ℕ) → exec-lts.Need-exec-requires (exec-calls t) (exec-at t) exec.Post
+unfolding InstructionFacts
+exec-exec-requires t c κs = let f = row-facts (c .before .before .before .before .before .before .before .before .before .before .pre .1 .0 .running) (c .before .before .before .before .before .before .before .before .before .before .pre .1 .1 .0) (c .before .before .before .before .before .before .before .before .before .before .pre .1 .1 .1 .0) (meant-as (c .before .before .before .before .says3 .given .1) (c .before .before .before .before .before .before .instruction-row .ensures)) in (omega (arith, c .before .before .before .before .before .before .before .before .before .before .pre .0, f .0), (c .before .before .before .before .before .before .before .before .before .before .pre .1 .0, (c .before .before .before .before .before .before .before .before .before .before .pre .1 .1 .0, (omega (arith, c .before .before .before .before .before .before .before .before .before .before .pre .1 .1 .1 .0, f .0), ((c .before .before .before .before .before .before .before .before .before .before .pre .1 .1 .1 .1 .0), c .before .before .before .before .before .before .before .before .before .before .pre .1 .1 .1 .1 .1)))))
+
+exec-same-length : (t : ℕ) → exec-lts.Need-same-length (exec-calls t) (exec-at t) exec.Post
+exec-same-length t c = search needs
+
+exec-same-length-2 : (t : ℕ) → exec-lts.Need-same-length-2 (exec-calls t) (exec-at t) exec.Post
+exec-same-length-2 t c = search needs
+
+exec-same-length-3 : (t : ℕ) → exec-lts.Need-same-length-3 (exec-calls t) (exec-at t) exec.Post
+exec-same-length-3 t c = search needs
+
+exec-returns : (t : ℕ) → exec-lts.Need-returns (exec-calls t) (exec-at t) exec.Post
+unfolding instructionRowTree
+exec-returns t c = λ vs w. by-instruction w (c .before .before .before .before .before .before .before .before .before .before .before .before .before .before .before .before .pre .1 .1 .0) (c .before .before .before .before .before .before .before .before .before .before .before .before .before .before .before .before .pre .1 .1 .1 .0) _ (meant-as (c .before .before .before .before .before .before .before .before .before .before .says3 .given .1) (c .before .before .before .before .before .before .before .before .before .before .before .before .instruction-row .ensures)) (sequence-out (c .before .before .before .before .before .before .before .before .before .before .before .before .before .before .before .before .args .m) vs _ _ _ (c .before .before .before .before .before .exec .ensures vs w) (c .if1 .taken))
+
+exec-exec-requires-2 : (t : ℕ) → exec-lts.Need-exec-requires-2 (exec-calls t) (exec-at t) exec.Post
+unfolding InstructionFacts
+exec-exec-requires-2 t c κs = let f = row-facts (c .before .before .before .before .before .before .before .before .before .before .before .before .before .before .before .before .before .before .before .pre .1 .0 .running) (c .before .before .before .before .before .before .before .before .before .before .before .before .before .before .before .before .before .before .before .pre .1 .1 .0) (c .before .before .before .before .before .before .before .before .before .before .before .before .before .before .before .before .before .before .before .pre .1 .1 .1 .0) (meant-as (c .before .before .before .before .before .before .before .before .before .before .before .before .before .says3 .given .1) (c .before .before .before .before .before .before .before .before .before .before .before .before .before .before .before .instruction-row .ensures)) in let x = c .before .before .before .before .before .before .before .before .exec .ensures (c .before .before .before .before .before .before .before .before .before .before .before .before .before .before .before .before .before .before .before .pre .1 .0 .store) (c .before .before .before .before .before .before .before .before .before .before .before .before .before .before .before .before .before .before .before .pre .1 .0 .running) in (omega (arith, c .before .before .before .before .before .before .before .before .before .before .before .before .before .before .before .before .before .before .before .pre .0, f .1), (record { store = x .store; running = x .running }, (c .before .before .before .before .before .before .before .before .before .before .before .before .before .before .before .before .before .before .before .pre .1 .1 .0, (omega (arith, c .before .before .before .before .before .before .before .before .before .before .before .before .before .before .before .before .before .before .before .pre .1 .1 .1 .0, f .1), (record { not-out = c .before .before .before .if1 .left; clean = x .clean }, omega (arith, c .before .before .before .before .before .before .before .before .before .before .before .before .before .before .before .before .before .before .before .pre .1 .1 .1 .1 .1, c .before .before .before .before .before .before .before .before .exec .kept))))))
+
+exec-enum-known-says-4 : (t : ℕ) → exec-lts.Need-enum-known-says-4 (exec-calls t) (exec-at t) exec.Post
+exec-enum-known-says-4 t c = search needs
+
+exec-branch-requires : (t : ℕ) → exec-lts.Need-branch-requires (exec-calls t) (exec-at t) exec.Post
+unfolding InstructionFacts
+exec-branch-requires t c κs = let f = row-facts (c .before .before .before .before .before .before .before .before .before .before .pre .1 .0 .running) (c .before .before .before .before .before .before .before .before .before .before .pre .1 .1 .0) (c .before .before .before .before .before .before .before .before .before .before .pre .1 .1 .1 .0) (meant-as (c .before .before .before .before .says4 .given .1) (c .before .before .before .before .before .before .instruction-row .ensures)) in (omega (arith, c .before .before .before .before .before .before .before .before .before .before .pre .0), (c .before .before .before .before .before .before .before .before .before .before .pre .1 .0, (c .before .before .before .before .before .before .before .before .before .before .pre .1 .1 .0, ((c .before .before .before .before .before .before .before .before .before .before .pre .1 .1 .1 .0, omega (arith, f .0, c .before .before .before .before .before .before .before .before .before .before .pre .1 .0 .running .world .table .count), f .1, f .2), ((c .before .before .before .before .before .before .before .before .before .before .pre .1 .1 .1 .1 .0), c .before .before .before .before .before .before .before .before .before .before .pre .1 .1 .1 .1 .1)))))
+
+exec-enum-known-says-5 : (t : ℕ) → exec-lts.Need-enum-known-says-5 (exec-calls t) (exec-at t) exec.Post
+exec-enum-known-says-5 t c = search needs
+
+exec-turns-requires : (t : ℕ) → exec-lts.Need-turns-requires (exec-calls t) (exec-at t) exec.Post
+unfolding InstructionFacts
+exec-turns-requires t c κs = let f = row-facts (c .before .before .before .before .before .before .before .before .before .before .pre .1 .0 .running) (c .before .before .before .before .before .before .before .before .before .before .pre .1 .1 .0) (c .before .before .before .before .before .before .before .before .before .before .pre .1 .1 .1 .0) (meant-as (c .before .before .before .before .says5 .given .1) (c .before .before .before .before .before .before .instruction-row .ensures)) in (omega (arith, c .before .before .before .before .before .before .before .before .before .before .pre .0), (c .before .before .before .before .before .before .before .before .before .before .pre .1 .0, (c .before .before .before .before .before .before .before .before .before .before .pre .1 .1 .0, ((c .before .before .before .before .before .before .before .before .before .before .pre .1 .1 .1 .0, omega (arith, f .0, c .before .before .before .before .before .before .before .before .before .before .pre .1 .0 .running .world .table .count), f .1), ((c .before .before .before .before .before .before .before .before .before .before .pre .1 .1 .1 .1 .0), c .before .before .before .before .before .before .before .before .before .before .pre .1 .1 .1 .1 .1)))))
+
+exec-enum-known-says-6 : (t : ℕ) → exec-lts.Need-enum-known-says-6 (exec-calls t) (exec-at t) exec.Post
+exec-enum-known-says-6 t c = search needs
+
+exec-handle-requires : (t : ℕ) → exec-lts.Need-handle-requires (exec-calls t) (exec-at t) exec.Post
+unfolding InstructionFacts
+exec-handle-requires t c κs = let f = row-facts (c .before .before .before .before .before .before .before .before .before .before .pre .1 .0 .running) (c .before .before .before .before .before .before .before .before .before .before .pre .1 .1 .0) (c .before .before .before .before .before .before .before .before .before .before .pre .1 .1 .1 .0) (meant-as (c .before .before .before .before .says6 .given .1) (c .before .before .before .before .before .before .instruction-row .ensures)) in (omega (arith, c .before .before .before .before .before .before .before .before .before .before .pre .0), (c .before .before .before .before .before .before .before .before .before .before .pre .1 .0, (c .before .before .before .before .before .before .before .before .before .before .pre .1 .1 .0, ((c .before .before .before .before .before .before .before .before .before .before .pre .1 .1 .1 .0, f .1), ((c .before .before .before .before .before .before .before .before .before .before .pre .1 .1 .1 .1 .0), c .before .before .before .before .before .before .before .before .before .before .pre .1 .1 .1 .1 .1)))))
+
+exec-returns-2 : (t : ℕ) → exec-lts.Need-returns-2 (exec-calls t) (exec-at t) exec.Post
+unfolding instructionRowTree
+exec-returns-2 t c = λ vs w. by-instruction w (c .before .before .before .before .before .before .before .pre .1 .1 .0) (c .before .before .before .before .before .before .before .pre .1 .1 .1 .0) _ (meant-as (c .before .enum-told .given .1) (c .before .before .before .instruction-row .ensures)) (stays w (c .skip .ensures .clean) (c .skip .ensures .is vs))
+
+exec-same-length-4 : (t : ℕ) → exec-lts.Need-same-length-4 (exec-calls t) (exec-at t) exec.Post
+exec-same-length-4 t c = search needs
+
+exec-same-length-5 : (t : ℕ) → exec-lts.Need-same-length-5 (exec-calls t) (exec-at t) exec.Post
+exec-same-length-5 t c = search needs
+
+exec-same-length-6 : (t : ℕ) → exec-lts.Need-same-length-6 (exec-calls t) (exec-at t) exec.Post
+exec-same-length-6 t c = search needs
+
+exec-returns-3 : (t : ℕ) → exec-lts.Need-returns-3 (exec-calls t) (exec-at t) exec.Post
+unfolding instructionRowTree
+exec-returns-3 t c = λ vs w. by-instruction w (c .before .before .before .before .before .before .before .before .before .before .before .before .before .before .before .pre .1 .1 .0) (c .before .before .before .before .before .before .before .before .before .before .before .before .before .before .before .pre .1 .1 .1 .0) _ (meant-as (c .before .before .before .before .before .before .before .before .before .says .given .1) (c .before .before .before .before .before .before .before .before .before .before .before .instruction-row .ensures)) (c .before .before .before .before .assignment .ensures vs w)
+
+exec-same-length-7 : (t : ℕ) → exec-lts.Need-same-length-7 (exec-calls t) (exec-at t) exec.Post
+exec-same-length-7 t c = search needs
+
+exec-same-length-8 : (t : ℕ) → exec-lts.Need-same-length-8 (exec-calls t) (exec-at t) exec.Post
+exec-same-length-8 t c = search needs
+
+exec-same-length-9 : (t : ℕ) → exec-lts.Need-same-length-9 (exec-calls t) (exec-at t) exec.Post
+exec-same-length-9 t c = search needs
+
+exec-returns-4 : (t : ℕ) → exec-lts.Need-returns-4 (exec-calls t) (exec-at t) exec.Post
+unfolding instructionRowTree
+exec-returns-4 t c = λ vs w. by-instruction w (c .before .before .before .before .before .before .before .before .before .before .before .before .before .before .pre .1 .1 .0) (c .before .before .before .before .before .before .before .before .before .before .before .before .before .before .pre .1 .1 .1 .0) _ (meant-as (c .before .before .before .before .before .before .before .before .says2 .given .1) (c .before .before .before .before .before .before .before .before .before .before .instruction-row .ensures)) (c .before .before .before .yoke-change .ensures vs w)
+
+exec-same-length-10 : (t : ℕ) → exec-lts.Need-same-length-10 (exec-calls t) (exec-at t) exec.Post
+exec-same-length-10 t c = search needs
+
+exec-same-length-11 : (t : ℕ) → exec-lts.Need-same-length-11 (exec-calls t) (exec-at t) exec.Post
+exec-same-length-11 t c = search needs
+
+exec-same-length-12 : (t : ℕ) → exec-lts.Need-same-length-12 (exec-calls t) (exec-at t) exec.Post
+exec-same-length-12 t c = search needs
+
+exec-returns-5 : (t : ℕ) → exec-lts.Need-returns-5 (exec-calls t) (exec-at t) exec.Post
+unfolding instructionRowTree
+exec-returns-5 t c = λ vs w. let x = c .before .before .before .before .before .before .before .before .before .before .before .before .before .exec .ensures vs w in by-instruction w (c .before .before .before .before .before .before .before .before .before .before .before .before .before .before .before .before .before .before .before .before .before .before .before .before .pre .1 .1 .0) (c .before .before .before .before .before .before .before .before .before .before .before .before .before .before .before .before .before .before .before .before .before .before .before .before .pre .1 .1 .1 .0) _ (meant-as (c .before .before .before .before .before .before .before .before .before .before .before .before .before .before .before .before .before .before .says3 .given .1) (c .before .before .before .before .before .before .before .before .before .before .before .before .before .before .before .before .before .before .before .before .instruction-row .ensures)) (reaches-as (sequence-on (c .before .before .before .before .before .before .before .before .before .before .before .before .before .before .before .before .before .before .before .before .before .before .before .before .args .m) vs _ _ _ x (c .before .before .before .before .before .before .before .before .if1 .left)) (c .before .before .before .before .exec2 .ensures (x .store) (x .running)))
+
+exec-same-length-13 : (t : ℕ) → exec-lts.Need-same-length-13 (exec-calls t) (exec-at t) exec.Post
+exec-same-length-13 t c = search needs
+
+exec-same-length-14 : (t : ℕ) → exec-lts.Need-same-length-14 (exec-calls t) (exec-at t) exec.Post
+exec-same-length-14 t c = search needs
+
+exec-same-length-15 : (t : ℕ) → exec-lts.Need-same-length-15 (exec-calls t) (exec-at t) exec.Post
+exec-same-length-15 t c = search needs
+
+exec-returns-6 : (t : ℕ) → exec-lts.Need-returns-6 (exec-calls t) (exec-at t) exec.Post
+unfolding instructionRowTree
+exec-returns-6 t c = λ vs w. by-instruction w (c .before .before .before .before .before .before .before .before .before .before .before .before .before .before .before .pre .1 .1 .0) (c .before .before .before .before .before .before .before .before .before .before .before .before .before .before .before .pre .1 .1 .1 .0) _ (meant-as (c .before .before .before .before .before .before .before .before .before .says4 .given .1) (c .before .before .before .before .before .before .before .before .before .before .before .instruction-row .ensures)) (c .before .before .before .before .branch .ensures vs w)
+
+exec-same-length-16 : (t : ℕ) → exec-lts.Need-same-length-16 (exec-calls t) (exec-at t) exec.Post
+exec-same-length-16 t c = search needs
+
+exec-same-length-17 : (t : ℕ) → exec-lts.Need-same-length-17 (exec-calls t) (exec-at t) exec.Post
+exec-same-length-17 t c = search needs
+
+exec-same-length-18 : (t : ℕ) → exec-lts.Need-same-length-18 (exec-calls t) (exec-at t) exec.Post
+exec-same-length-18 t c = search needs
+
+exec-returns-7 : (t : ℕ) → exec-lts.Need-returns-7 (exec-calls t) (exec-at t) exec.Post
+unfolding instructionRowTree
+exec-returns-7 t c = λ vs w. by-instruction w (c .before .before .before .before .before .before .before .before .before .before .before .before .before .before .before .pre .1 .1 .0) (c .before .before .before .before .before .before .before .before .before .before .before .before .before .before .before .pre .1 .1 .1 .0) _ (meant-as (c .before .before .before .before .before .before .before .before .before .says5 .given .1) (c .before .before .before .before .before .before .before .before .before .before .before .instruction-row .ensures)) (c .before .before .before .before .turns .ensures vs w)
+
+exec-same-length-19 : (t : ℕ) → exec-lts.Need-same-length-19 (exec-calls t) (exec-at t) exec.Post
+exec-same-length-19 t c = search needs
+
+exec-same-length-20 : (t : ℕ) → exec-lts.Need-same-length-20 (exec-calls t) (exec-at t) exec.Post
+exec-same-length-20 t c = search needs
+
+exec-same-length-21 : (t : ℕ) → exec-lts.Need-same-length-21 (exec-calls t) (exec-at t) exec.Post
+exec-same-length-21 t c = search needs
+
+exec-returns-8 : (t : ℕ) → exec-lts.Need-returns-8 (exec-calls t) (exec-at t) exec.Post
+unfolding instructionRowTree
+exec-returns-8 t c = λ vs w. by-instruction w (c .before .before .before .before .before .before .before .before .before .before .before .before .before .before .before .pre .1 .1 .0) (c .before .before .before .before .before .before .before .before .before .before .before .before .before .before .before .pre .1 .1 .1 .0) _ (meant-as (c .before .before .before .before .before .before .before .before .before .says6 .given .1) (c .before .before .before .before .before .before .before .before .before .before .before .instruction-row .ensures)) (c .before .before .before .before .handle .ensures vs w)
+
+handle-stepped-requires : (t : ℕ) → handle-lts.Need-stepped-requires (handle-calls t) (handle-at t) handle.Post
+handle-stepped-requires t c κs = search needs
+
+handle-returns : (t : ℕ) → handle-lts.Need-returns (handle-calls t) (handle-at t) handle.Post
+handle-returns t c = λ vs w. handle-out w (c .before .before .before .before .before .pre .1 .1 .1 .1 .0) (c .before .stepped .ensures) _ _ _ (c .if1 .taken)
+
+handle-cast-if2 : (t : ℕ) → handle-lts.Need-cast-if2 (handle-calls t) (handle-at t) handle.Post
+handle-cast-if2 t c = search needs
+
+handle-returns-2 : (t : ℕ) → handle-lts.Need-returns-2 (handle-calls t) (handle-at t) handle.Post
+handle-returns-2 t c = λ vs w. handle-other w (c .before .before .before .before .before .before .before .pre .1 .1 .1 .1 .0) (c .before .before .before .stepped .ensures) _ _ _ (c .before .before .if1 .left) (c .if2 .taken)
+
+handle-cleared-requires : (t : ℕ) → handle-lts.Need-cleared-requires (handle-calls t) (handle-at t) handle.Post
+handle-cleared-requires t c κs = search needs
+
+handle-exec-requires : (t : ℕ) → handle-lts.Need-exec-requires (handle-calls t) (handle-at t) handle.Post
+handle-exec-requires t c κs = (omega (arith, c .before .before .before .before .before .before .before .before .before .before .before .pre .0, c .before .before .before .before .before .before .before .before .before .before .before .pre .1 .1 .1 .0 .1), (c .before .before .before .before .before .before .before .before .before .before .before .pre .1 .0, (c .before .before .before .before .before .before .before .before .before .before .before .pre .1 .1 .0, (omega (arith, c .before .before .before .before .before .before .before .before .before .before .before .pre .1 .1 .1 .0 .0, c .before .before .before .before .before .before .before .before .before .before .before .pre .1 .1 .1 .0 .1), (cleared-going (c .before .before .before .before .before .before .before .stepped .result) (c .before .before .before .before .before .before .if1 .left) (c .before .cleared .ensures), c .before .before .before .before .before .before .before .before .before .before .before .pre .1 .1 .1 .1 .1)))))
+
+handle-same-length : (t : ℕ) → handle-lts.Need-same-length (handle-calls t) (handle-at t) handle.Post
+handle-same-length t c = search needs
+
+handle-same-length-2 : (t : ℕ) → handle-lts.Need-same-length-2 (handle-calls t) (handle-at t) handle.Post
+handle-same-length-2 t c = search needs
+
+handle-same-length-3 : (t : ℕ) → handle-lts.Need-same-length-3 (handle-calls t) (handle-at t) handle.Post
+handle-same-length-3 t c = search needs
+
+handle-returns-3 : (t : ℕ) → handle-lts.Need-returns-3 (handle-calls t) (handle-at t) handle.Post
+handle-returns-3 t c = λ vs w. reaches-as (handle-own w (c .before .before .before .before .before .before .before .before .before .before .before .before .before .before .before .before .pre .1 .1 .1 .1 .0) (c .before .before .before .before .before .before .before .before .before .before .before .before .stepped .ensures) _ _ _ _ (c .before .before .before .before .before .before .before .before .before .before .before .if1 .left) (c .before .before .before .before .before .before .before .before .before .if2 .left) (c .before .before .before .before .before .before .cleared .ensures)) (c .before .before .before .before .exec .ensures vs w)
+
+abbrev turns-Inv-loop : turns-lts.InvT-loop
+turns-Inv-loop rows t u variables limits cells₀ states₀ row test i stack₀ at₀ cells states stack at = (length cells ≡ length cells₀) × (length states ≡ length states₀) × (length stack ≡ length stack₀) × ((vs : List Variable) → Running rows t variables limits cells₀ states₀ vs → Turning rows t variables limits cells states row (expressionTree rows test) (instructionTree rows i) at (meaning (loop row (expressionTree rows test) (instructionTree rows i)) (stateOf at₀ vs)))
+
+abbrev turns-μ-loop : turns-lts.MeasureT-loop
+turns-μ-loop rows t u variables limits cells₀ states₀ row test i stack₀ at₀ cells states stack at = at .left
+
+turns-loop-holds : (t : ℕ) → turns-lts.Need-loop-holds (turns-calls t) (turns-at t) turns.Post turns-Inv-loop turns-μ-loop
+turns-loop-holds t c = (refl, refl, refl, λ vs w. first-turn _ _ _ w (c .before .before .before .pre .1 .1 .1 .1 .0))
+
+turns-stepped-requires : (t : ℕ) → turns-lts.Need-stepped-requires (turns-calls t) (turns-at t) turns.Post turns-Inv-loop turns-μ-loop
+turns-stepped-requires t c κs = search needs
+
+turns-same-length : (t : ℕ) → turns-lts.Need-same-length (turns-calls t) (turns-at t) turns.Post turns-Inv-loop turns-μ-loop
+turns-same-length t c = search needs
+
+turns-same-length-2 : (t : ℕ) → turns-lts.Need-same-length-2 (turns-calls t) (turns-at t) turns.Post turns-Inv-loop turns-μ-loop
+turns-same-length-2 t c = search needs
+
+turns-same-length-3 : (t : ℕ) → turns-lts.Need-same-length-3 (turns-calls t) (turns-at t) turns.Post turns-Inv-loop turns-μ-loop
+turns-same-length-3 t c = search needs
+
+turns-returns : (t : ℕ) → turns-lts.Need-returns (turns-calls t) (turns-at t) turns.Post turns-Inv-loop turns-μ-loop
+turns-returns t c = λ vs w. turn-out _ _ _ (c .before .before .before .before .loop .inv .3 vs w) (c .before .stepped .ensures) (c .before .before .if1 .taken) (c .if2 .taken)
+
+turns-eval-test-requires : (t : ℕ) → turns-lts.Need-eval-test-requires (turns-calls t) (turns-at t) turns.Post turns-Inv-loop turns-μ-loop
+turns-eval-test-requires t c κs = let h = c .before .before .before .before .before .before .before .loop .inv .3 (c .before .before .before .before .before .before .before .before .before .before .before .pre .1 .0 .store) (c .before .before .before .before .before .before .before .before .before .before .before .pre .1 .0 .running) in (record { store = h .store; world = h .running .world }, (c .before .before .before .before .before .before .before .before .before .before .before .pre .1 .1 .1 .0 .1, omega (arith, c .before .before .before .before .before .before .before .before .before .before .before .pre .1 .1 .1 .0 .1, c .before .before .before .before .before .before .before .before .before .before .before .pre .1 .1 .1 .1 .1, c .before .before .before .before .before .before .before .loop .inv .2)))
+
+turns-cast-settled : (t : ℕ) → turns-lts.Need-cast-settled (turns-calls t) (turns-at t) turns.Post turns-Inv-loop turns-μ-loop
+turns-cast-settled t c = record { fits = omega (arith, c .before .before .before .before .before .before .before .before .before .before .before .before .before .before .before .pre .1 .1 .1 .0 .0, few-instructions (c .before .before .before .before .before .before .before .before .before .before .before .before .before .before .before .pre .1 .0 .running) (c .before .before .before .before .before .before .before .before .before .before .before .before .before .before .before .pre .1 .1 .0)) }
+
+turns-settled-requires : (t : ℕ) → turns-lts.Need-settled-requires (turns-calls t) (turns-at t) turns.Post turns-Inv-loop turns-μ-loop
+turns-settled-requires t c κs = search needs
+
+turns-same-length-4 : (t : ℕ) → turns-lts.Need-same-length-4 (turns-calls t) (turns-at t) turns.Post turns-Inv-loop turns-μ-loop
+turns-same-length-4 t c = search needs
+
+turns-same-length-5 : (t : ℕ) → turns-lts.Need-same-length-5 (turns-calls t) (turns-at t) turns.Post turns-Inv-loop turns-μ-loop
+turns-same-length-5 t c = search needs
+
+turns-same-length-6 : (t : ℕ) → turns-lts.Need-same-length-6 (turns-calls t) (turns-at t) turns.Post turns-Inv-loop turns-μ-loop
+turns-same-length-6 t c = search needs
+
+turns-returns-2 : (t : ℕ) → turns-lts.Need-returns-2 (turns-calls t) (turns-at t) turns.Post turns-Inv-loop turns-μ-loop
+turns-returns-2 t c = λ vs w. let h = c .before .before .before .before .before .before .before .before .before .before .before .before .loop .inv .3 vs w in turn-failed _ _ _ h (c .before .before .before .before .before .before .before .before .before .stepped .ensures) (c .before .before .before .before .before .before .before .before .before .before .if1 .taken) (c .before .before .before .before .before .before .before .before .if2 .left) (c .before .before .before .before .eval-test .ensures (h .store) (h .running .world)) _ (c .before .if3 .taken) (c .settled .ensures)
+
+turns-same-length-7 : (t : ℕ) → turns-lts.Need-same-length-7 (turns-calls t) (turns-at t) turns.Post turns-Inv-loop turns-μ-loop
+turns-same-length-7 t c = search needs
+
+turns-same-length-8 : (t : ℕ) → turns-lts.Need-same-length-8 (turns-calls t) (turns-at t) turns.Post turns-Inv-loop turns-μ-loop
+turns-same-length-8 t c = search needs
+
+turns-same-length-9 : (t : ℕ) → turns-lts.Need-same-length-9 (turns-calls t) (turns-at t) turns.Post turns-Inv-loop turns-μ-loop
+turns-same-length-9 t c = search needs
+
+turns-returns-3 : (t : ℕ) → turns-lts.Need-returns-3 (turns-calls t) (turns-at t) turns.Post turns-Inv-loop turns-μ-loop
+turns-returns-3 t c = λ vs w. let h = c .before .before .before .before .before .before .before .before .before .before .before .before .before .loop .inv .3 vs w in turn-last _ _ _ h (c .before .before .before .before .before .before .before .before .before .before .stepped .ensures) (c .before .before .before .before .before .before .before .before .before .before .before .if1 .taken) (c .before .before .before .before .before .before .before .before .before .if2 .left) (c .before .before .before .before .before .eval-test .ensures (h .store) (h .running .world)) (c .before .before .if3 .left) (not-true _ (c .if4 .taken))
+
+turns-exec-requires : (t : ℕ) → turns-lts.Need-exec-requires (turns-calls t) (turns-at t) turns.Post turns-Inv-loop turns-μ-loop
+turns-exec-requires t c κs = let h = c .before .before .before .before .before .before .before .before .before .before .before .before .before .before .before .before .loop .inv .3 (c .before .before .before .before .before .before .before .before .before .before .before .before .before .before .before .before .before .before .before .before .pre .1 .0 .store) (c .before .before .before .before .before .before .before .before .before .before .before .before .before .before .before .before .before .before .before .before .pre .1 .0 .running) in (omega (arith, c .before .before .before .before .before .before .before .before .before .before .before .before .before .before .before .before .before .before .before .before .pre .0, c .before .before .before .before .before .before .before .before .before .before .before .before .before .before .before .before .before .before .before .before .pre .1 .1 .1 .0 .2), (record { store = h .store; running = h .running }, (c .before .before .before .before .before .before .before .before .before .before .before .before .before .before .before .before .before .before .before .before .pre .1 .1 .0, (omega (arith, c .before .before .before .before .before .before .before .before .before .before .before .before .before .before .before .before .before .before .before .before .pre .1 .1 .1 .0 .0, c .before .before .before .before .before .before .before .before .before .before .before .before .before .before .before .before .before .before .before .before .pre .1 .1 .1 .0 .2), (going-after (h .going) (c .before .before .before .before .before .before .before .before .before .before .before .before .before .stepped .ensures) (c .before .before .before .before .before .before .before .before .before .before .before .before .if2 .left), omega (arith, c .before .before .before .before .before .before .before .before .before .before .before .before .before .before .before .before .before .before .before .before .pre .1 .1 .1 .1 .1, c .before .before .before .before .before .before .before .before .before .before .before .before .before .before .before .before .loop .inv .2, c .before .before .before .before .before .before .before .before .eval-test .kept))))))
+
+turns-same-length-10 : (t : ℕ) → turns-lts.Need-same-length-10 (turns-calls t) (turns-at t) turns.Post turns-Inv-loop turns-μ-loop
+turns-same-length-10 t c = omega (arith, c .before .before .before .before .before .before .before .before .before .before .before .before .before .before .before .before .before .before .before .before .before .before .loop .inv .0, c .before .before .before .before .before .exec .kept)
+
+turns-same-length-11 : (t : ℕ) → turns-lts.Need-same-length-11 (turns-calls t) (turns-at t) turns.Post turns-Inv-loop turns-μ-loop
+turns-same-length-11 t c = omega (arith, c .before .before .before .before .before .before .before .before .before .before .before .before .before .before .before .before .before .before .before .before .before .before .loop .inv .1, c .before .before .before .before .before .exec .kept)
+
+turns-same-length-12 : (t : ℕ) → turns-lts.Need-same-length-12 (turns-calls t) (turns-at t) turns.Post turns-Inv-loop turns-μ-loop
+turns-same-length-12 t c = omega (arith, c .before .before .before .before .before .before .before .before .before .before .before .before .before .before .before .before .before .before .before .before .before .before .loop .inv .2, c .before .before .before .before .before .exec .kept, c .before .before .before .before .before .before .before .before .before .before .before .before .before .before .eval-test .kept)
+
+turns-returns-4 : (t : ℕ) → turns-lts.Need-returns-4 (turns-calls t) (turns-at t) turns.Post turns-Inv-loop turns-μ-loop
+turns-returns-4 t c = λ vs w. let h = c .before .before .before .before .before .before .before .before .before .before .before .before .before .before .before .before .before .before .before .before .before .before .loop .inv .3 vs w in body-out _ _ _ h (c .before .before .before .before .before .before .before .before .before .before .before .before .before .before .before .before .before .before .before .stepped .ensures) (c .before .before .before .before .before .before .before .before .before .before .before .before .before .before .before .before .before .before .before .before .if1 .taken) (c .before .before .before .before .before .before .before .before .before .before .before .before .before .before .before .before .before .before .if2 .left) (c .before .before .before .before .before .before .before .before .before .before .before .before .before .before .eval-test .ensures (h .store) (h .running .world)) (c .before .before .before .before .before .before .before .before .before .before .before .if3 .left) (not-false _ (c .before .before .before .before .before .before .before .before .before .if4 .left)) (c .before .before .before .before .before .exec .ensures (h .store) (h .running)) (c .if5 .taken)
+
+turns-loop-less : (t : ℕ) → turns-lts.Need-loop-less (turns-calls t) (turns-at t) turns.Post turns-Inv-loop turns-μ-loop
+turns-loop-less t c = let h = c .before .before .before .before .before .before .before .before .before .before .before .before .before .before .before .before .before .before .before .before .before .before .loop .inv .3 (c .before .before .before .before .before .before .before .before .before .before .before .before .before .before .before .before .before .before .before .before .before .before .before .before .before .before .pre .1 .0 .store) (c .before .before .before .before .before .before .before .before .before .before .before .before .before .before .before .before .before .before .before .before .before .before .before .before .before .before .pre .1 .0 .running) in fewer-left _ _ _ h (c .before .before .before .before .before .before .before .before .before .before .before .before .before .before .before .before .before .before .before .stepped .ensures) (c .before .before .before .before .before .before .before .before .before .before .before .before .before .before .before .before .before .before .before .before .if1 .taken) (c .before .before .before .before .before .before .before .before .before .before .before .before .before .before .before .before .before .before .if2 .left) (c .before .before .before .before .before .before .before .before .before .before .before .before .before .before .eval-test .ensures (h .store) (h .running .world)) (c .before .before .before .before .before .before .before .before .before .before .before .if3 .left) (not-false _ (c .before .before .before .before .before .before .before .before .before .if4 .left)) (c .before .before .before .before .before .exec .ensures (h .store) (h .running))
+
+turns-loop-again : (t : ℕ) → turns-lts.Need-loop-again (turns-calls t) (turns-at t) turns.Post turns-Inv-loop turns-μ-loop
+turns-loop-again t c = (omega (arith, c .before .before .before .before .before .before .before .before .before .before .before .before .before .before .before .before .before .before .before .before .before .before .loop .inv .0, c .before .before .before .before .before .exec .kept), omega (arith, c .before .before .before .before .before .before .before .before .before .before .before .before .before .before .before .before .before .before .before .before .before .before .loop .inv .1, c .before .before .before .before .before .exec .kept), omega (arith, c .before .before .before .before .before .before .before .before .before .before .before .before .before .before .before .before .before .before .before .before .before .before .loop .inv .2, c .before .before .before .before .before .before .before .before .before .before .before .before .before .before .eval-test .kept, c .before .before .before .before .before .exec .kept), λ vs w. let h = c .before .before .before .before .before .before .before .before .before .before .before .before .before .before .before .before .before .before .before .before .before .before .loop .inv .3 vs w in next-turn _ _ _ h (c .before .before .before .before .before .before .before .before .before .before .before .before .before .before .before .before .before .before .before .stepped .ensures) (c .before .before .before .before .before .before .before .before .before .before .before .before .before .before .before .before .before .before .before .before .if1 .taken) (c .before .before .before .before .before .before .before .before .before .before .before .before .before .before .before .before .before .before .if2 .left) (c .before .before .before .before .before .before .before .before .before .before .before .before .before .before .eval-test .ensures (h .store) (h .running .world)) (c .before .before .before .before .before .before .before .before .before .before .before .if3 .left) (not-false _ (c .before .before .before .before .before .before .before .before .before .if4 .left)) (c .before .before .before .before .before .exec .ensures (h .store) (h .running)) (c .if5 .left))
+
+turns-same-length-13 : (t : ℕ) → turns-lts.Need-same-length-13 (turns-calls t) (turns-at t) turns.Post turns-Inv-loop turns-μ-loop
+turns-same-length-13 t c = search needs
+
+turns-same-length-14 : (t : ℕ) → turns-lts.Need-same-length-14 (turns-calls t) (turns-at t) turns.Post turns-Inv-loop turns-μ-loop
+turns-same-length-14 t c = search needs
+
+turns-same-length-15 : (t : ℕ) → turns-lts.Need-same-length-15 (turns-calls t) (turns-at t) turns.Post turns-Inv-loop turns-μ-loop
+turns-same-length-15 t c = search needs
+
+turns-returns-5 : (t : ℕ) → turns-lts.Need-returns-5 (turns-calls t) (turns-at t) turns.Post turns-Inv-loop turns-μ-loop
+turns-returns-5 t c = λ vs w. turns-over _ _ _ (c .before .before .loop .inv .3 vs w) (c .if1 .left)
+
+pub +branch+exec+handle+turns-spec : {M : Type 1} → statement M
++branch+exec+handle+turns-spec = close μ-branch μ-exec μ-handle μ-turns (λ t. branch-lts.spec (branch-calls t) (branch-at t)
+    branch.Post
+    (branch-returns t)
+    (branch-stepped-requires t)
+    (branch-returns-2 t)
+    (branch-eval-test-requires t)
+    (branch-cast-settled t)
+    (branch-settled-requires t)
+    (branch-same-length t)
+    (branch-same-length-2 t)
+    (branch-same-length-3 t)
+    (branch-returns-3 t)
+    (branch-exec-requires t)
+    (branch-same-length-4 t)
+    (branch-same-length-5 t)
+    (branch-same-length-6 t)
+    (branch-returns-4 t)
+    (branch-exec-requires-2 t)
+    (branch-same-length-7 t)
+    (branch-same-length-8 t)
+    (branch-same-length-9 t)
+    (branch-returns-5 t))
+    (λ t. exec-lts.spec (exec-calls t) (exec-at t)
+    exec.Post
+    (exec-instruction-row-requires t)
+    (exec-enum-told t)
+    (exec-skip-requires t)
+    (exec-enum-known-says t)
+    (exec-assignment-requires t)
+    (exec-enum-known-says-2 t)
+    (exec-yoke-change-requires t)
+    (exec-enum-known-says-3 t)
+    (exec-exec-requires t)
+    (exec-same-length t)
+    (exec-same-length-2 t)
+    (exec-same-length-3 t)
+    (exec-returns t)
+    (exec-exec-requires-2 t)
+    (exec-enum-known-says-4 t)
+    (exec-branch-requires t)
+    (exec-enum-known-says-5 t)
+    (exec-turns-requires t)
+    (exec-enum-known-says-6 t)
+    (exec-handle-requires t)
+    (exec-returns-2 t)
+    (exec-same-length-4 t)
+    (exec-same-length-5 t)
+    (exec-same-length-6 t)
+    (exec-returns-3 t)
+    (exec-same-length-7 t)
+    (exec-same-length-8 t)
+    (exec-same-length-9 t)
+    (exec-returns-4 t)
+    (exec-same-length-10 t)
+    (exec-same-length-11 t)
+    (exec-same-length-12 t)
+    (exec-returns-5 t)
+    (exec-same-length-13 t)
+    (exec-same-length-14 t)
+    (exec-same-length-15 t)
+    (exec-returns-6 t)
+    (exec-same-length-16 t)
+    (exec-same-length-17 t)
+    (exec-same-length-18 t)
+    (exec-returns-7 t)
+    (exec-same-length-19 t)
+    (exec-same-length-20 t)
+    (exec-same-length-21 t)
+    (exec-returns-8 t))
+    (λ t. handle-lts.spec (handle-calls t) (handle-at t)
+    handle.Post
+    (handle-stepped-requires t)
+    (handle-returns t)
+    (handle-cast-if2 t)
+    (handle-returns-2 t)
+    (handle-cleared-requires t)
+    (handle-exec-requires t)
+    (handle-same-length t)
+    (handle-same-length-2 t)
+    (handle-same-length-3 t)
+    (handle-returns-3 t))
+    λ t. turns-lts.spec (turns-calls t) (turns-at t)
+    turns.Post
+    turns-Inv-loop
+    turns-μ-loop
+    (turns-loop-holds t)
+    (turns-stepped-requires t)
+    (turns-same-length t)
+    (turns-same-length-2 t)
+    (turns-same-length-3 t)
+    (turns-returns t)
+    (turns-eval-test-requires t)
+    (turns-cast-settled t)
+    (turns-settled-requires t)
+    (turns-same-length-4 t)
+    (turns-same-length-5 t)
+    (turns-same-length-6 t)
+    (turns-returns-2 t)
+    (turns-same-length-7 t)
+    (turns-same-length-8 t)
+    (turns-same-length-9 t)
+    (turns-returns-3 t)
+    (turns-exec-requires t)
+    (turns-same-length-10 t)
+    (turns-same-length-11 t)
+    (turns-same-length-12 t)
+    (turns-returns-4 t)
+    (turns-loop-less t)
+    (turns-loop-again t)
+    (turns-same-length-13 t)
+    (turns-same-length-14 t)
+    (turns-same-length-15 t)
+    (turns-returns-5 t)

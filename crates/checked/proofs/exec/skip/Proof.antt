@@ -1,0 +1,23 @@
+-- `checked::skip` takes its step, unless an error is recorded. Assumes nothing.
+use Rattle.checked.proofs.Acting.{skip-passed, skip-stepped}
+use borrow.Author.Needs.{needs}
+use Rattle.checked.proofs.exec.skip.Statement.{statement}
+use Rattle.checked.proofs.exec.skip.Tie as tie
+use Rattle.checked.proofs.exec.skip.Reads as reads
+use Rattle.checked.proofs.exec.skip.Lts as lts
+use Rattle.steps.proofs.stepped.Reads as stepped-reads
+
+-- src/exec.rt:33:9
+returns : tie.Need-returns
+returns c = skip-passed _ (c .before .before .pre) (c .if1 .taken)
+
+-- src/exec.rt:35:5
+stepped-requires : tie.Need-stepped-requires
+stepped-requires c κs = search needs
+
+-- src/exec.rt:28:1
+returns-2 : tie.Need-returns-2
+returns-2 c = skip-stepped _ (c .before .before .before .pre) (c .stepped .ensures) (c .before .if1 .left)
+
+pub skip-spec : {M : Type 1} → statement M
+skip-spec = tie.close (tie.spec returns stepped-requires returns-2)
