@@ -1,4 +1,4 @@
-mod Texts
+pub mod Texts
 mod Spelling
 pub mod Signs
 mod Cells

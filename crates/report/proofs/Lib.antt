@@ -1,0 +1,6 @@
+mod Putting
+mod Answering
+mod Bounds
+mod Stores
+mod Taking
+mod Reporting

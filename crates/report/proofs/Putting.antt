@@ -1,0 +1,84 @@
+-- The variables' lines, one behind another, as the loop puts them. Assumes nothing.
+use mathlib.Core.Path.{_≡_, sym, ap, _∙_, subst}
+use mathlib.Core.Bool.{not}
+use mathlib.Core.List.{List, _++_, append-assoc, append-nil}
+use Prim.Native.Nat.{ℕ, zero, suc, _+_, _-_, _*_, _/_, _≤_, _<_}
+use native.Mathlib.Nat.{zero-add}
+use native.Mathlib.Numerals.{add-one}
+use native.Mathlib.Omega.{arith}
+use lib.Dec.{eqb}
+use lib.ListN.{length, getD, take, drop}
+use lib.IntN.{ℤ}
+use Rattle.lingua.specs.Numbers.{body-cells, most-variables, declaration-section}
+use Rattle.lingua.specs.Outcome.{Result}
+use Rattle.lingua.specs.Body.{Body, size}
+use Rattle.lingua.specs.Rows.{bytesAt, pairCount}
+use Rattle.lingua.specs.Trees.{declaredBody, bodyOr, nameAt}
+use Rattle.safety.specs.Accepted.{AcceptedRows}
+use Rattle.body.specs.Walk.{Measured}
+use Rattle.body.specs.declared.walk.Measure.{Measure}
+use Rattle.rules.specs.Tables.{IsTable}
+use Rattle.rules.specs.declared.tables.Table.{Table}
+use Rattle.profile.specs.Accepted.{counts}
+use Rattle.profile.specs.Variables.{DeclaredIs}
+use Rattle.profile.proofs.Declaring.{name-place, pairs}
+use Rattle.text.specs.Appended.{Appended}
+use Rattle.text.specs.Line.{variableLine}
+use Rattle.text.proofs.Texts.{append-none, append-both}
+use Rattle.report.specs.Memory.{filledAt, bodyCells, memoryLine, memoryLines}
+
+-- ---- one variable
+pub few-variables : (rows : List ℕ) (t : Table) (d : ℕ) → AcceptedRows rows → IsTable rows declaration-section t → d < t .count / 2 → d < most-variables
+few-variables rows t d accepted is l =
+    omega (arith, pairs rows declaration-section t is, counts rows (accepted .counts) .variables .most)
+
+pub measured-size : (rows x : List ℕ) (d : ℕ) (m : Measure) (h : DeclaredIs rows d x) → Measured m 0 (h .body)
+    → (m .cells ≡ size (bodyOr (declaredBody rows d))) × (m .cells ≤ body-cells)
+measured-size rows x d m h e = (e .is-cells ∙ ap (λ (o : Result Body). size (bodyOr o)) (sym (h .is)), omega (arith, e .is-cells, h .holds .few-cells))
+
+pub line-put :
+    {out last : List ℕ} {at end : ℕ} (rows : List ℕ) (cells : List ℤ) (states name : List ℕ) (t : Table) (d count : ℕ) →
+    IsTable rows declaration-section t →
+    name ≡ bytesAt rows (t .start + 2 * d) →
+    count ≡ size (bodyOr (declaredBody rows d)) →
+    Appended out at (variableLine name (not (eqb (getD states (2 * d) 0) 0)) (take (64 * d + count - 64 * d) (drop (64 * d) cells))) last end →
+    Appended out at (memoryLine rows cells states d) last end
+unfolding memoryLine filledAt bodyCells nameAt
+line-put {out} {last} {at} {end} rows cells states name t d count is named counted p =
+    let n : name ≡ nameAt rows declaration-section d = named ∙ ap (bytesAt rows) (name-place rows declaration-section t is d) in
+    let k : 64 * d + count - 64 * d ≡ size (bodyOr (declaredBody rows d)) = omega (arith, counted) in
+    subst (λ (j : ℕ). Appended out at (variableLine (nameAt rows declaration-section d) (not (eqb (getD states (2 * d) 0) 0)) (take j (drop (64 * d) cells))) last end) k
+    (subst (λ (l : List ℕ). Appended out at (variableLine l (not (eqb (getD states (2 * d) 0) 0)) (take (64 * d + count - 64 * d) (drop (64 * d) cells))) last end) n p)
+
+-- ---- all of them
+module _ (rows : List ℕ) (cells : List ℤ) (states : List ℕ) where
+  lines-one-more : (d n : ℕ) → memoryLines rows cells states d (suc n) ≡ memoryLines rows cells states d n ++ memoryLine rows cells states (d + n)
+  unfolding memoryLines
+  lines-one-more d zero =
+      append-nil (memoryLine rows cells states d) ∙ ap (λ (k : ℕ). memoryLine rows cells states k) (let e : d ≡ d + zero = omega arith in e)
+  lines-one-more d (suc n) =
+      ap (λ (l : List ℕ). memoryLine rows cells states d ++ l) (lines-one-more (suc d) n)
+      ∙ sym (append-assoc (memoryLine rows cells states d) (memoryLines rows cells states (suc d) n) (memoryLine rows cells states (suc d + n)))
+      ∙ ap (λ (k : ℕ). (memoryLine rows cells states d ++ memoryLines rows cells states (suc d) n) ++ memoryLine rows cells states k) (let e : suc d + n ≡ d + suc n = omega arith in e)
+
+  pub lines-begin : (out : List ℕ) (at : ℕ) → Appended out at (memoryLines rows cells states 0 0) out at
+  unfolding memoryLines
+  lines-begin out at = append-none out at
+
+  pub lines-next :
+      {out mid last : List ℕ} {at then end : ℕ} (d : ℕ) →
+      Appended out at (memoryLines rows cells states 0 d) mid then →
+      length mid ≡ length out →
+      Appended mid then (memoryLine rows cells states d) last end →
+      Appended out at (memoryLines rows cells states 0 (d + 1)) last end
+  lines-next d p e q = rw (add-one, lines-one-more 0 d, zero-add) (append-both p e q)
+
+  pub lines-all :
+      {out last : List ℕ} {at end : ℕ} (d n : ℕ) →
+      d ≤ n →
+      n ≤ d →
+      n ≡ pairCount rows declaration-section →
+      Appended out at (memoryLines rows cells states 0 d) last end →
+      Appended out at (memoryLines rows cells states 0 (pairCount rows declaration-section)) last end
+  lines-all {out} {last} {at} {end} d n a b e p =
+      subst (λ (k : ℕ). Appended out at (memoryLines rows cells states 0 k) last end) (let k : d ≡ n = omega arith in k ∙ e) p

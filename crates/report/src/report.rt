@@ -1,0 +1,33 @@
+// The whole report.
+use crate::answers::put_answer;
+use crate::variables::put_variables;
+use desk::call::run_checked;
+ghost use Prim.Native.Nat.{_≤_};
+ghost use lib.ListN.{length};
+ghost use Rattle.lingua.specs.Report.{reportText};
+ghost use Rattle.report.specs.Written.{most-text, Written};
+
+// document 01: the report's budget
+const BUDGET: u16 = 1000;
+
+// The report of two files, at the start of a buffer that has room for any report; how long it is.
+pub(crate) fn report_text(profile: &[u8], limits: &[u8], out: &mut [u8]) -> usize
+    requires { ⌜ most-text ≤ length (now out) ⌝ }
+    ensures { λ r. ⌜ Written (now (out .exit)) r (reportText (now (profile .entry)) (now (limits .entry))) ⌝ }
+{
+    let variables = [0u16; 0];
+    let numbers = [0i64; 0];
+    let mut cells = [0i64; 1024];
+    let mut states = [0u16; 32];
+    let answer = run_checked(
+        profile,
+        limits,
+        &variables,
+        &numbers,
+        BUDGET,
+        &mut cells,
+        &mut states,
+    );
+    let end = put_answer(answer, out);
+    put_variables(profile, limits, &cells, &states, out, end)
+}

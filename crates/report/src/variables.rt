@@ -1,0 +1,34 @@
+// The variables' lines of two files.
+use crate::lines::put_lines;
+use accept::take_pair;
+use lingua::errors::NO_ERROR;
+ghost use mathlib.Core.Path.{_≡_};
+ghost use lib.ListN.{length};
+ghost use Rattle.lingua.specs.Numbers.{cells-length, states-length};
+ghost use Rattle.text.specs.Appended.{Appended};
+ghost use Rattle.report.specs.Memory.{variablesText};
+
+// Nothing where a rule refuses the files, else the lines of their variables, which a run left in the cells and states.
+pub(crate) fn put_variables(
+    profile: &[u8],
+    limits: &[u8],
+    cells: &[i64],
+    states: &[u16],
+    out: &mut [u8],
+    at: usize,
+) -> usize
+    requires { ⌜ length (now cells) ≡ cells-length ⌝ }
+    requires { ⌜ length (now states) ≡ states-length ⌝ }
+    ensures { λ r. ⌜ Appended (now (out .entry)) at (variablesText (now (profile .entry)) (now (limits .entry)) (now (cells .entry)) (now (states .entry))) (now (out .exit)) r ⌝ }
+{
+    let mut areas = [0u8; 8500];
+    let mut others = [0u8; 8500];
+    let mut bodies = [0u8; 3072];
+    let pair = take_pair(profile, limits, &mut areas, &mut others, &mut bodies);
+    let refusal = pair.refusal;
+    if refusal != NO_ERROR {
+        return at;
+    }
+    let n = pair.rows;
+    put_lines(&areas[..n], &bodies, cells, states, out, at)
+}
