@@ -48,7 +48,15 @@ pub(crate) fn run_checked(
     cells: &mut [i64],
     states: &mut [u16],
 ) -> RunCalled {
-    RunCalled::Missing
+    RunCalled::Made(desk::call::run_checked(
+        profile,
+        limits,
+        variables,
+        numbers,
+        budget,
+        cells,
+        states,
+    ))
 }
 
 // Document 01: chair run.
