@@ -1,4 +1,8 @@
 // Arithmetic on whole numbers from -1,000,000 to 1,000,000, each answer exact or an error.
+use lingua::errors::DIVISION_BY_ZERO;
+use lingua::errors::OVERFLOW;
+use lingua::sizes::HIGHEST_NUMBER;
+use lingua::sizes::LOWEST_NUMBER;
 ghost use mathlib.Core.Path.{_≡_};
 ghost use mathlib.Core.Bool.{true};
 ghost use lib.IntN.{pos, _+ℤ_, _-ℤ_, _*ℤ_};
@@ -6,14 +10,6 @@ ghost use lib.Signed.{ltZ};
 ghost use Rattle.lingua.specs.Value.{inRange};
 ghost use Rattle.lingua.specs.Compute.{ranged, divided, quotient, sameNumber};
 ghost use Rattle.arith.specs.Image.{image};
-
-const LOWEST: i64 = -1000000;
-
-const HIGHEST: i64 = 1000000;
-
-pub const OVERFLOW: u8 = 1;
-
-pub const DIVISION_BY_ZERO: u8 = 2;
 
 // A number, or the number of a run error.
 pub enum Number {
@@ -25,10 +21,10 @@ pub enum Number {
 pub fn checked(z: i64) -> Number
     ensures { λ r. ⌜ r ≡ image (ranged z) ⌝ }
 {
-    if z < LOWEST {
+    if z < LOWEST_NUMBER {
         return Number::Error(OVERFLOW);
     }
-    if HIGHEST < z {
+    if HIGHEST_NUMBER < z {
         return Number::Error(OVERFLOW);
     }
     Number::Whole(z)

@@ -60,27 +60,6 @@ binaryOffset (expand n) b c = offsetAfter n c (attributesOf b)
 binaryOffset (change n) b c = offsetIn n (attributesOf b)
 binaryOffset push b c = 0
 
--- ---- the operations by their kinds, with the attribute's number
-unfoldable pub unaryOf : ℕ → ℕ → Unary
-unaryOf kind n =
-    if eqb kind 14 then negation else
-    (if eqb kind 16 then make-record n else
-    (if eqb kind 18 then select n else
-    (if eqb kind 20 then make-list else
-    (if eqb kind 22 then top else pop))))
-
-unfoldable pub binaryOf : ℕ → ℕ → Binary
-binaryOf kind n =
-    if eqb kind 9 then less else
-    (if eqb kind 10 then equal else
-    (if eqb kind 13 then glue else
-    (if eqb kind 17 then expand n else
-    (if eqb kind 19 then change n else
-    (if eqb kind 21 then push else
-    (if eqb kind 5 then add else
-    (if eqb kind 6 then subtract else
-    (if eqb kind 7 then multiply else divide))))))))
-
 -- ---- the body of a type row, by its kind, from the bodies that it names (document 01, section 2)
 unfoldable pub typeBody : ℕ → ℕ → Body → Body → Result Body
 typeBody kind n b c =

@@ -4,16 +4,7 @@ use crate::make::body_at;
 use crate::make::element;
 use crate::make::insert;
 use crate::parts::same;
-use crate::typed::ATTRIBUTE_PRESENT;
-use crate::typed::BODY_TOO_LARGE;
-use crate::typed::LIST_EXPECTED;
-use crate::typed::NO_COHERENCE;
-use crate::typed::NO_SUCH_ATTRIBUTE;
-use crate::typed::NOT_COMPARABLE;
-use crate::typed::NUMBER_EXPECTED;
-use crate::typed::RECORD_EXPECTED;
 use crate::typed::Typed;
-use crate::typed::WORD_EXPECTED;
 use crate::typed::failed;
 use crate::typed::scalar;
 use crate::typed::too_large;
@@ -24,11 +15,20 @@ use crate::walk::RECORD;
 use crate::walk::WORD;
 use crate::walk::larger;
 use crate::walk::measure_body;
+use lingua::errors::ATTRIBUTE_PRESENT;
+use lingua::errors::BODY_TOO_LARGE;
+use lingua::errors::LIST_EXPECTED;
+use lingua::errors::NO_COHERENCE;
+use lingua::errors::NO_SUCH_ATTRIBUTE;
+use lingua::errors::NOT_COMPARABLE;
+use lingua::errors::NUMBER_EXPECTED;
+use lingua::errors::RECORD_EXPECTED;
+use lingua::errors::WORD_EXPECTED;
 ghost use Prim.Native.Nat.{_≤_};
 ghost use Rattle.lingua.specs.Body.{Body};
 ghost use Rattle.lingua.specs.Operation.{numbersTo, equal, glue, expand, change, push, binaryBody};
 ghost use Rattle.body.specs.Encode.{Holds, Held};
-ghost use Rattle.body.specs.Typed.{Types, simpleOf, binaryOffset, binaryOf};
+ghost use Rattle.body.specs.Typed.{Types, simpleOf, binaryOffset};
 
 // Kinds 5 to 9: two numbers give a body of the tag.
 pub fn numbers(tag: u8, x: [u8; 96], y: [u8; 96]) -> Typed
@@ -146,31 +146,4 @@ pub fn push(x: [u8; 96], y: [u8; 96]) -> Typed
         cells: m.cells,
         offset: 0,
     }
-}
-
-// The operation of a kind: 5 to 10, 13, 17, 19 or 21.
-pub fn binary(kind: u8, n: u8, x: [u8; 96], y: [u8; 96]) -> Typed
-    requires { ⌜ Held x ⌝ }
-    requires { ⌜ Held y ⌝ }
-    ensures { λ r. ⌜ ((b c : Body) → Holds x b → Holds y c → Types r (binaryBody (binaryOf kind n) b c) (binaryOffset (binaryOf kind n) b c)) ⌝ }
-{
-    if kind == 9 {
-        return numbers(BOOLEAN, x, y);
-    }
-    if kind == 10 {
-        return equal(x, y);
-    }
-    if kind == 13 {
-        return glue(x, y);
-    }
-    if kind == 17 {
-        return expand(n, x, y);
-    }
-    if kind == 19 {
-        return change(n, x, y);
-    }
-    if kind == 21 {
-        return push(x, y);
-    }
-    numbers(NUMBER, x, y)
 }

@@ -1,5 +1,8 @@
 // The answer of an operation on bodies, and what the operations share.
 use crate::make::simple;
+use lingua::sizes::BODY_CELLS;
+use lingua::sizes::BODY_DEPTH;
+use lingua::sizes::BODY_NODES;
 ghost use mathlib.Core.Path.{_≡_};
 ghost use mathlib.Core.Bool.{_||_};
 ghost use Prim.Native.Nat.{ℕ, _≤_};
@@ -8,33 +11,8 @@ ghost use Rattle.lingua.specs.Numbers.{body-cells, body-nodes, body-depth, reco
 ghost use Rattle.lingua.specs.Outcome.{ok, fail};
 ghost use Rattle.body.specs.Typed.{Types, simpleOf};
 
-const CELLS: usize = 64;
-
-const NODES: usize = 32;
-
-const DEPTH: usize = 4;
-
+// document 01's bound on attributes, as a byte
 const ATTRIBUTES: u8 = 8;
-
-pub const NUMBER_EXPECTED: u8 = 8;
-
-pub const BOOLEAN_EXPECTED: u8 = 9;
-
-pub const WORD_EXPECTED: u8 = 10;
-
-pub const LIST_EXPECTED: u8 = 11;
-
-pub const RECORD_EXPECTED: u8 = 12;
-
-pub const NO_SUCH_ATTRIBUTE: u8 = 13;
-
-pub const ATTRIBUTE_PRESENT: u8 = 14;
-
-pub const NO_COHERENCE: u8 = 15;
-
-pub const NOT_COMPARABLE: u8 = 17;
-
-pub const BODY_TOO_LARGE: u8 = 18;
 
 // The result's body with its cells, and the attribute's cell offset of 17 to 19; or a type error.
 pub struct Typed {
@@ -74,13 +52,13 @@ pub fn scalar(tag: u8) -> Typed
 pub fn too_large(cells: usize, nodes: usize, depth: usize, width: u8) -> bool
     ensures { λ r. ⌜ r ≡ (ltb body-cells cells || ltb body-nodes nodes || ltb body-depth depth || ltb record-attributes width) ⌝ }
 {
-    if CELLS < cells {
+    if BODY_CELLS < cells {
         return true;
     }
-    if NODES < nodes {
+    if BODY_NODES < nodes {
         return true;
     }
-    if DEPTH < depth {
+    if BODY_DEPTH < depth {
         return true;
     }
     ATTRIBUTES < width

@@ -4,11 +4,6 @@ use crate::make::body_at;
 use crate::make::element;
 use crate::make::list_of;
 use crate::make::record_of;
-use crate::typed::BODY_TOO_LARGE;
-use crate::typed::BOOLEAN_EXPECTED;
-use crate::typed::LIST_EXPECTED;
-use crate::typed::NO_SUCH_ATTRIBUTE;
-use crate::typed::RECORD_EXPECTED;
 use crate::typed::Typed;
 use crate::typed::failed;
 use crate::typed::scalar;
@@ -17,11 +12,16 @@ use crate::walk::BOOLEAN;
 use crate::walk::LIST;
 use crate::walk::RECORD;
 use crate::walk::measure_body;
+use lingua::errors::BODY_TOO_LARGE;
+use lingua::errors::BOOLEAN_EXPECTED;
+use lingua::errors::LIST_EXPECTED;
+use lingua::errors::NO_SUCH_ATTRIBUTE;
+use lingua::errors::RECORD_EXPECTED;
 ghost use mathlib.Core.Path.{_≡_};
 ghost use Rattle.lingua.specs.Body.{Body, isBoolean};
 ghost use Rattle.lingua.specs.Operation.{negation, make-record, select, make-list, top, pop, unaryBody};
 ghost use Rattle.body.specs.Encode.{Holds, Held};
-ghost use Rattle.body.specs.Typed.{Types, unaryOffset, unaryOf};
+ghost use Rattle.body.specs.Typed.{Types, unaryOffset};
 
 // What a test and a yoke are asked.
 pub fn is_boolean(x: [u8; 96]) -> bool
@@ -135,27 +135,4 @@ pub fn pop(x: [u8; 96]) -> Typed
         cells: m.cells,
         offset: 0,
     }
-}
-
-// The operation of a kind: 14, 16, 18, 20, 22 or 23.
-pub fn unary(kind: u8, n: u8, x: [u8; 96]) -> Typed
-    requires { ⌜ Held x ⌝ }
-    ensures { λ r. ⌜ ((b : Body) → Holds x b → Types r (unaryBody (unaryOf kind n) b) (unaryOffset (unaryOf kind n) b)) ⌝ }
-{
-    if kind == 14 {
-        return negation(x);
-    }
-    if kind == 16 {
-        return make_record(n, x);
-    }
-    if kind == 18 {
-        return select(n, x);
-    }
-    if kind == 20 {
-        return make_list(x);
-    }
-    if kind == 22 {
-        return top(x);
-    }
-    pop(x)
 }

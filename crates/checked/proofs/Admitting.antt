@@ -30,6 +30,7 @@ use Rattle.cells.specs.Stack.{Lies}
 use Rattle.cells.proofs.Singles.{number-cell}
 use Rattle.checked.specs.declared.answer.Evaluated.{Evaluated}
 use Rattle.checked.specs.declared.answer.Truth.{Truth}
+use Rattle.profile.specs.Yokes.{number-of}
 use Rattle.profile.specs.Variables.{LimitAt}
 use Rattle.checked.specs.Meaning.{Stored, World, Running, YokeOf, Current, HasCurrent, Gives, Tells, Admits}
 use Rattle.checked.proofs.Storing.{lies-long, pad-long}
@@ -65,22 +66,6 @@ pub other-whole : {value : List ℤ} {body : List ℕ} {x : Composite} → Curre
 other-whole {value} {body} {x} h f = none-whole (h .lies .fit) (tags.not-number body (x .body) (h .holds) f)
 
 -- ---- the current yoke
-row-of : (r : ℕ) (e : ExpressionRow) (look : ℕ → Expression) → rowOf (expressionOf r e look) ≡ r
-unfolding rowOf expressionOf
-row-of r (constant-row c) look = refl
-row-of r (variable-row n) look = refl
-row-of r current-row look = refl
-row-of r (unary-row o a) look = refl
-row-of r (binary-row o a b) look = refl
-row-of r (lazy-row k a b) look = refl
-row-of r (choice-row a b c) look = refl
-row-of r (all-list-row a) look = refl
-
-pub number-of : (rows : List ℕ) (y : ℕ) → yokeNumber (yokeTree rows y) ≡ y
-unfolding yokeNumber yokeTree expressionTree expressionIn
-number-of rows zero = refl
-number-of rows (suc r) = ap suc (row-of r (expressionRow rows r) _)
-
 module _ {rows : List ℕ} {t : Table} {variables : List ℕ} {limits cells : List ℤ} {states : List ℕ} {vs : List Variable} (h : Running rows t variables limits cells states vs) (n : ℕ) (lt : n < length vs) where
   pub word-room : 2 * n + 1 < length states
   unfolding statesIn

@@ -16,7 +16,7 @@ use Rattle.lingua.specs.Trees.{yokeTree}
 use Rattle.laws.specs.Stores.{states-at, states-set, variableStates}
 use Rattle.rules.specs.declared.tables.Table.{Table}
 use Rattle.checked.specs.Meaning.{Running, Admits, Assigns}
-use Rattle.checked.proofs.Admitting.{number-of}
+use Rattle.profile.specs.Yokes.{number-of}
 use Rattle.checked.proofs.Keeping.{no-two, no-second, yoke-running}
 use Rattle.checked.proofs.Assigning.{keeps}
 

@@ -9,7 +9,7 @@ use lib.IntN.{ℤ}
 use lib.ListN.{length}
 use borrow.Author.Tests.{eq-eqb, ne-eqb}
 use Rattle.lingua.specs.Numbers.{declaration-section, expression-section, instruction-section, most-expressions, most-instructions}
-use Rattle.lingua.specs.Rows.{tableCount, pairCount, instructionRow, yokeRoot}
+use Rattle.lingua.specs.Rows.{tableCount, pairCount, instructionRow}
 use Rattle.lingua.specs.Trees.{instructionTree}
 use Rattle.lingua.specs.Outcome.{Result, _>>=_}
 use Rattle.lingua.specs.Store.{Variable, contents, assigned, yokeChanged}
@@ -18,8 +18,8 @@ use Rattle.lingua.specs.Evaluation.{eval, evalTest, no-current}
 use Rattle.lingua.specs.Run.{State, Progress, going, out, settled, proceed, act, step, decided, handled, repeat, exec, lastState}
 use Rattle.safety.specs.Steps.{exec-left}
 use Rattle.rules.specs.Tables.{IsTable}
-use Rattle.safety.specs.Every.{Every, every-more}
 use Rattle.profile.specs.Accepted.{counts}
+use Rattle.profile.specs.Yokes.{every-yoke}
 use Rattle.profile.specs.declared.row.InstructionRow.{InstructionRow as CodeInstruction}
 use Rattle.profile.specs.declared.row.InstructionRow.the-variants as does
 use Rattle.profile.specs.Row.{instructionMeaning}
@@ -228,11 +228,6 @@ module _ {rows : List ℕ} {t : Table} {variables : List ℕ} {limits cells : Li
           }
 
 -- ---- a row's instruction
-yoke-there : (c y : ℕ) → Every (λ k. k < c) (yokeRoot y) → y ≤ c
-unfolding yokeRoot
-yoke-there c zero h = omega arith
-yoke-there c (suc r) (every-more h k) = omega (arith, h)
-
 -- what the code read of a row, once its kind is told
 pub record Means (rows : List ℕ) (row : ℕ) (d : CodeInstruction) : Type 0 where
   pub is : instructionMeaning d ≡ instructionRow rows row
@@ -246,7 +241,7 @@ module _ {rows : List ℕ} {t : Table} {variables : List ℕ} {limits cells : Li
 
   pub yoke-within : {n y : ℕ} → Means rows row (does.SetYoke n y) → y ≤ t .count
   unfolding InstructionFacts
-  yoke-within {n} {y} s = omega (arith, yoke-there (tableCount rows expression-section) y (row-facts s .1), w .world .table .count)
+  yoke-within {n} {y} s = omega (arith, every-yoke (tableCount rows expression-section) y (row-facts s .1), w .world .table .count)
 
   pub by-instruction : {d : CodeInstruction} {after : List ℤ} {words : List ℕ} {m : Moment} (s : State) → Means rows row d → Reaches rows t variables limits after words m (exec (instructionRowTree rows row d) s)
       → Reaches rows t variables limits after words m (exec (instructionTree rows row) s)

@@ -11,20 +11,21 @@ use lib.ListN.{length, getD}
 use borrow.Author.Tests.{ltb-true, ltb-false, not-false}
 use Rattle.lingua.specs.Numbers.{most-readings, declaration-section, expression-section}
 use Rattle.lingua.specs.Value.{allOf}
-use Rattle.lingua.specs.Rows.{tableCount, pairCount, yokeRoot}
-use Rattle.lingua.specs.Store.{Variable, no-variable, variableAt}
+use Rattle.lingua.specs.Rows.{tableCount, pairCount}
+use Rattle.lingua.specs.Store.{Variable, variableAt}
 use Rattle.lingua.specs.Run.{Declaration, unfilled}
-use Rattle.lingua.specs.Trees.{tabulateFrom, tabulate, yokeTree, declarationAt, profileOf}
+use Rattle.lingua.specs.Trees.{yokeTree, declarationAt, profileOf}
 use Rattle.lingua.specs.References.{declaredYoke}
 use Rattle.lingua.specs.Refusal.{isNumberVariable, readingWrong}
 use Rattle.laws.specs.Outcomes.{false-is-true, and-left, and-right}
 use Rattle.safety.specs.Answers.{none-is-some}
-use Rattle.safety.specs.Every.{Every, every-more}
 use Rattle.safety.specs.Accepted.{AcceptedRows, declared-root}
 use Rattle.profile.specs.Accepted.{counts}
+use Rattle.profile.specs.Yokes.{every-yoke}
 use Rattle.rules.specs.declared.tables.Table.{Table}
 use Rattle.rules.specs.Tables.{IsTable}
 use Rattle.start.specs.Begun.{startStore, Begun}
+use Rattle.start.proofs.Unfilled.{start-at}
 use Rattle.checked.specs.Meaning.{YokeOf, Running, HasRun}
 
 -- ---- the start's variables
@@ -33,28 +34,13 @@ none-filled [] n = refl
 none-filled (d ∷ ds) zero = refl
 none-filled (d ∷ ds) (suc n) = none-filled ds n
 
-mapped-at : {A B : Type 0} (f : A → B) (g : ℕ → A) (other : B) (i n k : ℕ) → k < n → getD (map f (tabulateFrom i n g)) k other ≡ f (g (i + k))
-unfolding tabulateFrom
-mapped-at f g other i zero k l = absurd (let z : ⊥ = omega arith in z)
-mapped-at f g other i (suc n) zero l = ap (λ (j : ℕ). f (g j)) (let e : i ≡ i + zero = omega arith in e)
-mapped-at f g other i (suc n) (suc k) l =
-    mapped-at f g other (suc i) n k (omega arith) ∙ ap (λ (j : ℕ). f (g j)) (let e : suc i + k ≡ i + suc k = omega arith in e)
-
 module _ (rows limits : List ℕ) where
   start-current : (n : ℕ) → n < pairCount rows declaration-section → variableAt (startStore rows limits) n .current ≡ yokeTree rows (declaredYoke rows n)
-  unfolding profileOf tabulate declarationAt declaredYoke
-  start-current n l =
-      ap (λ (v : Variable). v .current) (mapped-at unfilled (λ d. declarationAt rows limits d) no-variable 0 (pairCount rows declaration-section) n l)
-      ∙ ap (λ (d : ℕ). yokeTree rows (declaredYoke rows d)) (let e : 0 + n ≡ n = omega arith in e)
+  unfolding declarationAt declaredYoke
+  start-current n l = ap (λ (v : Variable). v .current) (start-at rows limits n l)
 
   start-content : (n : ℕ) → variableAt (startStore rows limits) n .content ≡ none
   start-content n = none-filled (profileOf rows limits .declarations) n
-
--- a yoke that is there is at most the number of expression rows
-every-yoke : (n y : ℕ) → Every (λ k. k < n) (yokeRoot y) → y ≤ n
-unfolding yokeRoot
-every-yoke n zero h = omega arith
-every-yoke n (suc r) (every-more h k) = omega arith
 
 module _ {rows limits variables : List ℕ} {kept cells : List ℤ} {states : List ℕ} (accepted : AcceptedRows rows) (b : Begun rows limits variables kept cells states) where
   few-variables : length (startStore rows limits) ≤ 16

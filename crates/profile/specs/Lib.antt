@@ -5,3 +5,4 @@ pub mod Unrolled
 pub mod Facts
 pub mod Types
 pub mod Variables
+pub mod Yokes

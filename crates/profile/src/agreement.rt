@@ -2,6 +2,8 @@
 use crate::declarations::is_number_variable;
 use crate::limits::limit_high;
 use crate::limits::limit_low;
+use lingua::sizes::HIGHEST_NUMBER;
+use lingua::sizes::LOWEST_NUMBER;
 use lingua::sizes::MOST_READINGS;
 use rules::fields::bytes_at;
 use rules::names::same_bytes;
@@ -20,17 +22,13 @@ ghost use Rattle.safety.specs.Accepted.{AcceptedRows};
 ghost use Rattle.rules.specs.Tables.{IsTable};
 ghost use Rattle.profile.specs.Types.{BodiesBelow};
 
-const LOWEST: i64 = -1000000;
-
-const HIGHEST: i64 = 1000000;
-
 fn in_range(z: i64) -> bool
     ensures { λ r. ⌜ r ≡ inRange z ⌝ }
 {
-    if z < LOWEST {
+    if z < LOWEST_NUMBER {
         return false;
     }
-    if HIGHEST < z {
+    if HIGHEST_NUMBER < z {
         return false;
     }
     true

@@ -11,18 +11,20 @@ pub(crate) fn read_file(path: &[u8], buffer: &mut [u8]) -> usize
         return 0;
     }
     let count = io::read_full(file, buffer);
-    let sound = readable(file);
+    let ended = at_end(file);
     libc::close(file);
-    if sound {
+    if ended {
+        return count;
+    }
+    if count == buffer.len() {
         return count;
     }
     0
 }
 
-// Whether the file can be read: `read_full` stops at a read that fails as it does at the end, and where one failed, the
-// next fails too.
-fn readable(file: i32) -> bool {
+// Whether nothing is left: `read_full` stops at a read that fails as it does at the end.
+fn at_end(file: i32) -> bool {
     let mut more = [0u8; 1];
     let got = libc::read(file, &mut more);
-    0 <= got
+    got == 0
 }

@@ -10,18 +10,19 @@ use lib.ListN.{length, getD, take, set, replicate, length-replicate, length-map,
 use lib.Seq.{take-suc, take-all, length-take-le}
 use Rattle.lingua.specs.Numbers.{most-variables, body-cells, cells-length, states-length, declaration-section}
 use Rattle.lingua.specs.Value.{pad}
-use Rattle.lingua.specs.Expression.{Expression, rowOf, yokeNumber}
+use Rattle.lingua.specs.Expression.{yokeNumber}
 use Rattle.lingua.specs.Store.{Variable, no-variable, variableAt, contentCells, filledFlag, storeCells, storeStates, cellsIn, statesIn}
-use Rattle.lingua.specs.Rows.{pairCount, ExpressionRow, constant-row, variable-row, current-row, unary-row, binary-row, lazy-row, choice-row, all-list-row, expressionRow}
+use Rattle.lingua.specs.Rows.{pairCount}
 use Rattle.lingua.specs.Run.{Declaration, unfilled}
 use Rattle.lingua.specs.References.{declaredYoke}
-use Rattle.lingua.specs.Trees.{tabulateFrom, tabulate, expressionOf, expressionIn, expressionTree, yokeTree, declarationAt, profileOf}
+use Rattle.lingua.specs.Trees.{tabulateFrom, tabulate, declarationAt, profileOf}
 use Rattle.laws.specs.Lists.{pad-free, pad-append}
 use Rattle.laws.specs.Stores.{store-states-parts, states-sized, variableStates, length-parts}
 use Rattle.safety.specs.Accepted.{AcceptedRows}
 use Rattle.rules.specs.Tables.{IsTable}
 use Rattle.rules.specs.declared.tables.Table.{Table}
 use Rattle.profile.specs.Accepted.{counts}
+use Rattle.profile.specs.Yokes.{number-of}
 use Rattle.start.specs.Begun.{startStore}
 use Rattle.start.specs.Kept.{YokesKept}
 
@@ -83,22 +84,6 @@ start-cells rows limits cells h e =
     e ∙ sym (cells-none (profileOf rows limits .declarations) (omega (arith, few-variables rows h, start-count rows limits, length-map (profileOf rows limits .declarations) unfilled)))
 
 -- ---- its state words
-row-of : (r : ℕ) (e : ExpressionRow) (look : ℕ → Expression) → rowOf (expressionOf r e look) ≡ r
-unfolding rowOf expressionOf
-row-of r (constant-row c) look = refl
-row-of r (variable-row n) look = refl
-row-of r current-row look = refl
-row-of r (unary-row o a) look = refl
-row-of r (binary-row o a b) look = refl
-row-of r (lazy-row k a b) look = refl
-row-of r (choice-row a b c) look = refl
-row-of r (all-list-row a) look = refl
-
-number-of : (rows : List ℕ) (y : ℕ) → yokeNumber (yokeTree rows y) ≡ y
-unfolding yokeNumber yokeTree expressionTree expressionIn
-number-of rows zero = refl
-number-of rows (suc r) = ap suc (row-of r (expressionRow rows r) _)
-
 declared-number : (rows limits : List ℕ) (d : ℕ) → yokeNumber (declarationAt rows limits d .declared) ≡ declaredYoke rows d
 unfolding declarationAt declaredYoke
 declared-number rows limits d = number-of rows (declaredYoke rows d)

@@ -1,18 +1,13 @@
 -- What is known of accepted rows where the type check reads them, and what its calls ask. Assumes nothing.
 use mathlib.Core.Path.{_≡_, ap, _∙_, subst}
-use mathlib.Core.Bool.{true}
 use mathlib.Core.List.{List}
-use Prim.Native.Nat.{ℕ, zero, suc, _+_, _*_, _≤_, _<_}
+use Prim.Native.Nat.{ℕ, _+_, _*_, _≤_, _<_}
 use native.Mathlib.Omega.{arith}
-use lib.Dec.{ltb}
 use lib.ListN.{length}
-use borrow.Author.Tests.{ltb-true}
 use Rattle.lingua.specs.Numbers.{expression-section, instruction-section}
-use Rattle.lingua.specs.Rows.{tableCount, instructionRow, yokeRoot}
+use Rattle.lingua.specs.Rows.{tableCount, instructionRow}
 use Rattle.lingua.specs.Trees.{expressionTree, instructionTree}
-use Rattle.lingua.specs.References.{allBelow}
 use Rattle.safety.specs.Accepted.{AcceptedRows}
-use Rattle.safety.specs.Every.{Every, every-more, every-implies, all-true}
 use Rattle.rules.specs.declared.tables.Tables.{Tables}
 use Rattle.profile.specs.declared.row.ExpressionRow.{ExpressionRow as CodeRow}
 use Rattle.profile.specs.declared.row.InstructionRow.{InstructionRow as CodeInstruction}
@@ -38,15 +33,6 @@ module _ (rows : List ℕ) (accepted : AcceptedRows rows) (r : ℕ) (l : r < tab
   pub instruction-tree-at : instructionTree rows r ≡ instructionRowTree rows r d
   instruction-tree-at =
       instruction-row-tree rows r c s (instruction-facts rows accepted r l c s) ∙ ap (instructionRowTree rows r) e
-
--- a yoke that is there is at most the number of expression rows
-pub every-yoke : (n y : ℕ) → Every (λ k. k < n) (yokeRoot y) → y ≤ n
-unfolding yokeRoot
-every-yoke n zero h = omega arith
-every-yoke n (suc r) (every-more h k) = omega arith
-
-pub all-yoke : (n y : ℕ) → allBelow n (yokeRoot y) ≡ true → y ≤ n
-all-yoke n y e = every-yoke n y (every-implies (λ k q. ltb-true k n q) (all-true (λ k. ltb k n) (yokeRoot y) e))
 
 -- ---- what a call asks
 module _ {rows : List ℕ} {t : Tables} {bodies : List ℕ} {r : ℕ} {cur l : List ℕ} (h : Asked rows t bodies r cur l) where

@@ -4,7 +4,8 @@ use native.Mathlib.Omega.{arith}
 use Rattle.lingua.specs.Typing.{checkInstruction}
 use Rattle.profile.specs.Accepted.{counts}
 use Rattle.profile.specs.Facts.{InstructionFacts, instructionRowTree}
-use Rattle.typecheck.proofs.Rows.{instruction-at, instruction-tree-at, every-yoke}
+use Rattle.typecheck.proofs.Rows.{instruction-at, instruction-tree-at}
+use Rattle.profile.specs.Yokes.{every-yoke}
 use Rattle.typecheck.proofs.Settling.{nothing-settles}
 use borrow.Author.Needs.{needs}
 use Rattle.typecheck.proofs.verdicts.check_instruction.Statement.{statement}

@@ -10,7 +10,7 @@ use Rattle.lingua.specs.References.{declaredYoke}
 use Rattle.body.specs.Encode.{Holds}
 use Rattle.profile.specs.Accepted.{counts}
 use Rattle.typecheck.specs.Verdicts.{declarationCheck}
-use Rattle.typecheck.proofs.Rows.{all-yoke}
+use Rattle.profile.specs.Yokes.{all-yoke}
 use Rattle.typecheck.proofs.Parts.{variable-is, declared-yoke, detail-is, detail-within}
 use borrow.Author.Needs.{needs}
 use Rattle.typecheck.proofs.whole.check_declaration.Statement.{statement}
