@@ -75,9 +75,9 @@ pub fn write(kind: FileKind, model: u16, rows: &[u8], file: &mut [u8]) -> WriteA
     if file.len() != file_length(kind, rows) {
         return WriteAnswer::Refused(BAD_BUFFER);
     }
-    let refusal = rows_refusal(kind, rows);
-    if refusal != NO_ERROR {
-        return WriteAnswer::Refused(refusal);
+    let wrong = rows_refusal(kind, rows);
+    if wrong != NO_ERROR {
+        return WriteAnswer::Refused(wrong);
     }
     write_file(kind, model, rows, file);
     WriteAnswer::Written
