@@ -12,5 +12,4 @@ pub mod Keeping
 pub mod Assigning
 pub mod Changing
 pub mod Readings
-pub mod Acting
-pub mod Instructing
+pub mod Rows

@@ -1,6 +1,6 @@
 -- What the code of the checked run holds and gives. Assumes nothing: these are definitions.
 use mathlib.Core.Path.{_≡_}
-use mathlib.Core.Bool.{Bool, true, false}
+use mathlib.Core.Bool.{Bool, true}
 use mathlib.Core.List.{List}
 use mathlib.Core.Option.{some}
 use Prim.Native.Nat.{ℕ, _*_, _≤_, _<_}
@@ -13,9 +13,9 @@ use Rattle.lingua.specs.Body.{size, isBoolean}
 use Rattle.lingua.specs.Value.{Composite, allOf, asTruth}
 use Rattle.lingua.specs.Rows.{tableCount, pairCount}
 use Rattle.lingua.specs.Store.{Reading, Variable, variableAt, cellsIn, statesIn}
-use Rattle.lingua.specs.Expression.{Yoke, Instruction}
+use Rattle.lingua.specs.Expression.{Yoke}
 use Rattle.lingua.specs.Trees.{yokeTree}
-use Rattle.lingua.specs.Run.{Progress, exec}
+use Rattle.lingua.specs.Run.{Progress}
 use Rattle.safety.specs.Accepted.{AcceptedRows}
 use Rattle.safety.specs.Constants.{Fitting}
 use Rattle.rules.specs.Tables.{IsTable}
@@ -23,7 +23,7 @@ use Rattle.profile.specs.Variables.{LimitAt}
 use Rattle.rules.specs.declared.tables.Table.{Table}
 use Rattle.body.specs.Encode.{Holds, body-bytes}
 use Rattle.cells.specs.Stack.{Lies, first-place}
-use Rattle.steps.specs.Moments.{stateOf, progressOf}
+use Rattle.steps.specs.Reached.{Reached, Settles}
 use Rattle.steps.specs.declared.Moment.{Moment}
 use Rattle.checked.specs.declared.answer.Evaluated.{Evaluated}
 use Rattle.checked.specs.declared.answer.Truth.{Truth}
@@ -139,39 +139,14 @@ pub record Assignable (rows : List ℕ) (t : Table) (variables : List ℕ) (limi
   pub there : n < length store
   pub given : Given x stack
 
--- the new store is the one in the memory
-pub record Stores (rows : List ℕ) (t : Table) (variables : List ℕ) (limits : List ℤ) (cells : List ℤ) (states : List ℕ) (p : Result (List Variable)) : Type 0 where
-  pub store : List Variable
-  pub is : p ≡ ok store
-  pub running : Running rows t variables limits cells states store
-
--- the error, and the memory as it was
-pub record Keeps (r : ℕ) (cells after : List ℤ) (states words : List ℕ) (p : Result (List Variable)) : Type 0 where
-  pub is : p ≡ fail r
-  pub same-cells : after ≡ cells
-  pub same-states : words ≡ states
-
-pub record Assigns (r : ℕ) (rows : List ℕ) (t : Table) (variables : List ℕ) (limits : List ℤ) (cells after : List ℤ) (states words : List ℕ) (p : Result (List Variable)) : Type 0 where
-  pub answer : r ≡ no-error → Stores rows t variables limits after words p
-  pub error : (r ≡ no-error → ⊥) → Keeps r cells after states words p
+-- the new store in the memory, or the error and the memory as it was
+abbrev pub Assigns : ℕ → List ℕ → Table → List ℕ → List ℤ → List ℤ → List ℤ → List ℕ → List ℕ → Result (List Variable) → Type 0
+Assigns r rows t variables limits cells after states words p = Settles r (Running rows t variables limits) cells after states words p
 
 -- ---- what instructions ask and give
--- a run that goes on; a place is recorded only with an error
-pub record Going (m : Moment) : Type 0 where
-  pub not-out : m .out ≡ false
-  pub clean : m .error ≡ no-error → m .place ≡ 0
-
--- the run stands where the definition does: the store in memory, and the moment beside it
-pub record Reaches (rows : List ℕ) (t : Table) (variables : List ℕ) (limits : List ℤ) (cells : List ℤ) (states : List ℕ) (m : Moment) (q : Progress) : Type 0 where
-  pub store : List Variable
-  pub is : q ≡ progressOf (m .out) (stateOf m store)
-  pub running : Running rows t variables limits cells states store
-  pub clean : m .error ≡ no-error → m .place ≡ 0
-
--- an instruction that leaves the store as it is
-pub record Passes (m r : Moment) (i : Instruction) : Type 0 where
-  pub is : (vs : List Variable) → exec i (stateOf m vs) ≡ progressOf (r .out) (stateOf r vs)
-  pub clean : r .error ≡ no-error → r .place ≡ 0
+-- the run stands where the definition does
+abbrev pub Reaches : List ℕ → Table → List ℕ → List ℤ → List ℤ → List ℕ → Moment → Progress → Type 0
+Reaches rows t variables limits cells states m q = Reached (Running rows t variables limits) cells states m q
 
 -- some store of a run
 pub record HasRun (rows : List ℕ) (t : Table) (variables : List ℕ) (limits : List ℤ) (cells : List ℤ) (states : List ℕ) : Type 0 where

@@ -23,7 +23,8 @@ ghost use Rattle.lingua.specs.Trees.{expressionTree, yokeTree, instructionTree}
 ghost use Rattle.lingua.specs.Run.{exec as meaning};
 ghost use Rattle.rules.specs.Tables.{IsTable};
 ghost use Rattle.steps.specs.Moments.{stateOf};
-ghost use Rattle.checked.specs.Meaning.{Running, HasRun, Going, Reaches, Passes};
+ghost use Rattle.steps.specs.Reached.{Going, Passes};
+ghost use Rattle.checked.specs.Meaning.{Running, HasRun, Reaches};
 
 fn skip(m: Moment, row: usize) -> Moment
     requires { ⌜ Going m ⌝ }

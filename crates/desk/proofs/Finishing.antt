@@ -21,7 +21,8 @@ use Rattle.rules.specs.Tables.{IsTable}
 use Rattle.start.specs.Begun.{startStore, Begun}
 use Rattle.steps.specs.Moments.{stateOf, progressOf}
 use Rattle.steps.specs.declared.Moment.{Moment}
-use Rattle.checked.specs.Meaning.{Running, HasRun, Going, Reaches}
+use Rattle.steps.specs.Reached.{Going}
+use Rattle.checked.specs.Meaning.{Running, HasRun, Reaches}
 use Rattle.desk.proofs.Taking.{going-state}
 use Rattle.desk.proofs.Beginning.{start-running}
 

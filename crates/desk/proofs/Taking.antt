@@ -17,7 +17,9 @@ use Rattle.lingua.specs.Calls.{readingsOf}
 use Rattle.rules.specs.declared.tables.Table.{Table}
 use Rattle.steps.specs.Moments.{stateOf, progressOf, recorded}
 use Rattle.steps.specs.declared.Moment.{Moment}
-use Rattle.checked.specs.Meaning.{reading, Running, HasRunning, HasRun, Going, Reaches, Assigns, Stores, Keeps}
+use Rattle.steps.specs.Reached.{Going}
+use Rattle.steps.specs.Acting.{settles}
+use Rattle.checked.specs.Meaning.{reading, Running, HasRunning, HasRun, Reaches, Assigns}
 
 -- ---- one input
 pub recorded-going : (m r : Moment) (e place : ℕ) → Going m → r ≡ recorded m e place → Going r
@@ -35,30 +37,8 @@ pub going-state : (b : Bool) (s u : State) → b ≡ false → going s ≡ progr
 going-state b s u e q = ap lastState (q ∙ sym (progress-going b u e))
 
 module _ (rows : List ℕ) (t : Table) (variables : List ℕ) (limits : List ℤ) (cells after : List ℤ) (states words : List ℕ) (vs : List Variable) (m : Moment) (g : Going m) (place : ℕ) (p : Result (List Variable)) (w : Running rows t variables limits cells states vs) where
-  stores-reach : Stores rows t variables limits after words p → Reaches rows t variables limits after words m (going (settled (stateOf m vs) place p))
-  stores-reach s =
-      record {
-        store = s .store;
-        is = ap (λ (o : Result (List Variable)). going (settled (stateOf m vs) place o)) (s .is) ∙ progress-going (m .out) (stateOf m (s .store)) (g .not-out);
-        running = s .running;
-        clean = g .clean;
-      }
-
-  keeps-reach : (n : ℕ) → Keeps (suc n) cells after states words p → Reaches rows t variables limits after words (recorded m (suc n) place) (going (settled (stateOf m vs) place p))
-  keeps-reach n k =
-      record {
-        store = vs;
-        is = ap (λ (o : Result (List Variable)). going (settled (stateOf m vs) place o)) (k .is) ∙ progress-going (m .out) (stateOf (recorded m (suc n) place) vs) (g .not-out);
-        running = subst (λ (x : List ℤ). Running rows t variables limits x words vs) (sym (k .same-cells)) (subst (λ (x : List ℕ). Running rows t variables limits cells x vs) (sym (k .same-states)) w);
-        clean = λ z. absurd (let q : ⊥ = omega (arith, z) in q);
-      }
-
-  recorded-reaches : (e : ℕ) → Assigns e rows t variables limits cells after states words p → Reaches rows t variables limits after words (recorded m e place) (going (settled (stateOf m vs) place p))
-  recorded-reaches zero a = stores-reach (a .answer refl)
-  recorded-reaches (suc n) a = keeps-reach n (a .error (λ z. omega (arith, z)))
-
   pub input-reaches : (r : Moment) (e : ℕ) → r ≡ recorded m e place → Assigns e rows t variables limits cells after states words p → Reaches rows t variables limits after words r (going (settled (stateOf m vs) place p))
-  input-reaches r e q a = subst (λ (x : Moment). Reaches rows t variables limits after words x (going (settled (stateOf m vs) place p))) (sym q) (recorded-reaches e a)
+  input-reaches r e q a = settles vs w m r e place a q (g .not-out) (g .clean)
 
 -- an input's number as the code has it
 pub number-taken : {e : ℕ} {rows : List ℕ} {t : Table} {variables : List ℕ} {limits cells after : List ℤ} {states words : List ℕ} (vs : List Variable) (n : ℕ) (y z : ℤ) → y ≡ z

@@ -15,7 +15,8 @@ ghost use Rattle.lingua.specs.Store.{Variable, readingTaken};
 ghost use Rattle.lingua.specs.Run.{going, takeReadings, settled as settledAt};
 ghost use Rattle.lingua.specs.Calls.{readingsOf};
 ghost use Rattle.steps.specs.Moments.{stateOf};
-ghost use Rattle.checked.specs.Meaning.{reading, Running, HasRunning, HasRun, Going, Reaches};
+ghost use Rattle.steps.specs.Reached.{Going};
+ghost use Rattle.checked.specs.Meaning.{reading, Running, HasRunning, HasRun, Reaches};
 
 // One input: its error is recorded with its place.
 fn take_one(

@@ -1,2 +1,5 @@
 pub mod Moments
 pub mod Steps
+pub mod Reached
+pub mod Acting
+pub mod Instructing

@@ -14,8 +14,9 @@ use Rattle.lingua.specs.Run.{exec as meaning}
 use Rattle.profile.specs.Facts.{InstructionFacts, instructionRowTree}
 use Rattle.steps.specs.Moments.{stateOf}
 use Rattle.checked.specs.Meaning.{Running}
-use Rattle.checked.proofs.Acting.{going-after, stays, reaches-as}
-use Rattle.checked.proofs.Instructing.{few-instructions, sequence-out, sequence-on, branch-passed, branch-out, branch-failed, branch-yes, branch-no, handle-out, handle-other, handle-own, cleared-going, Turning, first-turn, turns-over, turn-out, turn-failed, turn-last, body-out, fewer-left, next-turn, meant-as, row-facts, yoke-within, by-instruction}
+use Rattle.steps.specs.Acting.{going-after, stays, reaches-as}
+use Rattle.steps.specs.Instructing.{sequence-out, sequence-on, branch-passed, branch-out, branch-failed, branch-yes, branch-no, handle-out, handle-other, handle-own, cleared-going, Turning, first-turn, turns-over, turn-out, turn-failed, turn-last, body-out, fewer-left, next-turn}
+use Rattle.checked.proofs.Rows.{told, few-instructions, meant-as, row-facts, yoke-within, by-instruction}
 use Prim.Native.Nat.{ℕ, _<_}
 use borrow.Fn.Kinds.{In}
 use borrow.Fn.PlainCycle.{Measures, is, falls, and}
@@ -91,13 +92,13 @@ abbrev turns-calls : ℕ → turns-lts.Claims
 turns-calls t = (stepped-reads.Asked, stepped-reads.Learnt, eval-test-reads.Asked, eval-test-reads.Learnt, settled-reads.Asked, settled-reads.Learnt, exec-below t, exec.Post)
 
 branch-returns : (t : ℕ) → branch-lts.Need-returns (branch-calls t) (branch-at t) branch.Post
-branch-returns t c = λ vs w. branch-passed w (c .before .before .before .before .before .pre .1 .1 .1 .1 .0) _ _ _ _ (c .if1 .taken)
+branch-returns t c = λ vs w. branch-passed vs w (c .before .before .before .before .before .pre .1 .1 .1 .1 .0) _ _ _ _ (c .if1 .taken)
 
 branch-stepped-requires : (t : ℕ) → branch-lts.Need-stepped-requires (branch-calls t) (branch-at t) branch.Post
 branch-stepped-requires t c κs = search needs
 
 branch-returns-2 : (t : ℕ) → branch-lts.Need-returns-2 (branch-calls t) (branch-at t) branch.Post
-branch-returns-2 t c = λ vs w. branch-out w (c .before .before .before .before .before .before .before .pre .1 .1 .1 .1 .0) _ _ _ _ (c .before .stepped .ensures) (c .before .before .if1 .left) (c .if2 .taken)
+branch-returns-2 t c = λ vs w. branch-out vs w (c .before .before .before .before .before .before .before .pre .1 .1 .1 .1 .0) _ _ _ _ (c .before .stepped .ensures) (c .before .before .if1 .left) (c .if2 .taken)
 
 branch-eval-test-requires : (t : ℕ) → branch-lts.Need-eval-test-requires (branch-calls t) (branch-at t) branch.Post
 branch-eval-test-requires t c κs = (record { store = c .before .before .before .before .before .before .before .before .before .before .pre .1 .0 .store; world = c .before .before .before .before .before .before .before .before .before .before .pre .1 .0 .running .world }, (c .before .before .before .before .before .before .before .before .before .before .pre .1 .1 .1 .0 .1, omega (arith, c .before .before .before .before .before .before .before .before .before .before .pre .1 .1 .1 .0 .1, c .before .before .before .before .before .before .before .before .before .before .pre .1 .1 .1 .1 .1)))
@@ -118,7 +119,7 @@ branch-same-length-3 : (t : ℕ) → branch-lts.Need-same-length-3 (branch-calls
 branch-same-length-3 t c = search needs
 
 branch-returns-3 : (t : ℕ) → branch-lts.Need-returns-3 (branch-calls t) (branch-at t) branch.Post
-branch-returns-3 t c = λ vs w. branch-failed w (c .before .before .before .before .before .before .before .before .before .before .before .before .before .before .before .pre .1 .1 .1 .1 .0) _ _ _ _ (c .before .before .before .before .before .before .before .before .before .stepped .ensures) (c .before .before .before .before .before .before .before .before .before .before .if1 .left) (c .before .before .before .before .before .before .before .before .if2 .left) (c .before .before .before .before .eval-test .ensures vs (w .world)) _ (c .before .if3 .taken) (c .settled .ensures)
+branch-returns-3 t c = λ vs w. branch-failed vs w (c .before .before .before .before .before .before .before .before .before .before .before .before .before .before .before .pre .1 .1 .1 .1 .0) _ _ _ _ (c .before .before .before .before .before .before .before .before .before .stepped .ensures) (c .before .before .before .before .before .before .before .before .before .before .if1 .left) (c .before .before .before .before .before .before .before .before .if2 .left) (told (c .before .before .before .before .eval-test .ensures vs (w .world))) _ (c .before .if3 .taken) (c .settled .ensures)
 
 branch-exec-requires : (t : ℕ) → branch-lts.Need-exec-requires (branch-calls t) (branch-at t) branch.Post
 branch-exec-requires t c κs = (omega (arith, c .before .before .before .before .before .before .before .before .before .before .before .before .before .before .before .before .before .before .pre .0, c .before .before .before .before .before .before .before .before .before .before .before .before .before .before .before .before .before .before .pre .1 .1 .1 .0 .2), (c .before .before .before .before .before .before .before .before .before .before .before .before .before .before .before .before .before .before .pre .1 .0, (c .before .before .before .before .before .before .before .before .before .before .before .before .before .before .before .before .before .before .pre .1 .1 .0, (omega (arith, c .before .before .before .before .before .before .before .before .before .before .before .before .before .before .before .before .before .before .pre .1 .1 .1 .0 .0, c .before .before .before .before .before .before .before .before .before .before .before .before .before .before .before .before .before .before .pre .1 .1 .1 .0 .2), (going-after (c .before .before .before .before .before .before .before .before .before .before .before .before .before .before .before .before .before .before .pre .1 .1 .1 .1 .0) (c .before .before .before .before .before .before .before .before .before .before .before .before .stepped .ensures) (c .before .before .before .before .before .before .before .before .before .before .before .if2 .left), omega (arith, c .before .before .before .before .before .before .before .before .before .before .before .before .before .before .before .before .before .before .pre .1 .1 .1 .1 .1, c .before .before .before .before .before .before .before .eval-test .kept))))))
@@ -133,7 +134,7 @@ branch-same-length-6 : (t : ℕ) → branch-lts.Need-same-length-6 (branch-calls
 branch-same-length-6 t c = search needs
 
 branch-returns-4 : (t : ℕ) → branch-lts.Need-returns-4 (branch-calls t) (branch-at t) branch.Post
-branch-returns-4 t c = λ vs w. reaches-as (branch-yes w (c .before .before .before .before .before .before .before .before .before .before .before .before .before .before .before .before .before .before .before .before .before .before .before .pre .1 .1 .1 .1 .0) _ _ _ _ (c .before .before .before .before .before .before .before .before .before .before .before .before .before .before .before .before .before .stepped .ensures) (c .before .before .before .before .before .before .before .before .before .before .before .before .before .before .before .before .before .before .if1 .left) (c .before .before .before .before .before .before .before .before .before .before .before .before .before .before .before .before .if2 .left) (c .before .before .before .before .before .before .before .before .before .before .before .before .eval-test .ensures vs (w .world)) (c .before .before .before .before .before .before .before .before .before .if3 .left) (c .before .before .before .before .before .before .before .before .if4 .taken)) (c .before .before .before .before .exec .ensures vs w)
+branch-returns-4 t c = λ vs w. reaches-as (branch-yes (c .before .before .before .before .before .before .before .before .before .before .before .before .before .before .before .before .before .stepped .ensures) (c .before .before .before .before .before .before .before .before .before .before .before .before .before .before .before .before .before .before .if1 .left) vs _ _ _ _ (c .before .before .before .before .before .before .before .before .before .before .before .before .before .before .before .before .if2 .left) (told (c .before .before .before .before .before .before .before .before .before .before .before .before .eval-test .ensures vs (w .world))) (c .before .before .before .before .before .before .before .before .before .if3 .left) (c .before .before .before .before .before .before .before .before .if4 .taken)) (c .before .before .before .before .exec .ensures vs w)
 
 branch-exec-requires-2 : (t : ℕ) → branch-lts.Need-exec-requires-2 (branch-calls t) (branch-at t) branch.Post
 branch-exec-requires-2 t c κs = (omega (arith, c .before .before .before .before .before .before .before .before .before .before .before .before .before .before .before .before .before .before .pre .0, c .before .before .before .before .before .before .before .before .before .before .before .before .before .before .before .before .before .before .pre .1 .1 .1 .0 .3), (c .before .before .before .before .before .before .before .before .before .before .before .before .before .before .before .before .before .before .pre .1 .0, (c .before .before .before .before .before .before .before .before .before .before .before .before .before .before .before .before .before .before .pre .1 .1 .0, (omega (arith, c .before .before .before .before .before .before .before .before .before .before .before .before .before .before .before .before .before .before .pre .1 .1 .1 .0 .0, c .before .before .before .before .before .before .before .before .before .before .before .before .before .before .before .before .before .before .pre .1 .1 .1 .0 .3), (going-after (c .before .before .before .before .before .before .before .before .before .before .before .before .before .before .before .before .before .before .pre .1 .1 .1 .1 .0) (c .before .before .before .before .before .before .before .before .before .before .before .before .stepped .ensures) (c .before .before .before .before .before .before .before .before .before .before .before .if2 .left), omega (arith, c .before .before .before .before .before .before .before .before .before .before .before .before .before .before .before .before .before .before .pre .1 .1 .1 .1 .1, c .before .before .before .before .before .before .before .eval-test .kept))))))
@@ -148,7 +149,7 @@ branch-same-length-9 : (t : ℕ) → branch-lts.Need-same-length-9 (branch-calls
 branch-same-length-9 t c = search needs
 
 branch-returns-5 : (t : ℕ) → branch-lts.Need-returns-5 (branch-calls t) (branch-at t) branch.Post
-branch-returns-5 t c = λ vs w. reaches-as (branch-no w (c .before .before .before .before .before .before .before .before .before .before .before .before .before .before .before .before .before .before .before .before .before .before .before .pre .1 .1 .1 .1 .0) _ _ _ _ (c .before .before .before .before .before .before .before .before .before .before .before .before .before .before .before .before .before .stepped .ensures) (c .before .before .before .before .before .before .before .before .before .before .before .before .before .before .before .before .before .before .if1 .left) (c .before .before .before .before .before .before .before .before .before .before .before .before .before .before .before .before .if2 .left) (c .before .before .before .before .before .before .before .before .before .before .before .before .eval-test .ensures vs (w .world)) (c .before .before .before .before .before .before .before .before .before .if3 .left) (c .before .before .before .before .before .before .before .before .if4 .left)) (c .before .before .before .before .exec2 .ensures vs w)
+branch-returns-5 t c = λ vs w. reaches-as (branch-no (c .before .before .before .before .before .before .before .before .before .before .before .before .before .before .before .before .before .stepped .ensures) (c .before .before .before .before .before .before .before .before .before .before .before .before .before .before .before .before .before .before .if1 .left) vs _ _ _ _ (c .before .before .before .before .before .before .before .before .before .before .before .before .before .before .before .before .if2 .left) (told (c .before .before .before .before .before .before .before .before .before .before .before .before .eval-test .ensures vs (w .world))) (c .before .before .before .before .before .before .before .before .before .if3 .left) (c .before .before .before .before .before .before .before .before .if4 .left)) (c .before .before .before .before .exec2 .ensures vs w)
 
 exec-instruction-row-requires : (t : ℕ) → exec-lts.Need-instruction-row-requires (exec-calls t) (exec-at t) exec.Post
 exec-instruction-row-requires t c κs = (c .before .before .before .pre .1 .1 .0, c .before .before .before .pre .1 .1 .1 .0)
@@ -220,7 +221,7 @@ exec-handle-requires t c κs = let f = row-facts (c .before .before .before .bef
 
 exec-returns-2 : (t : ℕ) → exec-lts.Need-returns-2 (exec-calls t) (exec-at t) exec.Post
 unfolding instructionRowTree
-exec-returns-2 t c = λ vs w. by-instruction w (c .before .before .before .before .before .before .before .pre .1 .1 .0) (c .before .before .before .before .before .before .before .pre .1 .1 .1 .0) _ (meant-as (c .before .enum-told .given .1) (c .before .before .before .instruction-row .ensures)) (stays w (c .skip .ensures .clean) (c .skip .ensures .is vs))
+exec-returns-2 t c = λ vs w. by-instruction w (c .before .before .before .before .before .before .before .pre .1 .1 .0) (c .before .before .before .before .before .before .before .pre .1 .1 .1 .0) _ (meant-as (c .before .enum-told .given .1) (c .before .before .before .instruction-row .ensures)) (stays vs w (c .skip .ensures .clean) (c .skip .ensures .is vs))
 
 exec-same-length-4 : (t : ℕ) → exec-lts.Need-same-length-4 (exec-calls t) (exec-at t) exec.Post
 exec-same-length-4 t c = search needs
@@ -304,13 +305,13 @@ handle-stepped-requires : (t : ℕ) → handle-lts.Need-stepped-requires (handle
 handle-stepped-requires t c κs = search needs
 
 handle-returns : (t : ℕ) → handle-lts.Need-returns (handle-calls t) (handle-at t) handle.Post
-handle-returns t c = λ vs w. handle-out w (c .before .before .before .before .before .pre .1 .1 .1 .1 .0) (c .before .stepped .ensures) _ _ _ (c .if1 .taken)
+handle-returns t c = λ vs w. handle-out vs w (c .before .before .before .before .before .pre .1 .1 .1 .1 .0) (c .before .stepped .ensures) _ _ _ (c .if1 .taken)
 
 handle-cast-if2 : (t : ℕ) → handle-lts.Need-cast-if2 (handle-calls t) (handle-at t) handle.Post
 handle-cast-if2 t c = search needs
 
 handle-returns-2 : (t : ℕ) → handle-lts.Need-returns-2 (handle-calls t) (handle-at t) handle.Post
-handle-returns-2 t c = λ vs w. handle-other w (c .before .before .before .before .before .before .before .pre .1 .1 .1 .1 .0) (c .before .before .before .stepped .ensures) _ _ _ (c .before .before .if1 .left) (c .if2 .taken)
+handle-returns-2 t c = λ vs w. handle-other vs w (c .before .before .before .before .before .before .before .pre .1 .1 .1 .1 .0) (c .before .before .before .stepped .ensures) _ _ _ (c .before .before .if1 .left) (c .if2 .taken)
 
 handle-cleared-requires : (t : ℕ) → handle-lts.Need-cleared-requires (handle-calls t) (handle-at t) handle.Post
 handle-cleared-requires t c κs = search needs
@@ -328,16 +329,16 @@ handle-same-length-3 : (t : ℕ) → handle-lts.Need-same-length-3 (handle-calls
 handle-same-length-3 t c = search needs
 
 handle-returns-3 : (t : ℕ) → handle-lts.Need-returns-3 (handle-calls t) (handle-at t) handle.Post
-handle-returns-3 t c = λ vs w. reaches-as (handle-own w (c .before .before .before .before .before .before .before .before .before .before .before .before .before .before .before .before .pre .1 .1 .1 .1 .0) (c .before .before .before .before .before .before .before .before .before .before .before .before .stepped .ensures) _ _ _ _ (c .before .before .before .before .before .before .before .before .before .before .before .if1 .left) (c .before .before .before .before .before .before .before .before .before .if2 .left) (c .before .before .before .before .before .before .cleared .ensures)) (c .before .before .before .before .exec .ensures vs w)
+handle-returns-3 t c = λ vs w. reaches-as (handle-own (c .before .before .before .before .before .before .before .before .before .before .before .before .stepped .ensures) vs _ _ _ _ (c .before .before .before .before .before .before .before .before .before .before .before .if1 .left) (c .before .before .before .before .before .before .before .before .before .if2 .left) (c .before .before .before .before .before .before .cleared .ensures)) (c .before .before .before .before .exec .ensures vs w)
 
 abbrev turns-Inv-loop : turns-lts.InvT-loop
-turns-Inv-loop rows t u variables limits cells₀ states₀ row test i stack₀ at₀ cells states stack at = (length cells ≡ length cells₀) × (length states ≡ length states₀) × (length stack ≡ length stack₀) × ((vs : List Variable) → Running rows t variables limits cells₀ states₀ vs → Turning rows t variables limits cells states row (expressionTree rows test) (instructionTree rows i) at (meaning (loop row (expressionTree rows test) (instructionTree rows i)) (stateOf at₀ vs)))
+turns-Inv-loop rows t u variables limits cells₀ states₀ row test i stack₀ at₀ cells states stack at = (length cells ≡ length cells₀) × (length states ≡ length states₀) × (length stack ≡ length stack₀) × ((vs : List Variable) → Running rows t variables limits cells₀ states₀ vs → Turning (Running rows t variables limits) cells states row (expressionTree rows test) (instructionTree rows i) at (meaning (loop row (expressionTree rows test) (instructionTree rows i)) (stateOf at₀ vs)))
 
 abbrev turns-μ-loop : turns-lts.MeasureT-loop
 turns-μ-loop rows t u variables limits cells₀ states₀ row test i stack₀ at₀ cells states stack at = at .left
 
 turns-loop-holds : (t : ℕ) → turns-lts.Need-loop-holds (turns-calls t) (turns-at t) turns.Post turns-Inv-loop turns-μ-loop
-turns-loop-holds t c = (refl, refl, refl, λ vs w. first-turn _ _ _ w (c .before .before .before .pre .1 .1 .1 .1 .0))
+turns-loop-holds t c = (refl, refl, refl, λ vs w. first-turn _ _ _ vs w (c .before .before .before .pre .1 .1 .1 .1 .0))
 
 turns-stepped-requires : (t : ℕ) → turns-lts.Need-stepped-requires (turns-calls t) (turns-at t) turns.Post turns-Inv-loop turns-μ-loop
 turns-stepped-requires t c κs = search needs
@@ -373,7 +374,7 @@ turns-same-length-6 : (t : ℕ) → turns-lts.Need-same-length-6 (turns-calls t)
 turns-same-length-6 t c = search needs
 
 turns-returns-2 : (t : ℕ) → turns-lts.Need-returns-2 (turns-calls t) (turns-at t) turns.Post turns-Inv-loop turns-μ-loop
-turns-returns-2 t c = λ vs w. let h = c .before .before .before .before .before .before .before .before .before .before .before .before .loop .inv .3 vs w in turn-failed _ _ _ h (c .before .before .before .before .before .before .before .before .before .stepped .ensures) (c .before .before .before .before .before .before .before .before .before .before .if1 .taken) (c .before .before .before .before .before .before .before .before .if2 .left) (c .before .before .before .before .eval-test .ensures (h .store) (h .running .world)) _ (c .before .if3 .taken) (c .settled .ensures)
+turns-returns-2 t c = λ vs w. let h = c .before .before .before .before .before .before .before .before .before .before .before .before .loop .inv .3 vs w in turn-failed _ _ _ h (c .before .before .before .before .before .before .before .before .before .stepped .ensures) (c .before .before .before .before .before .before .before .before .before .before .if1 .taken) (c .before .before .before .before .before .before .before .before .if2 .left) (told (c .before .before .before .before .eval-test .ensures (h .store) (h .running .world))) _ (c .before .if3 .taken) (c .settled .ensures)
 
 turns-same-length-7 : (t : ℕ) → turns-lts.Need-same-length-7 (turns-calls t) (turns-at t) turns.Post turns-Inv-loop turns-μ-loop
 turns-same-length-7 t c = search needs
@@ -385,7 +386,7 @@ turns-same-length-9 : (t : ℕ) → turns-lts.Need-same-length-9 (turns-calls t)
 turns-same-length-9 t c = search needs
 
 turns-returns-3 : (t : ℕ) → turns-lts.Need-returns-3 (turns-calls t) (turns-at t) turns.Post turns-Inv-loop turns-μ-loop
-turns-returns-3 t c = λ vs w. let h = c .before .before .before .before .before .before .before .before .before .before .before .before .before .loop .inv .3 vs w in turn-last _ _ _ h (c .before .before .before .before .before .before .before .before .before .before .stepped .ensures) (c .before .before .before .before .before .before .before .before .before .before .before .if1 .taken) (c .before .before .before .before .before .before .before .before .before .if2 .left) (c .before .before .before .before .before .eval-test .ensures (h .store) (h .running .world)) (c .before .before .if3 .left) (not-true _ (c .if4 .taken))
+turns-returns-3 t c = λ vs w. let h = c .before .before .before .before .before .before .before .before .before .before .before .before .before .loop .inv .3 vs w in turn-last _ _ _ h (c .before .before .before .before .before .before .before .before .before .before .stepped .ensures) (c .before .before .before .before .before .before .before .before .before .before .before .if1 .taken) (c .before .before .before .before .before .before .before .before .before .if2 .left) (told (c .before .before .before .before .before .eval-test .ensures (h .store) (h .running .world))) (c .before .before .if3 .left) (not-true _ (c .if4 .taken))
 
 turns-exec-requires : (t : ℕ) → turns-lts.Need-exec-requires (turns-calls t) (turns-at t) turns.Post turns-Inv-loop turns-μ-loop
 turns-exec-requires t c κs = let h = c .before .before .before .before .before .before .before .before .before .before .before .before .before .before .before .before .loop .inv .3 (c .before .before .before .before .before .before .before .before .before .before .before .before .before .before .before .before .before .before .before .before .pre .1 .0 .store) (c .before .before .before .before .before .before .before .before .before .before .before .before .before .before .before .before .before .before .before .before .pre .1 .0 .running) in (omega (arith, c .before .before .before .before .before .before .before .before .before .before .before .before .before .before .before .before .before .before .before .before .pre .0, c .before .before .before .before .before .before .before .before .before .before .before .before .before .before .before .before .before .before .before .before .pre .1 .1 .1 .0 .2), (record { store = h .store; running = h .running }, (c .before .before .before .before .before .before .before .before .before .before .before .before .before .before .before .before .before .before .before .before .pre .1 .1 .0, (omega (arith, c .before .before .before .before .before .before .before .before .before .before .before .before .before .before .before .before .before .before .before .before .pre .1 .1 .1 .0 .0, c .before .before .before .before .before .before .before .before .before .before .before .before .before .before .before .before .before .before .before .before .pre .1 .1 .1 .0 .2), (going-after (h .going) (c .before .before .before .before .before .before .before .before .before .before .before .before .before .stepped .ensures) (c .before .before .before .before .before .before .before .before .before .before .before .before .if2 .left), omega (arith, c .before .before .before .before .before .before .before .before .before .before .before .before .before .before .before .before .before .before .before .before .pre .1 .1 .1 .1 .1, c .before .before .before .before .before .before .before .before .before .before .before .before .before .before .before .before .loop .inv .2, c .before .before .before .before .before .before .before .before .eval-test .kept))))))
@@ -400,13 +401,13 @@ turns-same-length-12 : (t : ℕ) → turns-lts.Need-same-length-12 (turns-calls 
 turns-same-length-12 t c = omega (arith, c .before .before .before .before .before .before .before .before .before .before .before .before .before .before .before .before .before .before .before .before .before .before .loop .inv .2, c .before .before .before .before .before .exec .kept, c .before .before .before .before .before .before .before .before .before .before .before .before .before .before .eval-test .kept)
 
 turns-returns-4 : (t : ℕ) → turns-lts.Need-returns-4 (turns-calls t) (turns-at t) turns.Post turns-Inv-loop turns-μ-loop
-turns-returns-4 t c = λ vs w. let h = c .before .before .before .before .before .before .before .before .before .before .before .before .before .before .before .before .before .before .before .before .before .before .loop .inv .3 vs w in body-out _ _ _ h (c .before .before .before .before .before .before .before .before .before .before .before .before .before .before .before .before .before .before .before .stepped .ensures) (c .before .before .before .before .before .before .before .before .before .before .before .before .before .before .before .before .before .before .before .before .if1 .taken) (c .before .before .before .before .before .before .before .before .before .before .before .before .before .before .before .before .before .before .if2 .left) (c .before .before .before .before .before .before .before .before .before .before .before .before .before .before .eval-test .ensures (h .store) (h .running .world)) (c .before .before .before .before .before .before .before .before .before .before .before .if3 .left) (not-false _ (c .before .before .before .before .before .before .before .before .before .if4 .left)) (c .before .before .before .before .before .exec .ensures (h .store) (h .running)) (c .if5 .taken)
+turns-returns-4 t c = λ vs w. let h = c .before .before .before .before .before .before .before .before .before .before .before .before .before .before .before .before .before .before .before .before .before .before .loop .inv .3 vs w in body-out _ _ _ h (c .before .before .before .before .before .before .before .before .before .before .before .before .before .before .before .before .before .before .before .stepped .ensures) (c .before .before .before .before .before .before .before .before .before .before .before .before .before .before .before .before .before .before .before .before .if1 .taken) (c .before .before .before .before .before .before .before .before .before .before .before .before .before .before .before .before .before .before .if2 .left) (told (c .before .before .before .before .before .before .before .before .before .before .before .before .before .before .eval-test .ensures (h .store) (h .running .world))) (c .before .before .before .before .before .before .before .before .before .before .before .if3 .left) (not-false _ (c .before .before .before .before .before .before .before .before .before .if4 .left)) (c .before .before .before .before .before .exec .ensures (h .store) (h .running)) (c .if5 .taken)
 
 turns-loop-less : (t : ℕ) → turns-lts.Need-loop-less (turns-calls t) (turns-at t) turns.Post turns-Inv-loop turns-μ-loop
-turns-loop-less t c = let h = c .before .before .before .before .before .before .before .before .before .before .before .before .before .before .before .before .before .before .before .before .before .before .loop .inv .3 (c .before .before .before .before .before .before .before .before .before .before .before .before .before .before .before .before .before .before .before .before .before .before .before .before .before .before .pre .1 .0 .store) (c .before .before .before .before .before .before .before .before .before .before .before .before .before .before .before .before .before .before .before .before .before .before .before .before .before .before .pre .1 .0 .running) in fewer-left _ _ _ h (c .before .before .before .before .before .before .before .before .before .before .before .before .before .before .before .before .before .before .before .stepped .ensures) (c .before .before .before .before .before .before .before .before .before .before .before .before .before .before .before .before .before .before .before .before .if1 .taken) (c .before .before .before .before .before .before .before .before .before .before .before .before .before .before .before .before .before .before .if2 .left) (c .before .before .before .before .before .before .before .before .before .before .before .before .before .before .eval-test .ensures (h .store) (h .running .world)) (c .before .before .before .before .before .before .before .before .before .before .before .if3 .left) (not-false _ (c .before .before .before .before .before .before .before .before .before .if4 .left)) (c .before .before .before .before .before .exec .ensures (h .store) (h .running))
+turns-loop-less t c = let h = c .before .before .before .before .before .before .before .before .before .before .before .before .before .before .before .before .before .before .before .before .before .before .loop .inv .3 (c .before .before .before .before .before .before .before .before .before .before .before .before .before .before .before .before .before .before .before .before .before .before .before .before .before .before .pre .1 .0 .store) (c .before .before .before .before .before .before .before .before .before .before .before .before .before .before .before .before .before .before .before .before .before .before .before .before .before .before .pre .1 .0 .running) in fewer-left _ _ _ h (c .before .before .before .before .before .before .before .before .before .before .before .before .before .before .before .before .before .before .before .stepped .ensures) (c .before .before .before .before .before .before .before .before .before .before .before .before .before .before .before .before .before .before .before .before .if1 .taken) (c .before .before .before .before .before .before .before .before .before .before .before .before .before .before .before .before .before .before .if2 .left) (told (c .before .before .before .before .before .before .before .before .before .before .before .before .before .before .eval-test .ensures (h .store) (h .running .world))) (c .before .before .before .before .before .before .before .before .before .before .before .if3 .left) (not-false _ (c .before .before .before .before .before .before .before .before .before .if4 .left)) (c .before .before .before .before .before .exec .ensures (h .store) (h .running))
 
 turns-loop-again : (t : ℕ) → turns-lts.Need-loop-again (turns-calls t) (turns-at t) turns.Post turns-Inv-loop turns-μ-loop
-turns-loop-again t c = (omega (arith, c .before .before .before .before .before .before .before .before .before .before .before .before .before .before .before .before .before .before .before .before .before .before .loop .inv .0, c .before .before .before .before .before .exec .kept), omega (arith, c .before .before .before .before .before .before .before .before .before .before .before .before .before .before .before .before .before .before .before .before .before .before .loop .inv .1, c .before .before .before .before .before .exec .kept), omega (arith, c .before .before .before .before .before .before .before .before .before .before .before .before .before .before .before .before .before .before .before .before .before .before .loop .inv .2, c .before .before .before .before .before .before .before .before .before .before .before .before .before .before .eval-test .kept, c .before .before .before .before .before .exec .kept), λ vs w. let h = c .before .before .before .before .before .before .before .before .before .before .before .before .before .before .before .before .before .before .before .before .before .before .loop .inv .3 vs w in next-turn _ _ _ h (c .before .before .before .before .before .before .before .before .before .before .before .before .before .before .before .before .before .before .before .stepped .ensures) (c .before .before .before .before .before .before .before .before .before .before .before .before .before .before .before .before .before .before .before .before .if1 .taken) (c .before .before .before .before .before .before .before .before .before .before .before .before .before .before .before .before .before .before .if2 .left) (c .before .before .before .before .before .before .before .before .before .before .before .before .before .before .eval-test .ensures (h .store) (h .running .world)) (c .before .before .before .before .before .before .before .before .before .before .before .if3 .left) (not-false _ (c .before .before .before .before .before .before .before .before .before .if4 .left)) (c .before .before .before .before .before .exec .ensures (h .store) (h .running)) (c .if5 .left))
+turns-loop-again t c = (omega (arith, c .before .before .before .before .before .before .before .before .before .before .before .before .before .before .before .before .before .before .before .before .before .before .loop .inv .0, c .before .before .before .before .before .exec .kept), omega (arith, c .before .before .before .before .before .before .before .before .before .before .before .before .before .before .before .before .before .before .before .before .before .before .loop .inv .1, c .before .before .before .before .before .exec .kept), omega (arith, c .before .before .before .before .before .before .before .before .before .before .before .before .before .before .before .before .before .before .before .before .before .before .loop .inv .2, c .before .before .before .before .before .before .before .before .before .before .before .before .before .before .eval-test .kept, c .before .before .before .before .before .exec .kept), λ vs w. let h = c .before .before .before .before .before .before .before .before .before .before .before .before .before .before .before .before .before .before .before .before .before .before .loop .inv .3 vs w in next-turn _ _ _ h (c .before .before .before .before .before .before .before .before .before .before .before .before .before .before .before .before .before .before .before .stepped .ensures) (c .before .before .before .before .before .before .before .before .before .before .before .before .before .before .before .before .before .before .before .before .if1 .taken) (c .before .before .before .before .before .before .before .before .before .before .before .before .before .before .before .before .before .before .if2 .left) (told (c .before .before .before .before .before .before .before .before .before .before .before .before .before .before .eval-test .ensures (h .store) (h .running .world))) (c .before .before .before .before .before .before .before .before .before .before .before .if3 .left) (not-false _ (c .before .before .before .before .before .before .before .before .before .if4 .left)) (c .before .before .before .before .before .exec .ensures (h .store) (h .running)) (c .if5 .left))
 
 turns-same-length-13 : (t : ℕ) → turns-lts.Need-same-length-13 (turns-calls t) (turns-at t) turns.Post turns-Inv-loop turns-μ-loop
 turns-same-length-13 t c = search needs

@@ -1,6 +1,7 @@
 -- `checked::assignment` meets its contract: passed over, out, or settled. Assumes nothing.
 use native.Mathlib.Omega.{arith}
-use Rattle.checked.proofs.Instructing.{declared, assign-passed, assign-out, assign-settled}
+use Rattle.steps.specs.Instructing.{assign-passed, assign-out, assign-settled}
+use Rattle.checked.proofs.Rows.{declared}
 use borrow.Author.Needs.{needs}
 use Rattle.checked.proofs.exec.assignment.Statement.{statement}
 use Rattle.checked.proofs.exec.assignment.Tie as tie
@@ -13,7 +14,7 @@ use Rattle.steps.proofs.stepped.Reads as stepped-reads
 
 -- src/exec.rt:60:9
 returns : tie.Need-returns
-returns c = λ vs w. assign-passed w (c .before .before .before .before .before .pre .1 .1 .1 .0) _ _ _ (c .if1 .taken)
+returns c = λ vs w. assign-passed vs w (c .before .before .before .before .before .pre .1 .1 .1 .0) _ _ _ (c .if1 .taken)
 
 -- src/exec.rt:62:9
 stepped-requires : tie.Need-stepped-requires
@@ -21,7 +22,7 @@ stepped-requires c κs = search needs
 
 -- src/exec.rt:64:9
 returns-2 : tie.Need-returns-2
-returns-2 c = λ vs w. assign-out w (c .before .before .before .before .before .before .before .pre .1 .1 .1 .0) _ _ _ (c .before .stepped .ensures) (c .before .before .if1 .left) (c .if2 .taken)
+returns-2 c = λ vs w. assign-out vs w (c .before .before .before .before .before .before .before .pre .1 .1 .1 .0) _ _ _ (c .before .stepped .ensures) (c .before .before .if1 .left) (c .if2 .taken)
 
 -- src/exec.rt:66:9
 eval-plain-requires : tie.Need-eval-plain-requires
@@ -53,7 +54,7 @@ same-length-3 c = search needs
 
 -- src/exec.rt:38:1
 returns-3 : tie.Need-returns-3
-returns-3 c = λ vs w. assign-settled w (c .before .before .before .before .before .before .before .before .before .before .before .before .before .before .before .before .before .before .before .before .before .pre .1 .1 .1 .0) _ _ _ (c .before .before .before .before .before .before .before .before .before .before .before .before .before .before .before .stepped .ensures) (c .before .before .before .before .before .before .before .before .before .before .before .before .before .before .before .before .if1 .left) _ _ (c .before .before .before .before .before .before .before .before .before .before .before .before .before .before .if2 .left) (c .before .before .before .before .before .assign .ensures vs _ w (declared w (c .before .before .before .before .before .before .before .before .before .before .before .before .before .before .before .before .before .before .before .before .before .pre .1 .0)) (c .before .before .before .before .before .before .before .before .before .before .eval-plain .ensures vs (w .world))) (c .settled .ensures)
+returns-3 c = λ vs w. assign-settled vs w (c .before .before .before .before .before .before .before .before .before .before .before .before .before .before .before .before .before .before .before .before .before .pre .1 .1 .1 .0) _ _ _ (c .before .before .before .before .before .before .before .before .before .before .before .before .before .before .before .stepped .ensures) (c .before .before .before .before .before .before .before .before .before .before .before .before .before .before .before .before .if1 .left) _ _ (c .before .before .before .before .before .before .before .before .before .before .before .before .before .before .if2 .left) (c .before .before .before .before .before .assign .ensures vs _ w (declared w (c .before .before .before .before .before .before .before .before .before .before .before .before .before .before .before .before .before .before .before .before .before .pre .1 .0)) (c .before .before .before .before .before .before .before .before .before .before .eval-plain .ensures vs (w .world))) (c .settled .ensures)
 
 pub assignment-spec : {M : Type 1} → statement M
 assignment-spec =

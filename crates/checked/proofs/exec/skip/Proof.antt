@@ -1,5 +1,5 @@
 -- `checked::skip` takes its step, unless an error is recorded. Assumes nothing.
-use Rattle.checked.proofs.Acting.{skip-passed, skip-stepped}
+use Rattle.steps.specs.Acting.{skip-passed, skip-stepped}
 use borrow.Author.Needs.{needs}
 use Rattle.checked.proofs.exec.skip.Statement.{statement}
 use Rattle.checked.proofs.exec.skip.Tie as tie

@@ -1,6 +1,7 @@
 -- `checked::yoke_change` meets its contract: passed over, out, or settled. Assumes nothing.
 use native.Mathlib.Omega.{arith}
-use Rattle.checked.proofs.Instructing.{declared, few-expressions, change-passed, change-out, change-settled}
+use Rattle.steps.specs.Instructing.{change-passed, change-out, change-settled}
+use Rattle.checked.proofs.Rows.{declared, few-expressions}
 use borrow.Author.Needs.{needs}
 use Rattle.checked.proofs.exec.yoke_change.Statement.{statement}
 use Rattle.checked.proofs.exec.yoke_change.Tie as tie
@@ -12,7 +13,7 @@ use Rattle.steps.proofs.stepped.Reads as stepped-reads
 
 -- src/exec.rt:93:9
 returns : tie.Need-returns
-returns c = λ vs w. change-passed w (c .before .before .before .before .before .pre .1 .1 .1 .0) _ _ _ (c .if1 .taken)
+returns c = λ vs w. change-passed vs w (c .before .before .before .before .before .pre .1 .1 .1 .0) _ _ _ (c .if1 .taken)
 
 -- src/exec.rt:95:9
 stepped-requires : tie.Need-stepped-requires
@@ -20,7 +21,7 @@ stepped-requires c κs = search needs
 
 -- src/exec.rt:97:9
 returns-2 : tie.Need-returns-2
-returns-2 c = λ vs w. change-out w (c .before .before .before .before .before .before .before .pre .1 .1 .1 .0) _ _ _ (c .before .stepped .ensures) (c .before .before .if1 .left) (c .if2 .taken)
+returns-2 c = λ vs w. change-out vs w (c .before .before .before .before .before .before .before .pre .1 .1 .1 .0) _ _ _ (c .before .stepped .ensures) (c .before .before .if1 .left) (c .if2 .taken)
 
 -- src/exec.rt:107:9
 cast-change-yoke : tie.Need-cast-change-yoke
@@ -48,7 +49,7 @@ same-length-2 c = search needs
 
 -- src/exec.rt:71:1
 returns-3 : tie.Need-returns-3
-returns-3 c = λ vs w. change-settled w (c .before .before .before .before .before .before .before .before .before .before .before .before .before .before .pre .1 .1 .1 .0) _ _ _ (c .before .before .before .before .before .before .before .before .stepped .ensures) (c .before .before .before .before .before .before .before .before .before .if1 .left) _ _ (c .before .before .before .before .before .before .before .if2 .left) (c .before .before .before .before .change-yoke .ensures vs w (declared w (c .before .before .before .before .before .before .before .before .before .before .before .before .before .before .pre .1 .0))) (c .settled .ensures)
+returns-3 c = λ vs w. change-settled vs w (c .before .before .before .before .before .before .before .before .before .before .before .before .before .before .pre .1 .1 .1 .0) _ _ _ (c .before .before .before .before .before .before .before .before .stepped .ensures) (c .before .before .before .before .before .before .before .before .before .if1 .left) _ _ (c .before .before .before .before .before .before .before .if2 .left) (c .before .before .before .before .change-yoke .ensures vs w (declared w (c .before .before .before .before .before .before .before .before .before .before .before .before .before .before .pre .1 .0))) (c .settled .ensures)
 
 pub yoke-change-spec : {M : Type 1} → statement M
 yoke-change-spec =
