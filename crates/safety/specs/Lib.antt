@@ -29,3 +29,4 @@ pub mod Memory
 pub mod Failures
 pub mod Recorded
 pub mod TwoRuns
+pub mod Limited

@@ -1,0 +1,129 @@
+-- A variable that has a limit is a number variable: rule 15 wants a number variable of the limit's name, and by rule 8 no other variable has
+-- that name (`limited-number`, `accepted-limited`). Assumes nothing.
+use mathlib.Core.Path.{_≡_, refl, sym, ap, _∙_, subst}
+use mathlib.Core.Bool.{Bool, true, false, not, _&&_}
+use mathlib.Core.List.{List, _∷_}
+use mathlib.Core.Option.{Option, some, none}
+use Prim.Native.Nat.{ℕ, zero, suc, _+_, _≤_, _<_}
+use native.Mathlib.Omega.{arith}
+use lib.Dec.{ltb}
+use lib.IntN.{pos}
+use lib.Signed.{leZ}
+use borrow.Author.Tests.{ltb-true, ltb-false, not-true, not-false}
+use Rattle.lingua.specs.Numbers.{declaration-section, limit-section}
+use Rattle.lingua.specs.Body.{number}
+use Rattle.lingua.specs.Value.{inRange}
+use Rattle.lingua.specs.Compute.{sameText}
+use Rattle.lingua.specs.Store.{Limit, Reading}
+use Rattle.lingua.specs.Rows.{pairCount}
+use Rattle.lingua.specs.Trees.{limitIf, limitFrom, limitOf, limitRow, nameAt, declarationAt, profileOf}
+use Rattle.lingua.specs.Typing.{bodiesOf}
+use Rattle.lingua.specs.Format.{profile, rowsOf, everyBelow}
+use Rattle.lingua.specs.Rules.{isName, isNew, nameWrong}
+use Rattle.lingua.specs.Refusal.{Rule, rule, lowest, fileRules, rowRules, wholeFileRules, pairRules, isNumberVariable, namesNumber, limitFits, limitWrong}
+use Rattle.laws.specs.Outcomes.{and-left, and-right}
+use Rattle.laws.specs.Equal.{same-text, text-same}
+use Rattle.safety.specs.Answers.{none-is-some, true-is-false}
+use Rattle.safety.specs.Every.{below-true}
+use Rattle.safety.specs.Programs.{ReadsNumber}
+use Rattle.safety.specs.Passed.{reads-number}
+use Rattle.safety.specs.Accepted.{none-applies}
+
+-- some number below n at which a test fails
+record Fails (n : ℕ) (p : ℕ → Bool) : Type 0 where
+  pub at : ℕ
+  pub below : at < n
+  pub fails : p at ≡ false
+
+some-fails : (n : ℕ) (p : ℕ → Bool) → everyBelow n p ≡ false → Fails n p
+unfolding everyBelow
+some-fails zero p e = true-is-false e
+some-fails (suc n) p e = by (everyBelow n p) (p n) refl refl (λ q. some-fails n p q)
+  where
+    by : (a b : Bool) → everyBelow n p ≡ a → p n ≡ b → (everyBelow n p ≡ false → Fails n p) → Fails (suc n) p
+    by false b q r h = let f = h q in record { at = f .at; below = omega (arith, f .below); fails = f .fails }
+    by true false q r h = record { at = n; below = omega arith; fails = r }
+    by true true q r h = true-is-false (sym (ap (λ (a : Bool). a && p n) q ∙ r) ∙ e)
+
+-- ---- the limit of a name stands at a row of that name
+record NamedAt (limits name : List ℕ) (n : ℕ) : Type 0 where
+  pub at : ℕ
+  pub below : at < n
+  pub named : sameText (nameAt limits limit-section at) name ≡ true
+
+limit-named : (i n : ℕ) (limits name : List ℕ) (l : Limit) → limitFrom i n limits name ≡ some l → NamedAt limits name (i + n)
+unfolding limitFrom
+limit-named i zero limits name l e = none-is-some e
+limit-named i (suc n) limits name l e = by (sameText (nameAt limits limit-section i) name) refl (λ q. limit-named (suc i) n limits name l q)
+  where
+    by : (b : Bool) → sameText (nameAt limits limit-section i) name ≡ b → (limitFrom (suc i) n limits name ≡ some l → NamedAt limits name (suc i + n)) → NamedAt limits name (i + suc n)
+    by true q h = record { at = i; below = omega arith; named = q }
+    by false q h =
+        let f = h (sym (ap (λ (c : Bool). limitIf c (limitRow limits i) (limitFrom (suc i) n limits name)) q) ∙ e) in
+        record { at = f .at; below = omega (arith, f .below); named = f .named }
+
+-- ---- one variable for each name
+module _ (rows : List ℕ) (right : nameWrong profile rows ≡ false) where
+  new-at : (d : ℕ) → d < pairCount rows declaration-section → isNew rows declaration-section d ≡ true
+  unfolding nameWrong
+  new-at d l =
+      and-right (isName (nameAt rows declaration-section d)) (isNew rows declaration-section d)
+      (below-true (pairCount rows declaration-section) (λ k. isName (nameAt rows declaration-section k) && isNew rows declaration-section k) (not-false _ right) d l)
+
+  no-lower : (c d : ℕ) → d < pairCount rows declaration-section → nameAt rows declaration-section c ≡ nameAt rows declaration-section d → c < d → ⊥
+  unfolding isNew
+  no-lower c d l e k =
+      let other : sameText (nameAt rows declaration-section c) (nameAt rows declaration-section d) ≡ false =
+      not-true _ (below-true d (λ j. not (sameText (nameAt rows declaration-section j) (nameAt rows declaration-section d))) (new-at d l) c k) in
+      let same : sameText (nameAt rows declaration-section c) (nameAt rows declaration-section d) ≡ true =
+      ap (λ (t : List ℕ). sameText t (nameAt rows declaration-section d)) e ∙ text-same (nameAt rows declaration-section d) in
+      true-is-false (sym same ∙ other)
+
+  one-variable : (c d : ℕ) → c < pairCount rows declaration-section → d < pairCount rows declaration-section → nameAt rows declaration-section c ≡ nameAt rows declaration-section d → c ≡ d
+  one-variable c d k l e = by (ltb c d) (ltb d c) refl refl
+    where
+      by : (a b : Bool) → ltb c d ≡ a → ltb d c ≡ b → c ≡ d
+      by true b p q = absurd (no-lower c d l e (ltb-true c d p))
+      by false true p q = absurd (no-lower d c k (sym e) (ltb-true d c q))
+      by false false p q = omega (arith, ltb-false c d p, ltb-false d c q)
+
+  -- ---- the theorem
+  module _ (limits : List ℕ) (fits : limitWrong rows limits ≡ false) (n : ℕ) (inside : n < pairCount rows declaration-section) where
+    names-number : (l : ℕ) → l < pairCount limits limit-section → namesNumber rows (nameAt limits limit-section l) ≡ true
+    unfolding limitWrong limitFits
+    names-number l k =
+        and-right (leZ (limitRow limits l .low) (limitRow limits l .high) && inRange (limitRow limits l .low) && inRange (limitRow limits l .high)) (namesNumber rows (nameAt limits limit-section l)) (below-true (pairCount limits limit-section) (λ j. limitFits rows limits j) (not-false _ fits) l k)
+
+    pub number-named : (name : List ℕ) → sameText name (nameAt rows declaration-section n) ≡ true → namesNumber rows name ≡ true → isNumberVariable rows n ≡ true
+    unfolding namesNumber
+    number-named name e h =
+        let f = some-fails (pairCount rows declaration-section) (λ d. not (sameText (nameAt rows declaration-section d) name && isNumberVariable rows d)) (not-true _ h) in
+        let both : (sameText (nameAt rows declaration-section (f .at)) name && isNumberVariable rows (f .at)) ≡ true = not-false _ (f .fails) in
+        let same : nameAt rows declaration-section (f .at) ≡ nameAt rows declaration-section n =
+        same-text _ _ (and-left (sameText (nameAt rows declaration-section (f .at)) name) (isNumberVariable rows (f .at)) both) ∙ same-text _ _ e in
+        subst (λ (d : ℕ). isNumberVariable rows d ≡ true) (one-variable (f .at) n (f .below) inside same)
+        (and-right (sameText (nameAt rows declaration-section (f .at)) name) (isNumberVariable rows (f .at)) both)
+
+    pub limited-number : (l : Limit) → limitOf limits (nameAt rows declaration-section n) ≡ some l → bodiesOf (profileOf rows limits .declarations) n ≡ number
+    unfolding limitOf ReadsNumber
+    limited-number l e =
+        let f = limit-named 0 (pairCount limits limit-section) limits (nameAt rows declaration-section n) l e in
+        let within : f .at < pairCount limits limit-section = omega (arith, f .below) in
+        reads-number rows limits (record { variable = n; number = pos 0 }) (number-named (nameAt limits limit-section (f .at)) (f .named) (names-number (f .at) within))
+
+-- a pair of files that no rule refuses
+pub accepted-limited : (prof lims : List ℕ) → lowest (pairRules prof lims) ≡ 0 → (n : ℕ) → n < pairCount (rowsOf prof) declaration-section → (l : Limit)
+    → declarationAt (rowsOf prof) (rowsOf lims) n .limit ≡ some l → bodiesOf (profileOf (rowsOf prof) (rowsOf lims) .declarations) n ≡ number
+unfolding pairRules wholeFileRules fileRules rowRules declarationAt
+accepted-limited prof lims e n inside l q =
+    let profile-file = past _ _ _ refl (past _ _ _ refl (past _ _ _ refl (past _ _ _ refl e))) in
+    let names = none-applies _ _ _ refl (past _ _ _ refl (past _ _ _ refl profile-file)) in
+    let profile-rows = past _ _ _ refl (past _ _ _ refl (past _ _ _ refl (past _ _ _ refl (past _ _ _ refl (names .1))))) in
+    let limits-file = past _ _ _ refl (past _ _ _ refl (past _ _ _ refl (past _ _ _ refl profile-rows))) in
+    let limits-rows = past _ _ _ refl (past _ _ _ refl (past _ _ _ refl (past _ _ _ refl limits-file))) in
+    let limit = none-applies _ _ _ refl (past _ _ _ refl limits-rows) in
+    limited-number (rowsOf prof) (names .0) (rowsOf lims) (limit .0) n inside l q
+  where
+    -- the rules behind one that does not apply
+    past : (k : ℕ) (b : Bool) (rs : List Rule) → ltb 0 k ≡ true → lowest (rule k b ∷ rs) ≡ 0 → lowest rs ≡ 0
+    past k b rs z h = none-applies k b rs z h .1
