@@ -8,19 +8,15 @@ use native.Mathlib.Omega.{arith}
 use lib.IntN.{ℤ, pos}
 use lib.ListN.{length, take, drop, getD}
 use lib.Seq.{getD-take, getD-drop}
-use lib.Signed.{leZ}
-use mir.Syntax.{w64}
-use mir.Val.{ofZ}
 use Rattle.lingua.specs.Numbers.{states-length}
 use Rattle.lingua.specs.Errors.{no-coherence, yoke-expected, yoke-not-satisfied}
 use Rattle.lingua.specs.Outcome.{ok, fail, Result, require, _>>=_, _>>_}
 use Rattle.lingua.specs.Body.{Body, boolean, number, word, list-of, record-of, size, isNumber, sameBody}
 use Rattle.lingua.specs.Value.{Value, Fits, fit-truth, fit-whole, fit-text, fit-items, fit-fields, asWhole, Composite}
-use Rattle.lingua.specs.Expression.{Expression, rowOf, Yoke, yokeNumber}
+use Rattle.lingua.specs.Expression.{Yoke, yokeNumber}
 use Rattle.lingua.specs.Evaluation.{Variables, truthOr, evalYoke}
-use Rattle.lingua.specs.Rows.{ExpressionRow, constant-row, variable-row, current-row, unary-row, binary-row, lazy-row, choice-row, all-list-row, expressionRow}
-use Rattle.lingua.specs.Store.{Limit, Variable, variableAt, contents, filledFlag, storeStates, statesIn, within, admitted}
-use Rattle.lingua.specs.Trees.{expressionOf, expressionIn, expressionTree, yokeTree}
+use Rattle.lingua.specs.Store.{Variable, variableAt, contents, filledFlag, storeStates, statesIn, within, admitted}
+use Rattle.lingua.specs.Trees.{yokeTree}
 use Rattle.laws.specs.Outcomes.{is-number, false-is-true}
 use Rattle.laws.specs.Stores.{states-at}
 use Rattle.rules.specs.declared.tables.Table.{Table}
@@ -31,20 +27,9 @@ use Rattle.cells.proofs.Singles.{number-cell}
 use Rattle.checked.specs.declared.answer.Evaluated.{Evaluated}
 use Rattle.checked.specs.declared.answer.Truth.{Truth}
 use Rattle.profile.specs.Yokes.{number-of}
-use Rattle.profile.specs.Variables.{LimitAt}
-use Rattle.checked.specs.Meaning.{Stored, World, Running, YokeOf, Current, HasCurrent, Gives, Tells, Admits}
+use Rattle.profile.specs.Yokes.{YokeOf}
+use Rattle.checked.specs.Meaning.{Stored, World, Running, Current, HasCurrent, Gives, Tells, Admits}
 use Rattle.checked.proofs.Storing.{lies-long, pad-long}
-
--- ---- limits
-pub no-limit : (limits : List ℤ) (at : ℕ) (l : Option Limit) (z : ℤ) → LimitAt limits at l → ofZ w64 (getD limits at (pos 0)) ≡ 0 → true ≡ within l z
-unfolding LimitAt within
-no-limit limits at none z h e = refl
-no-limit limits at (some l) z h e = absurd (let k : ofZ w64 (pos 1) ≡ 0 = ap (λ (y : ℤ). ofZ w64 y) (sym (h .0)) ∙ e in let j : ⊥ = omega arith in j)
-
-pub limit-is : (limits : List ℤ) (at : ℕ) (l : Option Limit) (z : ℤ) → LimitAt limits at l → (ofZ w64 (getD limits at (pos 0)) ≡ 0 → ⊥) → (leZ (getD limits (at + 1) (pos 0)) z && leZ z (getD limits (at + 2) (pos 0))) ≡ within l z
-unfolding LimitAt within
-limit-is limits at none z h f = absurd (f (ap (λ (y : ℤ). ofZ w64 y) h))
-limit-is limits at (some l) z h f = ap (λ (y : ℤ). leZ y z && leZ z (getD limits (at + 2) (pos 0))) (h .1) ∙ ap (λ (y : ℤ). leZ (l .low) z && leZ z y) (h .2)
 
 -- ---- a number's cell
 pub number-room : {value : List ℤ} {body : List ℕ} {x : Composite} → Current value body x → getD body 0 0 ≡ 2 → 0 < length value
@@ -130,14 +115,3 @@ module _ (vs : List Variable) (v : Variable) (x : Composite) {y : Evaluated} {s 
 
       pub passes : p .error ≡ 0 → p .holds ≡ true → (c : Bool) → c ≡ within (v .limit) (asWhole (x .value)) → c ≡ true → Admits 0 (admitted vs v x)
       passes e q c w k = record { answer = λ j. within-is e q c w ∙ ap (λ (t : Bool). require t yoke-not-satisfied) k; error = λ j. absurd (j refl) }
-
--- ---- the code's comparisons, on numbers as it reads them back
-module _ {low high z low' high' z' : ℤ} (l : low' ≡ low) (h : high' ≡ high) (k : z' ≡ z) where
-  pub between-yes : leZ low' z' ≡ true → leZ z' high' ≡ (leZ low z && leZ z high)
-  between-yes e = ap₂ (λ (a b : ℤ). leZ a b) k h ∙ ap (λ (t : Bool). t && leZ z high) (sym (sym (ap₂ (λ (a b : ℤ). leZ a b) l k) ∙ e))
-
-  pub between-no : leZ low' z' ≡ false → false ≡ (leZ low z && leZ z high)
-  between-no e = ap (λ (t : Bool). t && leZ z high) (sym (sym (ap₂ (λ (a b : ℤ). leZ a b) l k) ∙ e))
-
-  pub between-as : (leZ low' z' && leZ z' high') ≡ (leZ low z && leZ z high)
-  between-as = ap₂ (λ (a b : Bool). a && b) (ap₂ (λ (a b : ℤ). leZ a b) l k) (ap₂ (λ (a b : ℤ). leZ a b) k h)

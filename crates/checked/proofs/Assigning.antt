@@ -1,12 +1,10 @@
 -- Assignment: what is stored is what the definition stores, and an error leaves the store as it was. Assumes nothing.
 use mathlib.Core.Path.{_≡_, refl, sym, ap, _∙_, subst}
-use mathlib.Core.List.{List, [], _∷_, _++_}
-use Prim.Native.Nat.{ℕ, _+_, _-_, _*_, _≤_, _<_}
-use native.Mathlib.Numerals.{add-one}
-use native.Mathlib.Omega.{arith}
-use lib.IntN.{ℤ, pos}
-use lib.ListN.{length, take, drop, getD, set}
-use lib.Seq.{drop-drop, take-take, take-suc, take-suc-set, paste}
+use mathlib.Core.List.{List, _++_}
+use Prim.Native.Nat.{ℕ, _+_, _*_, _<_}
+use lib.IntN.{ℤ}
+use lib.ListN.{length, take, drop, set}
+use lib.Seq.{take-take, paste}
 use Rattle.lingua.specs.Numbers.{body-cells}
 use Rattle.lingua.specs.Outcome.{ok, fail, Result, _>>=_, _>>_}
 use Rattle.lingua.specs.Body.{size}
@@ -17,14 +15,6 @@ use Rattle.rules.specs.declared.tables.Table.{Table}
 use Rattle.checked.specs.declared.answer.Evaluated.{Evaluated}
 use Rattle.checked.specs.Meaning.{Running, Current, Answers, Gives, Admits, Assigns}
 use Rattle.checked.proofs.Keeping.{content-running, cells-stored, states-stored}
-
-pub front-turn : (out from : List ℤ) (i : ℕ) → i < length out → i < length from → take i out ≡ take i from → take (i + 1) (set out i (getD from i (pos 0))) ≡ take (i + 1) from
-front-turn out from i h k e =
-    ap (λ (n : ℕ). take n (set out i (getD from i (pos 0)))) (add-one i)
-    ∙ take-suc-set out i (getD from i (pos 0)) h
-    ∙ ap (λ (x : List ℤ). x ++ (getD from i (pos 0) ∷ [])) e
-    ∙ sym (take-suc from i (pos 0) k)
-    ∙ ap (λ (n : ℕ). take n from) (sym (add-one i))
 
 -- the value by itself is a current value
 pub front-current : {x : Evaluated} {s : List ℤ} {o : Result Composite} (value : List ℤ) → value ≡ take body-cells s → (a : Answers x s o) → Current value (x .body) (a .value)
@@ -65,12 +55,3 @@ module _ {x : Evaluated} {s : List ℤ} {o : Result Composite} (vs : List Variab
         };
         error = λ f. absurd (f refl);
       }
-
--- the store's part comes back between what lies before it and what lies behind it
-pub put-is : (cells value part : List ℤ) (n width : ℕ) → part ≡ paste (take (body-cells * n + body-cells - body-cells * n) (drop (body-cells * n) cells)) 0 value width
-    → take (body-cells * n) cells ++ (part ++ drop (body-cells * n + body-cells - body-cells * n) (drop (body-cells * n) cells)) ≡ take (body-cells * n) cells ++ (paste (take body-cells (drop (body-cells * n) cells)) 0 value width ++ drop (body-cells * n + body-cells) cells)
-put-is cells value part n width e =
-    let k : body-cells * n + body-cells - body-cells * n ≡ body-cells = omega arith in
-    ap (λ (l : List ℤ). take (body-cells * n) cells ++ (l ++ drop (body-cells * n + body-cells - body-cells * n) (drop (body-cells * n) cells))) e
-    ∙ ap (λ (j : ℕ). take (body-cells * n) cells ++ (paste (take j (drop (body-cells * n) cells)) 0 value width ++ drop j (drop (body-cells * n) cells))) k
-    ∙ ap (λ (l : List ℤ). take (body-cells * n) cells ++ (paste (take body-cells (drop (body-cells * n) cells)) 0 value width ++ l)) (drop-drop body-cells (body-cells * n) cells)

@@ -22,7 +22,8 @@ use Rattle.rules.specs.declared.tables.Table.{Table}
 use Rattle.body.specs.Encode.{Holds, body-bytes}
 use Rattle.checked.proofs.Storing.{small-by, content-small}
 use Rattle.profile.specs.Variables.{LimitAt}
-use Rattle.checked.specs.Meaning.{Filled, Stored, World, YokeOf, Running}
+use Rattle.profile.specs.Yokes.{YokeOf}
+use Rattle.checked.specs.Meaning.{Filled, Stored, World, Running}
 
 module _ {rows : List ℕ} {t : Table} {variables : List ℕ} {limits cells : List ℤ} {states : List ℕ} {vs : List Variable} (h : Running rows t variables limits cells states vs) (n : ℕ) (lt : n < length vs) where
   -- another variable n with the same body and limit

@@ -7,7 +7,7 @@ use native.Mathlib.Nat.{le-of-suc-le-suc}
 use native.Mathlib.Numerals.{add-one}
 use native.Mathlib.Omega.{arith}
 use lib.ListN.{length, take, drop, getD, set, replicate, length-append, length-replicate, length-take, length-drop}
-use lib.Seq.{take-at, take-take, getD-take, getD-drop, take-suc, take-suc-set, take-all, length-take-le, paste, paste-suc}
+use lib.Seq.{take-at, take-take, getD-take, getD-drop, take-suc, take-suc-set, take-all, length-take-le, paste}
 use lib.IntN.{ℤ, pos}
 use Rattle.lingua.specs.Numbers.{body-cells, cells-length, states-length}
 use Rattle.lingua.specs.Errors.{not-filled}
@@ -39,14 +39,6 @@ bytes-turn out from at i h k e =
     ∙ ap (λ (x : ℕ). take i (drop at from) ++ (x ∷ [])) (sym (getD-drop at from i 0))
     ∙ sym (take-suc (drop at from) i 0 l)
     ∙ ap (λ (n : ℕ). take n (drop at from)) (sym (add-one i))
-
-pub cells-turn : (s from : List ℤ) (at i : ℕ) → i < length s → at + i < length from → set (paste s 0 (drop at from) i) i (getD from (at + i) (pos 0)) ≡ paste s 0 (drop at from) (i + 1)
-cells-turn s from at i h k =
-    let l : i < length (drop at from) = omega (arith, length-drop at from) in
-    ap (λ (x : ℤ). set (paste s 0 (drop at from) i) i x) (sym (getD-drop at from i (pos 0)))
-    ∙ ap (λ (j : ℕ). set (paste s 0 (drop at from) i) j (getD (drop at from) i (pos 0))) (let e : i ≡ 0 + i = omega arith in e)
-    ∙ paste-suc s 0 (drop at from) i (pos 0) (omega arith) l
-    ∙ ap (λ (n : ℕ). paste s 0 (drop at from) n) (sym (add-one i))
 
 -- ---- cells at the front
 copied-lies : {after : List ℤ} (s from : List ℤ) (at n : ℕ) (b : Body) (v : Value) → after ≡ paste s 0 (drop at from) n → size b ≡ n → at + n ≤ length from → take (size b) (drop at from) ≡ cellsOf b v → Fits v b → Lies after 0 b v

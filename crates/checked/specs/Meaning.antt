@@ -11,15 +11,14 @@ use Rattle.lingua.specs.Errors.{no-error}
 use Rattle.lingua.specs.Outcome.{ok, fail, Result, allAnswers}
 use Rattle.lingua.specs.Body.{size, isBoolean}
 use Rattle.lingua.specs.Value.{Composite, allOf, asTruth}
-use Rattle.lingua.specs.Rows.{tableCount, pairCount}
+use Rattle.lingua.specs.Rows.{pairCount}
 use Rattle.lingua.specs.Store.{Reading, Variable, variableAt, cellsIn, statesIn}
-use Rattle.lingua.specs.Expression.{Yoke}
-use Rattle.lingua.specs.Trees.{yokeTree}
 use Rattle.lingua.specs.Run.{Progress}
 use Rattle.safety.specs.Accepted.{AcceptedRows}
 use Rattle.safety.specs.Constants.{Fitting}
 use Rattle.rules.specs.Tables.{IsTable}
 use Rattle.profile.specs.Variables.{LimitAt}
+use Rattle.profile.specs.Yokes.{YokeOf}
 use Rattle.rules.specs.declared.tables.Table.{Table}
 use Rattle.body.specs.Encode.{Holds, body-bytes}
 use Rattle.cells.specs.Stack.{Lies, first-place}
@@ -78,12 +77,6 @@ pub record Ready (rows : List ℕ) (t : Table) (variables : List ℕ) (cells : L
   pub has : HasCurrent current body
 
 -- ---- what assignments ask
--- a yoke of the profile, by its number
-pub record YokeOf (rows : List ℕ) (y : Yoke) : Type 0 where
-  pub number : ℕ
-  pub there : number ≤ tableCount rows expression-section
-  pub is : y ≡ yokeTree rows number
-
 -- a store of a run, with the limits of its variables
 pub record Running (rows : List ℕ) (t : Table) (variables : List ℕ) (limits : List ℤ) (cells : List ℤ) (states : List ℕ) (vs : List Variable) : Type 0 where
   pub world : World rows t variables cells states vs

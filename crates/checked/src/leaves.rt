@@ -8,11 +8,11 @@ use lingua::sizes::BODY_CELLS;
 use profile::constants::constant_body;
 use profile::constants::constant_cell;
 use rules::tables::Table;
+use stores::copies::copy;
 ghost use mathlib.Core.Path.{_≡_};
 ghost use mathlib.Core.List.{List};
 ghost use Prim.Native.Nat.{ℕ, _+_, _*_, _<_, _≤_};
 ghost use lib.ListN.{length, take, drop};
-ghost use lib.Seq.{paste};
 ghost use Rattle.lingua.specs.Numbers.{expression-section, body-cells};
 ghost use Rattle.lingua.specs.Errors.{not-filled};
 ghost use Rattle.lingua.specs.Outcome.{ok, orFail};
@@ -35,19 +35,6 @@ pub fn declared(variables: &[u8], n: usize) -> [u8; 96]
         i += 1;
     }
     out
-}
-
-// The n cells from a place on, to the stack's front.
-pub fn copy(from: &[i64], at: usize, n: usize, stack: &mut [i64])
-    requires { ⌜ at + n ≤ length (now from) ⌝ }
-    requires { ⌜ n ≤ length (now stack) ⌝ }
-    ensures { λ _. ⌜ now (stack .exit) ≡ paste (now (stack .entry)) 0 (drop at (now (from .entry))) n ⌝ }
-{
-    let mut i = 0;
-    while i < n {
-        stack[i] = from[at + i];
-        i += 1;
-    }
 }
 
 // A constant takes one cell.

@@ -1,5 +1,4 @@
 // Readings (document 01): a number from outside, in range or an overflow, is assigned to its variable.
-use crate::admit::between;
 use crate::answer::Evaluated;
 use crate::assign::assign;
 use body::make::simple;
@@ -9,6 +8,7 @@ use lingua::errors::OVERFLOW;
 use lingua::sizes::HIGHEST_NUMBER;
 use lingua::sizes::LOWEST_NUMBER;
 use rules::tables::Table;
+use stores::limits::between;
 ghost use mathlib.Core.List.{List};
 ghost use Prim.Native.Nat.{_+_, _*_, _<_, _≤_};
 ghost use lib.ListN.{length};

@@ -26,7 +26,8 @@ use Rattle.rules.specs.declared.tables.Table.{Table}
 use Rattle.rules.specs.Tables.{IsTable}
 use Rattle.start.specs.Begun.{startStore, Begun}
 use Rattle.start.proofs.Unfilled.{start-at}
-use Rattle.checked.specs.Meaning.{YokeOf, Running, HasRun}
+use Rattle.profile.specs.Yokes.{YokeOf}
+use Rattle.checked.specs.Meaning.{Running, HasRun}
 
 -- ---- the start's variables
 none-filled : (ds : List Declaration) (n : ℕ) → variableAt (map unfilled ds) n .content ≡ none

@@ -6,11 +6,18 @@ use Prim.Native.Nat.{ℕ, zero, suc, _≤_, _<_}
 use native.Mathlib.Omega.{arith}
 use lib.Dec.{ltb}
 use borrow.Author.Tests.{ltb-true}
-use Rattle.lingua.specs.Expression.{Expression, rowOf, yokeNumber}
-use Rattle.lingua.specs.Rows.{ExpressionRow, constant-row, variable-row, current-row, unary-row, binary-row, lazy-row, choice-row, all-list-row, expressionRow, yokeRoot}
+use Rattle.lingua.specs.Numbers.{expression-section}
+use Rattle.lingua.specs.Expression.{Expression, rowOf, Yoke, yokeNumber}
+use Rattle.lingua.specs.Rows.{tableCount, ExpressionRow, constant-row, variable-row, current-row, unary-row, binary-row, lazy-row, choice-row, all-list-row, expressionRow, yokeRoot}
 use Rattle.lingua.specs.Trees.{expressionOf, expressionIn, expressionTree, yokeTree}
 use Rattle.lingua.specs.References.{allBelow}
 use Rattle.safety.specs.Every.{Every, every-more, every-implies, all-true}
+
+-- a yoke of the profile, by its number
+pub record YokeOf (rows : List ℕ) (y : Yoke) : Type 0 where
+  pub number : ℕ
+  pub there : number ≤ tableCount rows expression-section
+  pub is : y ≡ yokeTree rows number
 
 -- a yoke that is there is at most the number of expression rows
 pub every-yoke : (n y : ℕ) → Every (λ k. k < n) (yokeRoot y) → y ≤ n

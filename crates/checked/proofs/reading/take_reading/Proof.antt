@@ -5,7 +5,7 @@ use lib.ListN.{length-set}
 use mir.ValLaws.{toZ-ofZ}
 use borrow.Author.Tests.{not-true, not-false}
 use Rattle.lingua.specs.Numbers.{lowest-number, highest-number}
-use Rattle.checked.proofs.Admitting.{between-as}
+use Rattle.stores.proofs.Limiting.{between-as}
 use Rattle.checked.proofs.Assigning.{keeps}
 use Rattle.checked.proofs.Readings.{puts-number, out-of-range, taken-is, assigns-as}
 use borrow.Author.Needs.{needs}

@@ -1,9 +1,9 @@
 -- `put` meets its contract, by `put-is`. Assumes nothing.
 use mathlib.Core.Path.{refl}
-use Rattle.checked.proofs.Assigning.{put-is}
+use Rattle.stores.proofs.Copying.{put-is}
 use borrow.Author.Needs.{needs}
-use Rattle.checked.proofs.assign.put.Statement.{statement}
-use Rattle.checked.proofs.assign.put.Tie as tie
+use Rattle.stores.proofs.part.put.Statement.{statement}
+use Rattle.stores.proofs.part.put.Tie as tie
 
 mul-at : tie.Need-mul-at
 mul-at c = search needs

@@ -7,9 +7,9 @@ use lib.IntN.{ℤ}
 use lib.ListN.{length, take, set, length-set}
 use lib.Seq.{take-all}
 use Rattle.cells.proofs.Moves.{cell-back}
-use Rattle.checked.proofs.Assigning.{front-turn}
-use Rattle.checked.proofs.assign.front.Statement.{statement}
-use Rattle.checked.proofs.assign.front.Tie as tie
+use Rattle.stores.proofs.Copying.{front-turn}
+use Rattle.stores.proofs.copies.front.Statement.{statement}
+use Rattle.stores.proofs.copies.front.Tie as tie
 
 abbrev Inv-loop : tie.InvT-loop
 Inv-loop stack out₀ i₀ out i = (i ≤ 64) × (length out ≡ 64) × (take i out ≡ take i stack)

@@ -5,10 +5,10 @@ use lib.IntN.{pos}
 use lib.ListN.{getD}
 use mir.ValLaws.{toZ-ofZ}
 use Rattle.cells.proofs.Moves.{cell-back}
-use Rattle.checked.proofs.Admitting.{no-limit, limit-is, between-as}
+use Rattle.stores.proofs.Limiting.{no-limit, limit-is, between-as}
 use borrow.Author.Needs.{needs}
-use Rattle.checked.proofs.admit.in_limits.Statement.{statement}
-use Rattle.checked.proofs.admit.in_limits.Tie as tie
+use Rattle.stores.proofs.limits.in_limits.Statement.{statement}
+use Rattle.stores.proofs.limits.in_limits.Tie as tie
 
 mul-if1 : tie.Need-mul-if1
 mul-if1 c = search needs

@@ -1,8 +1,8 @@
 -- `between` meets its contract: its numbers are read back as they are. Assumes nothing.
 use mir.ValLaws.{toZ-ofZ}
-use Rattle.checked.proofs.Admitting.{between-yes, between-no}
-use Rattle.checked.proofs.admit.between.Statement.{statement}
-use Rattle.checked.proofs.admit.between.Tie as tie
+use Rattle.stores.proofs.Limiting.{between-yes, between-no}
+use Rattle.stores.proofs.limits.between.Statement.{statement}
+use Rattle.stores.proofs.limits.between.Tie as tie
 
 returns : tie.Need-returns
 returns c = between-yes (toZ-ofZ _ _ (c .before .fits .low)) (toZ-ofZ _ _ (c .before .fits .high)) (toZ-ofZ _ _ (c .before .fits .z)) (c .if1 .taken)

@@ -7,9 +7,9 @@ use lib.ListN.{length, drop, getD, set, length-set}
 use lib.Seq.{paste, paste-zero}
 use lib.IntN.{ℤ, pos}
 use Rattle.cells.proofs.Moves.{cell-back}
-use Rattle.checked.proofs.Storing.{cells-turn}
-use Rattle.checked.proofs.leaves.copy.Statement.{statement}
-use Rattle.checked.proofs.leaves.copy.Tie as tie
+use Rattle.stores.proofs.Copying.{cells-turn}
+use Rattle.stores.proofs.copies.copy.Statement.{statement}
+use Rattle.stores.proofs.copies.copy.Tie as tie
 
 abbrev Inv-loop : tie.InvT-loop
 Inv-loop from at n stack₀ i₀ stack i = (i ≤ n) × (length stack ≡ length stack₀) × (stack ≡ paste stack₀ 0 (drop at from) i)

@@ -1,0 +1,35 @@
+-- A turn of each loop over cells, and a variable's part that comes back. Assumes nothing.
+use mathlib.Core.Path.{_≡_, sym, ap, _∙_}
+use mathlib.Core.List.{List, [], _∷_, _++_}
+use Prim.Native.Nat.{ℕ, _+_, _-_, _*_, _<_}
+use native.Mathlib.Numerals.{add-one}
+use native.Mathlib.Omega.{arith}
+use lib.IntN.{ℤ, pos}
+use lib.ListN.{length, take, drop, getD, set, length-drop}
+use lib.Seq.{drop-drop, getD-drop, take-suc, take-suc-set, paste, paste-suc}
+use Rattle.lingua.specs.Numbers.{body-cells}
+
+pub cells-turn : (s from : List ℤ) (at i : ℕ) → i < length s → at + i < length from → set (paste s 0 (drop at from) i) i (getD from (at + i) (pos 0)) ≡ paste s 0 (drop at from) (i + 1)
+cells-turn s from at i h k =
+    let l : i < length (drop at from) = omega (arith, length-drop at from) in
+    ap (λ (x : ℤ). set (paste s 0 (drop at from) i) i x) (sym (getD-drop at from i (pos 0)))
+    ∙ ap (λ (j : ℕ). set (paste s 0 (drop at from) i) j (getD (drop at from) i (pos 0))) (let e : i ≡ 0 + i = omega arith in e)
+    ∙ paste-suc s 0 (drop at from) i (pos 0) (omega arith) l
+    ∙ ap (λ (n : ℕ). paste s 0 (drop at from) n) (sym (add-one i))
+
+pub front-turn : (out from : List ℤ) (i : ℕ) → i < length out → i < length from → take i out ≡ take i from → take (i + 1) (set out i (getD from i (pos 0))) ≡ take (i + 1) from
+front-turn out from i h k e =
+    ap (λ (n : ℕ). take n (set out i (getD from i (pos 0)))) (add-one i)
+    ∙ take-suc-set out i (getD from i (pos 0)) h
+    ∙ ap (λ (x : List ℤ). x ++ (getD from i (pos 0) ∷ [])) e
+    ∙ sym (take-suc from i (pos 0) k)
+    ∙ ap (λ (n : ℕ). take n from) (sym (add-one i))
+
+-- the store's part comes back between what lies before it and what lies behind it
+pub put-is : (cells value part : List ℤ) (n width : ℕ) → part ≡ paste (take (body-cells * n + body-cells - body-cells * n) (drop (body-cells * n) cells)) 0 value width
+    → take (body-cells * n) cells ++ (part ++ drop (body-cells * n + body-cells - body-cells * n) (drop (body-cells * n) cells)) ≡ take (body-cells * n) cells ++ (paste (take body-cells (drop (body-cells * n) cells)) 0 value width ++ drop (body-cells * n + body-cells) cells)
+put-is cells value part n width e =
+    let k : body-cells * n + body-cells - body-cells * n ≡ body-cells = omega arith in
+    ap (λ (l : List ℤ). take (body-cells * n) cells ++ (l ++ drop (body-cells * n + body-cells - body-cells * n) (drop (body-cells * n) cells))) e
+    ∙ ap (λ (j : ℕ). take (body-cells * n) cells ++ (paste (take j (drop (body-cells * n) cells)) 0 value width ++ drop j (drop (body-cells * n) cells))) k
+    ∙ ap (λ (l : List ℤ). take (body-cells * n) cells ++ (paste (take body-cells (drop (body-cells * n) cells)) 0 value width ++ l)) (drop-drop body-cells (body-cells * n) cells)
