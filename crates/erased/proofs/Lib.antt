@@ -1,0 +1,9 @@
+pub mod Leaving
+pub mod Telling
+pub mod Storing
+pub mod Operating
+pub mod Passing
+pub mod Stacking
+pub mod Cycle
+pub mod Walking
+pub mod Yokes

@@ -1,0 +1,190 @@
+// Evaluation descends the expression tree, the row number falling at each call. A value's cells lie at the stack's front;
+// the second operand of two is evaluated 64 cells further up. How many cells a value takes is read from the layout table.
+use crate::answer::Truth;
+use crate::answer::truth_of;
+use crate::layout::second_at;
+use crate::leaves::constant;
+use crate::leaves::copied;
+use crate::leaves::fetch;
+use crate::operate::binary;
+use crate::operate::unary;
+use crate::seen::concluded;
+use crate::seen::noted;
+use lingua::errors::NO_ERROR;
+use lingua::sizes::BODY_CELLS;
+use profile::row::ExpressionRow;
+use profile::row::expression_row;
+use rules::tables::Table;
+ghost use Prim.Native.Nat.{_+_, _*_, _<_, _≤_};
+ghost use lib.ListN.{length};
+ghost use Rattle.lingua.specs.Numbers.{body-cells};
+ghost use Rattle.lingua.specs.Trees.{expressionTree};
+ghost use Rattle.lingua.specs.Expression.{lazy as lazyTree, choice as choiceTree, all-list};
+ghost use Rattle.profile.specs.Row.{connective};
+ghost use Rattle.erased.specs.Meaning.{Ready, Evaluates};
+
+// What the expression of a row gives on a current value: 0 and a value at the stack's front, or its error.
+pub fn eval(
+    rows: &[u8],
+    t: Table,
+    layout: &[u16],
+    cells: &[i64],
+    states: &[u16],
+    row: usize,
+    current: &[i64],
+    stack: &mut [i64],
+) -> u8
+    requires { ⌜ Ready (now rows) t (now layout) (now cells) (now states) (now current) (expressionTree (now rows) row) ⌝ }
+    requires { ⌜ row < t .count ⌝ }
+    requires { ⌜ body-cells * (row + 2) ≤ length (now stack) ⌝ }
+    ensures { λ r. ⌜ Evaluates (now (rows .entry)) t (now (layout .entry)) (now (cells .entry)) (now (states .entry)) (now (current .entry)) (expressionTree (now (rows .entry)) row) r (now (stack .exit)) ⌝ }
+{
+    let says = expression_row(rows, t, row);
+    match says {
+        ExpressionRow::Constant => constant(rows, t, row, stack),
+        ExpressionRow::Variable(n) => fetch(layout, cells, states, row, n, stack),
+        ExpressionRow::Current => copied(layout, row, current, stack),
+        ExpressionRow::Unary(o, a) => {
+            let x = eval(rows, t, layout, cells, states, a, current, &mut *stack);
+            unary(o, x, layout, row, a, stack)
+        }
+        ExpressionRow::Binary(o, a, b) => {
+            let x = eval(rows, t, layout, cells, states, a, current, &mut *stack);
+            let y = eval(
+                rows,
+                t,
+                layout,
+                cells,
+                states,
+                b,
+                current,
+                &mut stack[BODY_CELLS..],
+            );
+            binary(o, x, y, layout, row, a, b, stack)
+        }
+        ExpressionRow::Lazy(settling, a, b) => {
+            lazy(
+                rows,
+                t,
+                layout,
+                cells,
+                states,
+                row,
+                settling,
+                a,
+                b,
+                current,
+                stack,
+            )
+        }
+        ExpressionRow::Choice(a, b, d) => {
+            choice(rows, t, layout, cells, states, row, a, b, d, current, stack)
+        }
+        ExpressionRow::AllList(a) => { all(rows, t, layout, cells, states, row, a, current, stack) }
+    }
+}
+
+// Kinds 11 and 12: the second operand is evaluated unless the first settles the result.
+fn lazy(
+    rows: &[u8],
+    t: Table,
+    layout: &[u16],
+    cells: &[i64],
+    states: &[u16],
+    row: usize,
+    settling: bool,
+    a: usize,
+    b: usize,
+    current: &[i64],
+    stack: &mut [i64],
+) -> u8
+    requires { ⌜ Ready (now rows) t (now layout) (now cells) (now states) (now current) (lazyTree row (connective settling) (expressionTree (now rows) a) (expressionTree (now rows) b)) ⌝ }
+    requires { ⌜ (a < row) × (b < row) × (row < t .count) ⌝ }
+    requires { ⌜ body-cells * (row + 2) ≤ length (now stack) ⌝ }
+    ensures { λ r. ⌜ Evaluates (now (rows .entry)) t (now (layout .entry)) (now (cells .entry)) (now (states .entry)) (now (current .entry))
+        (lazyTree row (connective settling) (expressionTree (now (rows .entry)) a) (expressionTree (now (rows .entry)) b)) r (now (stack .exit)) ⌝ }
+{
+    let x = eval(rows, t, layout, cells, states, a, current, &mut *stack);
+    let first = truth_of(x, stack);
+    if first.error != NO_ERROR {
+        return first.error;
+    }
+    if first.holds == settling {
+        return NO_ERROR;
+    }
+    eval(rows, t, layout, cells, states, b, current, stack)
+}
+
+// Kind 15: the test, then one of the branches.
+fn choice(
+    rows: &[u8],
+    t: Table,
+    layout: &[u16],
+    cells: &[i64],
+    states: &[u16],
+    row: usize,
+    test: usize,
+    a: usize,
+    b: usize,
+    current: &[i64],
+    stack: &mut [i64],
+) -> u8
+    requires { ⌜ Ready (now rows) t (now layout) (now cells) (now states) (now current) (choiceTree row (expressionTree (now rows) test) (expressionTree (now rows) a) (expressionTree (now rows) b)) ⌝ }
+    requires { ⌜ (test < row) × (a < row) × (b < row) × (row < t .count) ⌝ }
+    requires { ⌜ body-cells * (row + 2) ≤ length (now stack) ⌝ }
+    ensures { λ r. ⌜ Evaluates (now (rows .entry)) t (now (layout .entry)) (now (cells .entry)) (now (states .entry)) (now (current .entry))
+        (choiceTree row (expressionTree (now (rows .entry)) test) (expressionTree (now (rows .entry)) a) (expressionTree (now (rows .entry)) b)) r (now (stack .exit)) ⌝ }
+{
+    let x = eval(rows, t, layout, cells, states, test, current, &mut *stack);
+    let told = truth_of(x, stack);
+    if told.error != NO_ERROR {
+        return told.error;
+    }
+    if told.holds {
+        return eval(rows, t, layout, cells, states, a, current, stack);
+    }
+    eval(rows, t, layout, cells, states, b, current, stack)
+}
+
+// Kind 25: the inner yoke on each element of the current value, all of them, at their places in the list.
+fn all(
+    rows: &[u8],
+    t: Table,
+    layout: &[u16],
+    cells: &[i64],
+    states: &[u16],
+    row: usize,
+    a: usize,
+    current: &[i64],
+    stack: &mut [i64],
+) -> u8
+    requires { ⌜ Ready (now rows) t (now layout) (now cells) (now states) (now current) (all-list row (expressionTree (now rows) a)) ⌝ }
+    requires { ⌜ (a < row) × (row < t .count) ⌝ }
+    requires { ⌜ body-cells * (row + 2) ≤ length (now stack) ⌝ }
+    ensures { λ r. ⌜ Evaluates (now (rows .entry)) t (now (layout .entry)) (now (cells .entry)) (now (states .entry)) (now (current .entry)) (all-list row (expressionTree (now (rows .entry)) a)) r (now (stack .exit)) ⌝ }
+{
+    let width = second_at(layout, row);
+    let n = current[0] as usize;
+    let mut seen = Truth {
+        error: NO_ERROR,
+        holds: true,
+    };
+    let mut at = 1;
+    let mut i = 0;
+    while i < n {
+        let x = eval(
+            rows,
+            t,
+            layout,
+            cells,
+            states,
+            a,
+            &current[at..at + width],
+            &mut *stack,
+        );
+        seen = noted(seen, x, stack);
+        at += width;
+        i += 1;
+    }
+    concluded(seen, stack)
+}

@@ -1,0 +1,73 @@
+// Yokes, and expressions outside yokes.
+use crate::answer::Truth;
+use crate::answer::put_truth;
+use crate::answer::truth_of;
+use crate::eval::eval;
+use lingua::errors::NO_ERROR;
+use rules::tables::Table;
+ghost use Prim.Native.Nat.{_+_, _*_, _<_, _≤_};
+ghost use lib.ListN.{length};
+ghost use Rattle.lingua.specs.Numbers.{body-cells};
+ghost use Rattle.lingua.specs.Trees.{expressionTree, yokeTree};
+ghost use Rattle.erased.specs.Meaning.{ReadyYoke, EvaluatesYoke, ReadyPlain, EvaluatesPlain, EvaluatesTest};
+
+// What yoke y gives on a value: 0 is the yoke that is always true, another is the expression of row y - 1.
+pub fn eval_yoke(
+    rows: &[u8],
+    t: Table,
+    layout: &[u16],
+    cells: &[i64],
+    states: &[u16],
+    y: usize,
+    current: &[i64],
+    stack: &mut [i64],
+) -> u8
+    requires { ⌜ ReadyYoke (now rows) t (now layout) (now cells) (now states) (now current) (yokeTree (now rows) y) ⌝ }
+    requires { ⌜ y ≤ t .count ⌝ }
+    requires { ⌜ body-cells * (y + 1) ≤ length (now stack) ⌝ }
+    ensures { λ r. ⌜ EvaluatesYoke (now (rows .entry)) t (now (layout .entry)) (now (cells .entry)) (now (states .entry)) (now (current .entry)) (yokeTree (now (rows .entry)) y) r (now (stack .exit)) ⌝ }
+{
+    if y == 0 {
+        put_truth(true, stack);
+        return NO_ERROR;
+    }
+    eval(rows, t, layout, cells, states, y - 1, current, stack)
+}
+
+// Outside yokes there is no current value, and a Boolean stands for it.
+pub fn eval_plain(
+    rows: &[u8],
+    t: Table,
+    layout: &[u16],
+    cells: &[i64],
+    states: &[u16],
+    row: usize,
+    stack: &mut [i64],
+) -> u8
+    requires { ⌜ ReadyPlain (now rows) t (now layout) (now cells) (now states) (expressionTree (now rows) row) ⌝ }
+    requires { ⌜ row < t .count ⌝ }
+    requires { ⌜ body-cells * (row + 2) ≤ length (now stack) ⌝ }
+    ensures { λ r. ⌜ EvaluatesPlain (now (rows .entry)) t (now (layout .entry)) (now (cells .entry)) (now (states .entry)) (expressionTree (now (rows .entry)) row) r (now (stack .exit)) ⌝ }
+{
+    let current = [0i64; 1];
+    eval(rows, t, layout, cells, states, row, &current, stack)
+}
+
+// A test's value.
+pub fn eval_test(
+    rows: &[u8],
+    t: Table,
+    layout: &[u16],
+    cells: &[i64],
+    states: &[u16],
+    row: usize,
+    stack: &mut [i64],
+) -> Truth
+    requires { ⌜ ReadyPlain (now rows) t (now layout) (now cells) (now states) (expressionTree (now rows) row) ⌝ }
+    requires { ⌜ row < t .count ⌝ }
+    requires { ⌜ body-cells * (row + 2) ≤ length (now stack) ⌝ }
+    ensures { λ r. ⌜ EvaluatesTest (now (rows .entry)) t (now (layout .entry)) (now (cells .entry)) (now (states .entry)) (expressionTree (now (rows .entry)) row) r ⌝ }
+{
+    let x = eval_plain(rows, t, layout, cells, states, row, &mut *stack);
+    truth_of(x, stack)
+}
