@@ -13,7 +13,7 @@ use steps::cleared;
 use steps::settled;
 use steps::stepped;
 ghost use mathlib.Core.List.{List};
-ghost use Prim.Native.Nat.{_+_, _*_, _<_, _≤_};
+ghost use Prim.Native.Nat.{ℕ, _+_, _*_, _<_, _≤_};
 ghost use lib.ListN.{length};
 ghost use Rattle.lingua.specs.Numbers.{body-cells, declaration-section, instruction-section};
 ghost use Rattle.lingua.specs.Rows.{pairCount};
@@ -26,9 +26,9 @@ ghost use Rattle.steps.specs.Moments.{stateOf};
 ghost use Rattle.steps.specs.Reached.{Going, Passes};
 ghost use Rattle.checked.specs.Meaning.{Running, HasRun, Reaches};
 
-fn skip(m: Moment, row: usize) -> Moment
+fn skip(m: Moment) -> Moment
     requires { ⌜ Going m ⌝ }
-    ensures { λ r. ⌜ Passes m r (skipTree row) ⌝ }
+    ensures { λ r. ⌜ ((row : ℕ) → Passes m r (skipTree row)) ⌝ }
 {
     if m.error != NO_ERROR {
         return m;
@@ -134,7 +134,7 @@ pub fn exec(
 {
     let says = instruction_row(rows, u, row);
     match says {
-        InstructionRow::Skip => skip(m, row),
+        InstructionRow::Skip => skip(m),
         InstructionRow::Assign(n, e) => {
             assignment(
                 rows,

@@ -221,7 +221,7 @@ exec-handle-requires t c κs = let f = row-facts (c .before .before .before .bef
 
 exec-returns-2 : (t : ℕ) → exec-lts.Need-returns-2 (exec-calls t) (exec-at t) exec.Post
 unfolding instructionRowTree
-exec-returns-2 t c = λ vs w. by-instruction w (c .before .before .before .before .before .before .before .pre .1 .1 .0) (c .before .before .before .before .before .before .before .pre .1 .1 .1 .0) _ (meant-as (c .before .enum-told .given .1) (c .before .before .before .instruction-row .ensures)) (stays vs w (c .skip .ensures .clean) (c .skip .ensures .is vs))
+exec-returns-2 t c = λ vs w. by-instruction w (c .before .before .before .before .before .before .before .pre .1 .1 .0) (c .before .before .before .before .before .before .before .pre .1 .1 .1 .0) _ (meant-as (c .before .enum-told .given .1) (c .before .before .before .instruction-row .ensures)) (let p = c .skip .ensures (c .before .before .before .before .before .before .before .args .row) in stays vs w (p .clean) (p .is vs))
 
 exec-same-length-4 : (t : ℕ) → exec-lts.Need-same-length-4 (exec-calls t) (exec-at t) exec.Post
 exec-same-length-4 t c = search needs

@@ -9,7 +9,7 @@ use Rattle.steps.proofs.stepped.Reads as stepped-reads
 
 -- src/exec.rt:33:9
 returns : tie.Need-returns
-returns c = skip-passed _ (c .before .before .pre) (c .if1 .taken)
+returns c = λ row. skip-passed row (c .before .before .pre) (c .if1 .taken)
 
 -- src/exec.rt:35:5
 stepped-requires : tie.Need-stepped-requires
@@ -17,7 +17,7 @@ stepped-requires c κs = search needs
 
 -- src/exec.rt:28:1
 returns-2 : tie.Need-returns-2
-returns-2 c = skip-stepped _ (c .before .before .before .pre) (c .stepped .ensures) (c .before .if1 .left)
+returns-2 c = λ row. skip-stepped row (c .before .before .before .pre) (c .stepped .ensures) (c .before .if1 .left)
 
 pub skip-spec : {M : Type 1} → statement M
 skip-spec = tie.close (tie.spec returns stepped-requires returns-2)
