@@ -1,8 +1,8 @@
 // The erased run (document 01: chair run): bare numbers, the layout table, and no body.
-pub mod answer;
-pub mod eval;
-pub mod layout;
-pub mod leaves;
-pub mod operate;
-pub mod seen;
-pub mod yoke;
+pub mod answer; // answer.rt: Booleans on the stack
+pub mod eval; // eval.rt: expressions on the operand stack
+pub mod layout; // layout.rt: a row's two numbers
+pub mod leaves; // leaves.rt: constants, variables and the current value
+pub mod operate; // operate.rt: an operation on evaluated operands
+pub mod seen; // seen.rt: the results of an all-list yoke
+pub mod yoke; // yoke.rt: yokes, and expressions outside them
