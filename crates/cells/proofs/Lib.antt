@@ -7,3 +7,4 @@ pub mod Glue
 pub mod Operands
 pub mod Unary
 pub mod Binary
+pub mod Walking

@@ -2,9 +2,9 @@
 -- operation asks of the stack holds where its operands lie there. Assumes nothing.
 use mathlib.Core.Path.{_≡_, refl, sym, ap, _∙_, subst}
 use mathlib.Core.List.{List, _++_}
-use Prim.Native.Nat.{ℕ, _≤_}
+use Prim.Native.Nat.{ℕ, _+_, _≤_}
 use native.Mathlib.Omega.{arith}
-use lib.ListN.{length, take}
+use lib.ListN.{length, take, drop, length-append, length-take}
 use lib.Seq.{take-take, take-append-le, drop-at, length-take-le}
 use lib.IntN.{ℤ}
 use Rattle.lingua.specs.Numbers.{body-cells}
@@ -13,6 +13,7 @@ use Rattle.lingua.specs.Body.{Body, word, list-of, record-of, end, attribute, s
 use Rattle.lingua.specs.Value.{Value, fields, no-fields, field, countValues, asText, asItems, packedIn, packed}
 use Rattle.lingua.specs.Operation.{make-record}
 use Rattle.lingua.specs.Compute.{unaryValue}
+use Rattle.laws.specs.Lengths.{length-cells}
 use Rattle.laws.specs.Records.{make-record-cells, make-record-size, make-record-fits}
 use Rattle.laws.specs.Sound.{fit-word, fit-count}
 use Rattle.cells.specs.Stack.{Lies, Holds, Leaves, Counted}
@@ -42,6 +43,24 @@ lies-second {r} {c} {y} s long h = record {
   cells = ap (λ (l : List ℤ). take (size c) l) (drop-at (take body-cells s) r body-cells (length-take-le body-cells s long)) ∙ h .cells;
   fit = h .fit;
 }
+
+-- a value's cells are there
+pub lies-long : {s : List ℤ} {b : Body} {x : Value} → Lies s 0 b x → size b ≤ length s
+lies-long {s} {b} h = let e : length (take (size b) s) ≡ size b = ap (λ (l : List ℤ). length l) (h .cells) ∙ length-cells (h .fit) in omega (arith, length-take (size b) s)
+
+-- what lies at a list's front lies there with more behind it
+pub lies-front : {s : List ℤ} {b : Body} {x : Value} (rest : List ℤ) → Lies s 0 b x → Lies (s ++ rest) 0 b x
+lies-front {s} {b} rest h = record { cells = take-append-le (size b) s rest (lies-long h) ∙ h .cells; fit = h .fit }
+
+-- the second operand by itself and in the whole
+pub lies-above : {s : List ℤ} {b : Body} {x : Value} → Lies (drop body-cells s) 0 b x → Lies s body-cells b x
+lies-above h = record { cells = h .cells; fit = h .fit }
+
+pub lies-behind : {above : List ℤ} {b : Body} {x : Value} (s rest : List ℤ) → body-cells ≤ length s → Lies above 0 b x → Lies (drop body-cells (take body-cells s ++ (above ++ rest))) 0 b x
+lies-behind s rest long h = let k = lies-second s long (lies-front rest h) in record { cells = k .cells; fit = k .fit }
+
+pub both-long : (s above rest : List ℤ) → body-cells ≤ length s → body-cells ≤ length above → body-cells + body-cells ≤ length (take body-cells s ++ (above ++ rest))
+both-long s above rest h k = omega (arith, length-append (take body-cells s) (above ++ rest), length-append above rest, length-take-le body-cells s h)
 
 -- ---- what the operations ask
 pub lies-counted : {s : List ℤ} {b : Body} {x : Value} (w : ℕ) → size b ≡ w → size (list-of b) ≤ body-cells → Lies s 0 (list-of b) x → Counted s w

@@ -75,6 +75,21 @@ put-number s z h e = record { cells = put-cell s z h; fit = fit-whole e }
 pub bits-same : (x y : ℤ) → mag x < 2 ^ hbits w64 → mag y < 2 ^ hbits w64 → ofZ w64 x ≡ ofZ w64 y → x ≡ y
 bits-same x y h k e = sym (cell-back x h) ∙ ap (λ (n : ℕ). toZ w64 n) e ∙ cell-back y k
 
+zero-false : (t : Bool) → ofZ w64 (bit t) ≡ 0 → t ≡ false
+zero-false false e = refl
+zero-false true e = absurd (let k : ⊥ = omega arith in k)
+
+other-true : (t : Bool) → (ofZ w64 (bit t) ≡ 0 → ⊥) → t ≡ true
+other-true true f = refl
+other-true false f = absurd (f refl)
+
+-- a Boolean is false where its cell is 0, and true where it is another
+pub truth-zero : {s : List ℤ} {at : ℕ} {x : Value} → Lies s at boolean x → ofZ w64 (getD s at (pos 0)) ≡ 0 → asTruth x ≡ false
+truth-zero {x = x} h z = zero-false (asTruth x) (ap (λ (y : ℤ). ofZ w64 y) (sym (boolean-cell h)) ∙ z)
+
+pub truth-other : {s : List ℤ} {at : ℕ} {x : Value} → Lies s at boolean x → (ofZ w64 (getD s at (pos 0)) ≡ 0 → ⊥) → asTruth x ≡ true
+truth-other {x = x} h f = other-true (asTruth x) (λ z. f (ap (λ (y : ℤ). ofZ w64 y) (boolean-cell h) ∙ z))
+
 -- ---- negation
 negated : (s : List ℤ) (t : Bool) (z : ℤ) → 0 < length s → z ≡ bit (not t) → Holds (set s 0 z) boolean (ok (truth (not t)))
 negated s t z h e = record { value = truth (not t); is = refl; lies = put-truth s (not t) z h e }

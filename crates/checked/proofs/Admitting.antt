@@ -1,35 +1,33 @@
 -- A new value's checks, one law for each way that they end. Assumes nothing.
-use mathlib.Core.Path.{_≡_, refl, sym, ap, ap₂, _∙_, subst}
+use mathlib.Core.Path.{_≡_, refl, sym, ap, _∙_, subst}
 use mathlib.Core.Bool.{Bool, true, false, _&&_}
 use mathlib.Core.List.{List}
-use mathlib.Core.Option.{Option, some, none}
-use Prim.Native.Nat.{ℕ, zero, suc, _+_, _*_, _≤_, _<_}
+use Prim.Native.Nat.{ℕ, _+_, _*_, _≤_, _<_}
 use native.Mathlib.Omega.{arith}
 use lib.IntN.{ℤ, pos}
-use lib.ListN.{length, take, drop, getD}
-use lib.Seq.{getD-take, getD-drop}
-use Rattle.lingua.specs.Numbers.{states-length}
+use lib.ListN.{length, getD}
 use Rattle.lingua.specs.Errors.{no-coherence, yoke-expected, yoke-not-satisfied}
-use Rattle.lingua.specs.Outcome.{ok, fail, Result, require, _>>=_, _>>_}
-use Rattle.lingua.specs.Body.{Body, boolean, number, word, list-of, record-of, size, isNumber, sameBody}
+use Rattle.lingua.specs.Outcome.{Result, require, _>>=_, _>>_}
+use Rattle.lingua.specs.Body.{Body, size, isNumber, sameBody}
 use Rattle.lingua.specs.Value.{Value, Fits, fit-truth, fit-whole, fit-text, fit-items, fit-fields, asWhole, Composite}
-use Rattle.lingua.specs.Expression.{Yoke, yokeNumber}
-use Rattle.lingua.specs.Evaluation.{Variables, truthOr, evalYoke}
-use Rattle.lingua.specs.Store.{Variable, variableAt, contents, filledFlag, storeStates, statesIn, within, admitted}
+use Rattle.lingua.specs.Expression.{Yoke}
+use Rattle.lingua.specs.Evaluation.{truthOr, evalYoke}
+use Rattle.lingua.specs.Store.{Variable, variableAt, contents, within, admitted}
 use Rattle.lingua.specs.Trees.{yokeTree}
 use Rattle.laws.specs.Outcomes.{is-number, false-is-true}
-use Rattle.laws.specs.Stores.{states-at}
 use Rattle.rules.specs.declared.tables.Table.{Table}
-use Rattle.body.specs.Encode.{Holds}
 use Rattle.body.proofs.Tags as tags
 use Rattle.cells.specs.Stack.{Lies}
+use Rattle.cells.proofs.Operands.{lies-long}
 use Rattle.cells.proofs.Singles.{number-cell}
 use Rattle.checked.specs.declared.answer.Evaluated.{Evaluated}
-use Rattle.checked.specs.declared.answer.Truth.{Truth}
-use Rattle.profile.specs.Yokes.{number-of}
-use Rattle.profile.specs.Yokes.{YokeOf}
-use Rattle.checked.specs.Meaning.{Stored, World, Running, Current, HasCurrent, Gives, Tells, Admits}
-use Rattle.checked.proofs.Storing.{lies-long, pad-long}
+use Rattle.steps.specs.declared.Truth.{Truth}
+use Rattle.steps.specs.Reached.{lent, Tells}
+use Rattle.stores.specs.Memory.{Admits}
+use Rattle.stores.proofs.Parts
+use Rattle.stores.proofs.Admitting.{admits-error}
+use Rattle.checked.specs.Meaning.{Running, Current, Gives}
+use Rattle.checked.proofs.Storing.{memory-of}
 
 -- ---- a number's cell
 pub number-room : {value : List ℤ} {body : List ℕ} {x : Composite} → Current value body x → getD body 0 0 ≡ 2 → 0 < length value
@@ -51,31 +49,14 @@ pub other-whole : {value : List ℤ} {body : List ℕ} {x : Composite} → Curre
 other-whole {value} {body} {x} h f = none-whole (h .lies .fit) (tags.not-number body (x .body) (h .holds) f)
 
 -- ---- the current yoke
-module _ {rows : List ℕ} {t : Table} {variables : List ℕ} {limits cells : List ℤ} {states : List ℕ} {vs : List Variable} (h : Running rows t variables limits cells states vs) (n : ℕ) (lt : n < length vs) where
-  pub word-room : 2 * n + 1 < length states
-  unfolding statesIn
-  word-room = let s = h .world .stored in omega (arith, ap (λ (l : List ℕ). length l) (s .states-are), pad-long states-length 0 (storeStates vs), s .few, lt)
-
-  word-is : getD states (2 * n + 1) 0 ≡ yokeNumber (variableAt vs n .current)
-  word-is =
-      ap (λ (l : List ℕ). getD l (2 * n + 1) 0) (h .world .stored .states-are)
-      ∙ sym (getD-drop (2 * n) (statesIn vs) 1 0)
-      ∙ sym (getD-take 2 (drop (2 * n) (statesIn vs)) 1 0 (omega arith))
-      ∙ ap (λ (l : List ℕ). getD l 1 0) (states-at vs n lt)
-
-  yoke-is : getD states (2 * n + 1) 0 ≡ h .yokes n lt .number
-  yoke-is = word-is ∙ ap yokeNumber (h .yokes n lt .is) ∙ number-of rows (h .yokes n lt .number)
-
+module _ {rows : List ℕ} {t : Table} {variables : List ℕ} {limits cells : List ℤ} {states : List ℕ} {vs : List Variable} (h : Running rows t variables limits (lent cells states) vs) (n : ℕ) (lt : n < length vs) where
   pub yoke-there : getD states (2 * n + 1) 0 ≤ t .count
-  yoke-there = omega (arith, yoke-is, h .yokes n lt .there, h .world .table .count)
+  yoke-there = omega (arith, Parts.yoke-there (memory-of (h .world .stored)) n lt (h .yokes n lt), h .world .table .count)
 
   pub own-yoke : (x : Composite) → evalYoke (yokeTree rows (getD states (2 * n + 1) 0)) (contents vs) x ≡ evalYoke (variableAt vs n .current) (contents vs) x
-  own-yoke x = ap (λ (k : ℕ). evalYoke (yokeTree rows k) (contents vs) x) yoke-is ∙ ap (λ (y : Yoke). evalYoke y (contents vs) x) (sym (h .yokes n lt .is))
+  own-yoke x = ap (λ (y : Yoke). evalYoke y (contents vs) x) (Parts.own-yoke (memory-of (h .world .stored)) n lt (h .yokes n lt))
 
 -- ---- the checks
-pub admits-error : {r : ℕ} {o : Result (Unit {0})} → (r ≡ 0 → ⊥) → o ≡ fail r → Admits r o
-admits-error f e = record { answer = λ z. absurd (f z); error = λ g. e }
-
 module _ (vs : List Variable) (v : Variable) (x : Composite) {y : Evaluated} {s : List ℤ} (g : Gives y s (evalYoke (v .current) (contents vs) x)) where
   pub yoke-error : (y .error ≡ 0 → ⊥) → Admits (y .error) (admitted vs v x)
   unfolding admitted

@@ -1,5 +1,5 @@
 -- Assignment: what is stored is what the definition stores, and an error leaves the store as it was. Assumes nothing.
-use mathlib.Core.Path.{_≡_, refl, sym, ap, _∙_, subst}
+use mathlib.Core.Path.{_≡_, ap, _∙_}
 use mathlib.Core.List.{List, _++_}
 use Prim.Native.Nat.{ℕ, _+_, _*_, _<_}
 use lib.IntN.{ℤ}
@@ -8,13 +8,18 @@ use lib.Seq.{take-take, paste}
 use Rattle.lingua.specs.Numbers.{body-cells}
 use Rattle.lingua.specs.Outcome.{ok, fail, Result, _>>=_, _>>_}
 use Rattle.lingua.specs.Body.{size}
-use Rattle.lingua.specs.Value.{cellsOf, Composite}
+use Rattle.lingua.specs.Value.{Composite}
 use Rattle.lingua.specs.Store.{Variable, variableAt, withContent, admitted, assigned}
 use Rattle.safety.specs.Stored.{admitted-shows}
 use Rattle.rules.specs.declared.tables.Table.{Table}
 use Rattle.checked.specs.declared.answer.Evaluated.{Evaluated}
-use Rattle.checked.specs.Meaning.{Running, Current, Answers, Gives, Admits, Assigns}
-use Rattle.checked.proofs.Keeping.{content-running, cells-stored, states-stored}
+use Rattle.steps.specs.Reached.{lent}
+use Rattle.stores.specs.Memory.{Admits}
+use Rattle.stores.proofs.Storing.{cells-stored, states-stored}
+use Rattle.stores.proofs.Settling.{stores-as}
+use Rattle.checked.specs.Meaning.{Running, Current, Answers, Gives, Assigns}
+use Rattle.checked.proofs.Storing.{memory-of}
+use Rattle.checked.proofs.Keeping.{content-running}
 
 -- the value by itself is a current value
 pub front-current : {x : Evaluated} {s : List ℤ} {o : Result Composite} (value : List ℤ) → value ≡ take body-cells s → (a : Answers x s o) → Current value (x .body) (a .value)
@@ -22,9 +27,6 @@ front-current {x} {s} value e a = record {
   lies = record { cells = ap (λ (l : List ℤ). take (size (a .value .body)) l) e ∙ take-take (size (a .value .body)) body-cells s (a .holds .few-cells) ∙ a .lies .cells; fit = a .lies .fit };
   holds = a .holds;
 }
-
-pub keeps : {rows : List ℕ} {t : Table} {variables : List ℕ} {limits cells : List ℤ} {states : List ℕ} {p : Result (List Variable)} (r : ℕ) → (r ≡ 0 → ⊥) → p ≡ fail r → Assigns r rows t variables limits cells cells states states p
-keeps r f e = record { answer = λ z. absurd (f z); error = λ g. record { is = e; same-cells = refl; same-states = refl } }
 
 pub operand-error : {x : Evaluated} {s : List ℤ} {o : Result Composite} (vs : List Variable) (n : ℕ) → Gives x s o → (x .error ≡ 0 → ⊥) → (o >>= assigned vs n) ≡ fail (x .error)
 operand-error vs n h f = ap (λ (p : Result Composite). p >>= assigned vs n) (h .error f)
@@ -37,21 +39,16 @@ module _ {x : Evaluated} {s : List ℤ} {o : Result Composite} (vs : List Variab
   pub not-admitted : (e ≡ 0 → ⊥) → (o >>= assigned vs n) ≡ fail e
   not-admitted f = assigned-is ∙ ap (λ (p : Result (Unit {0})). p >> ok (set vs n (withContent (variableAt vs n) (a .value)))) (admits .error f)
 
-  pub stores : {rows : List ℕ} {t : Table} {variables : List ℕ} {limits cells : List ℤ} {states : List ℕ} → Running rows t variables limits cells states vs → n < length vs → e ≡ 0
+  pub stores : {rows : List ℕ} {t : Table} {variables : List ℕ} {limits cells : List ℤ} {states : List ℕ} → Running rows t variables limits (lent cells states) vs → n < length vs → e ≡ 0
       → (value after : List ℤ) (words : List ℕ) → value ≡ take body-cells s
       → after ≡ take (body-cells * n) cells ++ (paste (take body-cells (drop (body-cells * n) cells)) 0 value (x .cells) ++ drop (body-cells * n + body-cells) cells) → words ≡ set states (2 * n) 1
-      → Assigns 0 rows t variables limits cells after states words (o >>= assigned vs n)
+      → Assigns 0 rows t variables limits (lent cells states) (lent after words) (o >>= assigned vs n)
   stores {rows} {t} {variables} {limits} {cells} {states} w lt z value after words v c q =
       let g = admits .answer z in
       let b = admitted-shows vs (variableAt vs n) (a .value) g .coherent in
       let cur = front-current value v a in
-      record {
-        answer = λ k. record {
-          store = set vs n (withContent (variableAt vs n) (a .value));
-          is = assigned-is ∙ ap (λ (p : Result (Unit {0})). p >> ok (set vs n (withContent (variableAt vs n) (a .value)))) g;
-          running = content-running w n lt (a .value) (a .lies .fit) b after words
-              (c ∙ cells-stored variables cells states vs n (w .world .stored) lt (a .value) (a .lies .fit) b value (x .cells) (a .cells) (ap (λ (k : ℕ). take k value) (a .cells) ∙ cur .lies .cells))
-              (q ∙ states-stored vs n lt (a .value) (w .world .stored .states-are));
-        };
-        error = λ f. absurd (f refl);
-      }
+      stores-as (set vs n (withContent (variableAt vs n) (a .value)))
+      (assigned-is ∙ ap (λ (p : Result (Unit {0})). p >> ok (set vs n (withContent (variableAt vs n) (a .value)))) g)
+      (content-running w n lt (a .value) (a .lies .fit) b after words
+      (c ∙ cells-stored (memory-of (w .world .stored)) n lt (a .value) (a .lies .fit) b value (x .cells) (a .cells) (ap (λ (k : ℕ). take k value) (a .cells) ∙ cur .lies .cells))
+      (q ∙ states-stored vs n lt (a .value) (w .world .stored .states-are)))

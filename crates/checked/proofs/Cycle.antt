@@ -1,5 +1,5 @@
 -- Evaluation of a row by its kind: what its operands give makes what the row gives. Assumes nothing.
-use mathlib.Core.Path.{_≡_, refl, sym, ap, _∙_, subst}
+use mathlib.Core.Path.{_≡_, refl, sym, ap, _∙_}
 use mathlib.Core.Bool.{Bool, true, false, Bool·beq}
 use mathlib.Core.List.{List}
 use Prim.Native.Nat.{ℕ, _<_}
@@ -16,17 +16,15 @@ use Rattle.lingua.specs.Store.{Variable, contents}
 use Rattle.lingua.specs.Trees.{expressionTree}
 use Rattle.profile.specs.declared.row.ExpressionRow.{ExpressionRow as CodeRow}
 use Rattle.profile.specs.Row.{connective, RowSays}
-use Rattle.profile.specs.Facts.{RowFacts, row-facts, rowTree, row-tree}
+use Rattle.profile.specs.Facts.{RowFacts, row-facts, rowTree, row-tree, settled-by}
 use Rattle.rules.specs.declared.tables.Table.{Table}
 use Rattle.checked.specs.declared.answer.Evaluated.{Evaluated}
-use Rattle.checked.specs.declared.answer.Truth.{Truth}
-use Rattle.checked.specs.Meaning.{World, Gives, Tells}
-use Rattle.checked.proofs.Giving.{gives-error, gives-as, told-boolean}
+use Rattle.steps.specs.declared.Truth.{Truth}
+use Rattle.steps.specs.Reached.{Tells}
+use Rattle.checked.specs.Meaning.{World, Gives}
+use Rattle.checked.proofs.Giving.{gives-as, told-boolean}
 
 -- ---- what a row says
-pub says-as : {rows : List ℕ} {r : ℕ} {c d : CodeRow} → c ≡ d → RowSays rows r c → RowSays rows r d
-says-as {rows} {r} e s = subst (λ (k : CodeRow). RowSays rows r k) e s
-
 module _ {rows : List ℕ} {t : Table} {variables : List ℕ} {cells : List ℤ} {states : List ℕ} {vs : List Variable} {row : ℕ} (w : World rows t variables cells states vs) (l : row < t .count) where
   pub in-table : row < tableCount rows expression-section
   in-table = omega (arith, w .table .count)
@@ -41,13 +39,6 @@ module _ {rows : List ℕ} {t : Table} {variables : List ℕ} {cells : List ℤ}
 tested : (o : Result Composite) (g : Bool → Result Composite) → (o >>= λ x. truthOr boolean-expected x >>= λ t. g t) ≡ ((o >>= truthOr boolean-expected) >>= g)
 tested (ok x) g = refl
 tested (fail n) g = refl
-
-settles : (t : Bool) → settledBy (connective t) ≡ t
-settles true = refl
-settles false = refl
-
-settled-by : (s t u : Bool) → Bool·beq s t ≡ u → Bool·beq s (settledBy (connective t)) ≡ u
-settled-by s t u e = ap (λ (r : Bool). Bool·beq s r) (settles t) ∙ e
 
 module _ (row : ℕ) (settling : Bool) (e f : Expression) (vars : Variables) (cur : Composite) where
   rest : Bool → Result Composite

@@ -3,7 +3,7 @@
 use mathlib.Core.Path.{_≡_, refl, sym, ap, _∙_, subst}
 use mathlib.Core.Bool.{Bool, true, false}
 use mathlib.Core.List.{List, [], _∷_}
-use Prim.Native.Nat.{ℕ, _≤_, _<_}
+use Prim.Native.Nat.{ℕ, _<_}
 use native.Mathlib.Omega.{arith}
 use lib.ListN.{length, getD, set}
 use lib.IntN.{ℤ, pos}
@@ -11,16 +11,19 @@ use mir.Syntax.{w64}
 use mir.Val.{ofZ}
 use Rattle.lingua.specs.Outcome.{ok, fail, Result, require, _>>=_, _>>_}
 use Rattle.lingua.specs.Body.{Body, boolean, size, nodes, isBoolean}
-use Rattle.lingua.specs.Value.{Value, truth, asTruth, bit, pad, Composite, composite}
+use Rattle.lingua.specs.Value.{Value, asTruth, bit, pad, Composite}
 use Rattle.lingua.specs.Evaluation.{truthOr, booleanOf}
-use Rattle.laws.specs.Outcomes.{is-boolean, ok-same}
+use Rattle.laws.specs.Outcomes.{is-boolean}
 use Rattle.safety.specs.Fitting.{true-is}
 use Rattle.body.specs.Encode.{bytes, encoded, Holds, body-bytes}
 use Rattle.cells.specs.Stack.{Lies}
-use Rattle.cells.proofs.Singles.{boolean-cell, put-truth}
+use Rattle.cells.proofs.Operands.{lies-as}
+use Rattle.cells.proofs.Singles
+use Rattle.cells.proofs.Singles.{put-truth}
 use Rattle.checked.specs.declared.answer.Evaluated.{Evaluated}
-use Rattle.checked.specs.declared.answer.Truth.{Truth}
-use Rattle.checked.specs.Meaning.{Answers, Gives, Tells}
+use Rattle.steps.specs.declared.Truth.{Truth}
+use Rattle.steps.specs.Reached.{Tells}
+use Rattle.checked.specs.Meaning.{Answers, Gives}
 
 -- ---- errors
 pub gives-error : {r : Evaluated} {s : List ℤ} {o : Result Composite} (e : ℕ) → r .error ≡ e → (e ≡ 0 → ⊥) → o ≡ fail e → Gives r s o
@@ -52,23 +55,12 @@ puts-truth {r} s t z h q e b n = gives-answer e (record {
 })
 
 -- ---- a Boolean read from the stack
-pub zero-false : (t : Bool) → ofZ w64 (bit t) ≡ 0 → t ≡ false
-zero-false false e = refl
-zero-false true e = absurd (let k : ⊥ = omega arith in k)
-
-pub other-true : (t : Bool) → (ofZ w64 (bit t) ≡ 0 → ⊥) → t ≡ true
-other-true true f = refl
-other-true false f = absurd (f refl)
-
--- the cell of a value whose body is a Boolean's
-pub truth-cell : {s : List ℤ} {b : Body} {v : Value} → isBoolean b ≡ true → Lies s 0 b v → getD s 0 (pos 0) ≡ bit (asTruth v)
-truth-cell {s} {b} {v} e h = boolean-cell (subst (λ (c : Body). Lies s 0 c v) (is-boolean b e) h)
-
+-- of a value whose body is a Boolean's
 pub truth-zero : {s : List ℤ} {b : Body} {v : Value} → isBoolean b ≡ true → Lies s 0 b v → ofZ w64 (getD s 0 (pos 0)) ≡ 0 → asTruth v ≡ false
-truth-zero {s} {b} {v} e h z = zero-false (asTruth v) (ap (λ (x : ℤ). ofZ w64 x) (sym (truth-cell e h)) ∙ z)
+truth-zero {b = b} e h z = Singles.truth-zero (lies-as (is-boolean b e) h) z
 
 pub truth-other : {s : List ℤ} {b : Body} {v : Value} → isBoolean b ≡ true → Lies s 0 b v → (ofZ w64 (getD s 0 (pos 0)) ≡ 0 → ⊥) → asTruth v ≡ true
-truth-other {s} {b} {v} e h f = other-true (asTruth v) (λ z. f (ap (λ (x : ℤ). ofZ w64 x) (truth-cell e h) ∙ z))
+truth-other {b = b} e h f = Singles.truth-other (lies-as (is-boolean b e) h) f
 
 truth-no : (n : ℕ) (x : Composite) → isBoolean (x .body) ≡ false → truthOr n x ≡ fail n
 unfolding truthOr

@@ -12,4 +12,3 @@ pub mod Keeping
 pub mod Assigning
 pub mod Changing
 pub mod Readings
-pub mod Rows

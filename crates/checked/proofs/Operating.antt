@@ -1,9 +1,9 @@
 -- An operation on evaluated operands, from its half on bodies and its half on values. Assumes nothing.
 use mathlib.Core.Path.{_≡_, refl, sym, ap, _∙_, subst}
 use mathlib.Core.List.{List}
-use Prim.Native.Nat.{ℕ, _≤_}
+use Prim.Native.Nat.{ℕ}
 use native.Mathlib.Omega.{arith}
-use lib.ListN.{length, drop}
+use lib.ListN.{drop}
 use lib.IntN.{ℤ}
 use Rattle.lingua.specs.Numbers.{body-cells}
 use Rattle.lingua.specs.Outcome.{ok, fail, Result, _>>=_}
@@ -15,7 +15,8 @@ use Rattle.lingua.specs.Evaluation.{applyUnary, applyBinary}
 use Rattle.lingua.specs.Typing.{unarySecond, binarySecond}
 use Rattle.body.specs.Encode.{Holds, Held}
 use Rattle.body.specs.declared.typed.Typed.{Typed}
-use Rattle.cells.specs.Stack.{Lies, Leaves}
+use Rattle.cells.specs.Stack.{Leaves}
+use Rattle.cells.proofs.Operands.{lies-above}
 use Rattle.cells.specs.Operands.{Operand, HasOperand, Operands, HasOperands}
 use Rattle.halves.specs.Half.{Half, Half-passes}
 use Rattle.checked.specs.declared.answer.Evaluated.{Evaluated}
@@ -101,10 +102,6 @@ module _ (o : Unary) (x : Evaluated) (t : Typed) (s : List ℤ) (half : (b : Bod
         })
 
 -- ---- two operands
--- what lies above the first operand lies there in the whole
-above : {s : List ℤ} {b : Body} {v : Value} → Lies (drop body-cells s) 0 b v → Lies s body-cells b v
-above h = record { cells = h .cells; fit = h .fit }
-
 pub record BothHalved (o : Binary) (x y : Evaluated) (t : Typed) (s : List ℤ) (p q : Result Composite) : Type 0 where
   pub first : Answers x s p
   pub second : Answers y (drop body-cells s) q
@@ -123,7 +120,7 @@ module _ (o : Binary) (x y : Evaluated) (t : Typed) (s : List ℤ) (half : (b c 
         first = a;
         second = b;
         body = d .body;
-        operands = record { half = d .is; cells-are = sym (a .cells); others-are = sym (b .cells); offset-is = sym (d .passes .is-second); small = a .holds .few-cells; small-other = b .holds .few-cells; lies = a .lies; lies-other = above (b .lies) };
+        operands = record { half = d .is; cells-are = sym (a .cells); others-are = sym (b .cells); offset-is = sym (d .passes .is-second); small = a .holds .few-cells; small-other = b .holds .few-cells; lies = a .lies; lies-other = lies-above (b .lies) };
         holds = d .passes .holds;
         size-is = d .passes .cells;
       }

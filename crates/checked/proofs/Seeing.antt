@@ -1,10 +1,8 @@
 -- What is seen of an all-list yoke's results, one more at a time, and what it gives in the end. Assumes nothing.
-use mathlib.Core.Path.{_≡_, refl, sym, ap, ap₂, _∙_, subst}
-use mathlib.Core.Bool.{Bool, true, false, _&&_}
+use mathlib.Core.Path.{_≡_, refl, sym, ap, ap₂, _∙_}
+use mathlib.Core.Bool.{Bool, true, false, _&&_, and-true, and-false}
 use mathlib.Core.List.{List, [], _∷_, _++_}
-use Prim.Native.Nat.{ℕ, _≤_, _<_}
-use native.Mathlib.Omega.{arith}
-use lib.ListN.{length, getD}
+use lib.ListN.{getD}
 use lib.IntN.{ℤ, pos}
 use mir.Syntax.{w64}
 use mir.Val.{ofZ}
@@ -15,43 +13,11 @@ use Rattle.lingua.specs.Value.{asTruth, allOf, Composite}
 use Rattle.lingua.specs.Evaluation.{allTrue, booleanOf}
 use Rattle.laws.specs.Outcomes.{false-is-true}
 use Rattle.body.specs.Encode.{Holds}
+use Rattle.cells.proofs.Walking.{more, answers-snoc, all-snoc}
 use Rattle.checked.specs.declared.answer.Evaluated.{Evaluated}
 use Rattle.checked.specs.declared.seen.Seen.{Seen}
 use Rattle.checked.specs.Meaning.{Answers, Gives, AllSeen, Sees}
 use Rattle.checked.proofs.Giving.{truth-zero, truth-other}
-
--- ---- lists with one result more
-abbrev more : Result (List Composite) → Result Composite → Result (List Composite)
-more m o = m >>= λ xs. o >>= λ y. ok (xs ++ (y ∷ []))
-
-carried : (a : Composite) (m : Result (List Composite)) (o : Result Composite) → (more m o >>= λ rest. ok (a ∷ rest)) ≡ more (m >>= λ rest. ok (a ∷ rest)) o
-carried a (fail n) o = refl
-carried a (ok xs) (fail n) = refl
-carried a (ok xs) (ok y) = refl
-
-answers-snoc : (rs : List (Result Composite)) (o : Result Composite) → allAnswers (rs ++ (o ∷ [])) ≡ more (allAnswers rs) o
-unfolding allAnswers
-answers-snoc [] (ok y) = refl
-answers-snoc [] (fail n) = refl
-answers-snoc (fail n ∷ rs) o = refl
-answers-snoc (ok a ∷ rs) o = ap (λ (m : Result (List Composite)). m >>= λ rest. ok (a ∷ rest)) (answers-snoc rs o) ∙ carried a (allAnswers rs) o
-
-and-true : (t : Bool) → (t && true) ≡ t
-and-true true = refl
-and-true false = refl
-
-and-false : (t : Bool) → (t && false) ≡ false
-and-false true = refl
-and-false false = refl
-
-and-assoc : (r s t : Bool) → (r && (s && t)) ≡ ((r && s) && t)
-and-assoc true s t = refl
-and-assoc false s t = refl
-
-all-snoc : (p : Composite → Bool) (xs : List Composite) (y : Composite) → allOf p (xs ++ (y ∷ [])) ≡ (allOf p xs && p y)
-unfolding allOf
-all-snoc p [] y = and-true (p y)
-all-snoc p (x ∷ xs) y = ap (λ (t : Bool). p x && t) (all-snoc p xs y) ∙ and-assoc (p x) (allOf p xs) (p y)
 
 -- ---- nothing seen yet
 pub sees-none : (s : Seen) → s .error ≡ 0 → s .booleans ≡ true → s .all ≡ true → Sees s []

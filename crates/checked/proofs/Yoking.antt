@@ -2,25 +2,27 @@
 use mathlib.Core.Path.{_≡_, refl, sym, ap, _∙_, subst}
 use mathlib.Core.Bool.{Bool, true, false}
 use mathlib.Core.List.{List}
-use mathlib.Core.Option.{Option, some, none}
-use Prim.Native.Nat.{ℕ, _+_, _-_, _*_, _≤_, _<_}
+use mathlib.Core.Option.{Option, some}
+use Prim.Native.Nat.{ℕ, _+_, _-_, _*_, _<_}
 use native.Mathlib.Omega.{arith}
 use lib.IntN.{ℤ}
 use lib.ListN.{length, take, drop, getD}
-use lib.Seq.{take-take}
 use Rattle.lingua.specs.Numbers.{body-cells}
 use Rattle.lingua.specs.Errors.{yoke-expected, yoke-not-satisfied}
 use Rattle.lingua.specs.Outcome.{ok, fail, Result, require, _>>=_}
-use Rattle.lingua.specs.Body.{Body, size}
+use Rattle.lingua.specs.Body.{Body}
 use Rattle.lingua.specs.Value.{Composite}
 use Rattle.lingua.specs.Expression.{Yoke}
 use Rattle.lingua.specs.Evaluation.{truthOr, evalYoke}
-use Rattle.lingua.specs.Store.{Variable, variableAt, contents, filledFlag, yokeHolds}
+use Rattle.lingua.specs.Store.{Variable, variableAt, contents, yokeHolds}
 use Rattle.body.specs.Encode.{Holds}
-use Rattle.checked.specs.declared.answer.Truth.{Truth}
-use Rattle.checked.specs.Meaning.{Stored, Current, Tells, Admits}
-use Rattle.checked.proofs.Storing.{flag-is, filled-is, content-at, declared-held}
-use Rattle.checked.proofs.Admitting.{admits-error}
+use Rattle.steps.specs.declared.Truth.{Truth}
+use Rattle.steps.specs.Reached.{Tells}
+use Rattle.stores.specs.Memory.{Admits}
+use Rattle.stores.proofs.Parts.{unfilled-is, filled-is, part-lies}
+use Rattle.stores.proofs.Admitting.{admits-error}
+use Rattle.checked.specs.Meaning.{Stored, Current}
+use Rattle.checked.proofs.Storing.{memory-of, declared-held}
 
 -- ---- the variable's cells
 pub record Fetched (variables : List ℕ) (cells : List ℤ) (body : List ℕ) (vs : List Variable) (n : ℕ) (value : List ℤ) : Type 0 where
@@ -31,31 +33,18 @@ pub record Fetched (variables : List ℕ) (cells : List ℤ) (body : List ℕ) (
 pub fetched : (variables : List ℕ) (cells : List ℤ) (states : List ℕ) (vs : List Variable) (n : ℕ) → Stored variables cells states vs → n < length vs → (body : List ℕ) → body ≡ take 96 (drop (96 * n) variables) → (getD states (2 * n) 0 ≡ 0 → ⊥)
     → Fetched variables cells body vs n (take (body-cells * n + body-cells - body-cells * n) (drop (body-cells * n) cells))
 fetched variables cells states vs n h lt body e f =
-    let x = filled-is variables cells states vs n h lt f in
-    let q = h .filled n (x .0) (x .1) in
-    let held : Holds body (x .0 .body) = subst (λ (b : Body). Holds body b) (sym (q .coherent)) (declared-held variables cells states vs n h lt body e) in
+    let m = memory-of h in
+    let x = filled-is m n lt f in
     record {
       composite = x .0;
       is = x .1;
-      current = record {
-        lies = record {
-          cells =
-              take-take (size (x .0 .body)) (body-cells * n + body-cells - body-cells * n) (drop (body-cells * n) cells) (omega (arith, held .few-cells))
-              ∙ content-at variables cells states vs n h lt (x .0) (x .1);
-          fit = q .fits;
-        };
-        holds = held;
-      };
+      current = record { lies = part-lies m n lt (x .0) (x .1); holds = subst (λ (b : Body). Holds body b) (sym (h .filled n (x .0) (x .1) .coherent)) (declared-held h n lt body e) };
     }
 
 -- ---- the yoke's answer
 pub none-holds : (variables : List ℕ) (cells : List ℤ) (states : List ℕ) (vs : List Variable) (n : ℕ) → Stored variables cells states vs → n < length vs → (y : Yoke) → getD states (2 * n) 0 ≡ 0 → Admits 0 (yokeHolds vs y (variableAt vs n .content))
 unfolding yokeHolds
-none-holds variables cells states vs n h lt y e = by (variableAt vs n .content) (sym (flag-is variables cells states vs n h lt) ∙ e)
-  where
-    by : (c : Option Composite) → filledFlag c ≡ 0 → Admits 0 (yokeHolds vs y c)
-    by none q = record { answer = λ z. refl; error = λ f. absurd (f refl) }
-    by (some x) q = absurd (let k : ⊥ = omega arith in k)
+none-holds variables cells states vs n h lt y e = subst (λ (c : Option Composite). Admits 0 (yokeHolds vs y c)) (sym (unfilled-is (memory-of h) n lt e)) (record { answer = λ z. refl; error = λ f. absurd (f refl) })
 
 tested : (o : Result Composite) → (o >>= λ r. truthOr yoke-expected r >>= λ t. require t yoke-not-satisfied) ≡ ((o >>= truthOr yoke-expected) >>= λ t. require t yoke-not-satisfied)
 tested (ok x) = refl

@@ -1,6 +1,6 @@
 -- What the code of the checked run holds and gives. Assumes nothing: these are definitions.
 use mathlib.Core.Path.{_≡_}
-use mathlib.Core.Bool.{Bool, true}
+use mathlib.Core.Bool.{true}
 use mathlib.Core.List.{List}
 use mathlib.Core.Option.{some}
 use Prim.Native.Nat.{ℕ, _*_, _≤_, _<_}
@@ -12,8 +12,7 @@ use Rattle.lingua.specs.Outcome.{ok, fail, Result, allAnswers}
 use Rattle.lingua.specs.Body.{size, isBoolean}
 use Rattle.lingua.specs.Value.{Composite, allOf, asTruth}
 use Rattle.lingua.specs.Rows.{pairCount}
-use Rattle.lingua.specs.Store.{Reading, Variable, variableAt, cellsIn, statesIn}
-use Rattle.lingua.specs.Run.{Progress}
+use Rattle.lingua.specs.Store.{Variable, variableAt, cellsIn, statesIn}
 use Rattle.safety.specs.Accepted.{AcceptedRows}
 use Rattle.safety.specs.Constants.{Fitting}
 use Rattle.rules.specs.Tables.{IsTable}
@@ -22,10 +21,8 @@ use Rattle.profile.specs.Yokes.{YokeOf}
 use Rattle.rules.specs.declared.tables.Table.{Table}
 use Rattle.body.specs.Encode.{Holds, body-bytes}
 use Rattle.cells.specs.Stack.{Lies, first-place}
-use Rattle.steps.specs.Reached.{Reached, Settles}
-use Rattle.steps.specs.declared.Moment.{Moment}
+use Rattle.steps.specs.Reached.{Lent, Settles}
 use Rattle.checked.specs.declared.answer.Evaluated.{Evaluated}
-use Rattle.checked.specs.declared.answer.Truth.{Truth}
 use Rattle.checked.specs.declared.seen.Seen.{Seen}
 
 -- ---- what is given
@@ -78,29 +75,24 @@ pub record Ready (rows : List ℕ) (t : Table) (variables : List ℕ) (cells : L
 
 -- ---- what assignments ask
 -- a store of a run, with the limits of its variables
-pub record Running (rows : List ℕ) (t : Table) (variables : List ℕ) (limits : List ℤ) (cells : List ℤ) (states : List ℕ) (vs : List Variable) : Type 0 where
-  pub world : World rows t variables cells states vs
+pub record Running (rows : List ℕ) (t : Table) (variables : List ℕ) (limits : List ℤ) (l : Lent) (vs : List Variable) : Type 0 where
+  pub world : World rows t variables (l .cells) (l .states) vs
   pub room : 3 * length vs ≤ length limits
   pub limited : (n : ℕ) → n < length vs → LimitAt limits (3 * n) (variableAt vs n .limit)
   pub yokes : (n : ℕ) → n < length vs → YokeOf rows (variableAt vs n .current)
 
 -- some such store, with a variable n
-pub record HasRunning (rows : List ℕ) (t : Table) (variables : List ℕ) (limits : List ℤ) (cells : List ℤ) (states : List ℕ) (n : ℕ) : Type 0 where
+pub record HasRunning (rows : List ℕ) (t : Table) (variables : List ℕ) (limits : List ℤ) (l : Lent) (n : ℕ) : Type 0 where
   pub store : List Variable
-  pub running : Running rows t variables limits cells states store
+  pub running : Running rows t variables limits l store
   pub there : n < length store
 
 -- some such store, and some value for variable n
-pub record Checkable (rows : List ℕ) (t : Table) (variables : List ℕ) (limits : List ℤ) (cells : List ℤ) (states : List ℕ) (n : ℕ) (value : List ℤ) (body : List ℕ) : Type 0 where
+pub record Checkable (rows : List ℕ) (t : Table) (variables : List ℕ) (limits : List ℤ) (l : Lent) (n : ℕ) (value : List ℤ) (body : List ℕ) : Type 0 where
   pub store : List Variable
-  pub running : Running rows t variables limits cells states store
+  pub running : Running rows t variables limits l store
   pub there : n < length store
   pub has : HasCurrent value body
-
--- the checks passed, or the error
-pub record Admits (r : ℕ) (o : Result (Unit {0})) : Type 0 where
-  pub answer : r ≡ no-error → o ≡ ok tt
-  pub error : (r ≡ no-error → ⊥) → o ≡ fail r
 
 -- ---- what evaluation gives
 -- the value lies at the stack's front, and its body and the number of its cells are given
@@ -120,36 +112,17 @@ pub record Given (r : Evaluated) (stack : List ℤ) : Type 0 where
   pub outcome : Result Composite
   pub gives : Gives r stack outcome
 
--- a reading of variable n
-abbrev pub reading : ℕ → ℤ → Reading
-reading n z = record { variable = n; number = z }
-
 -- ---- what an assignment gives
 -- a store of a run, and an evaluated value for its variable n
-pub record Assignable (rows : List ℕ) (t : Table) (variables : List ℕ) (limits : List ℤ) (cells : List ℤ) (states : List ℕ) (n : ℕ) (x : Evaluated) (stack : List ℤ) : Type 0 where
+pub record Assignable (rows : List ℕ) (t : Table) (variables : List ℕ) (limits : List ℤ) (l : Lent) (n : ℕ) (x : Evaluated) (stack : List ℤ) : Type 0 where
   pub store : List Variable
-  pub running : Running rows t variables limits cells states store
+  pub running : Running rows t variables limits l store
   pub there : n < length store
   pub given : Given x stack
 
 -- the new store in the memory, or the error and the memory as it was
-abbrev pub Assigns : ℕ → List ℕ → Table → List ℕ → List ℤ → List ℤ → List ℤ → List ℕ → List ℕ → Result (List Variable) → Type 0
-Assigns r rows t variables limits cells after states words p = Settles r (Running rows t variables limits) cells after states words p
-
--- ---- what instructions ask and give
--- the run stands where the definition does
-abbrev pub Reaches : List ℕ → Table → List ℕ → List ℤ → List ℤ → List ℕ → Moment → Progress → Type 0
-Reaches rows t variables limits cells states m q = Reached (Running rows t variables limits) cells states m q
-
--- some store of a run
-pub record HasRun (rows : List ℕ) (t : Table) (variables : List ℕ) (limits : List ℤ) (cells : List ℤ) (states : List ℕ) : Type 0 where
-  pub store : List Variable
-  pub running : Running rows t variables limits cells states store
-
--- a Boolean's value, or the error
-pub record Tells (r : Truth) (o : Result Bool) : Type 0 where
-  pub answer : r .error ≡ no-error → o ≡ ok (r .holds)
-  pub error : (r .error ≡ no-error → ⊥) → o ≡ fail (r .error)
+abbrev pub Assigns : ℕ → List ℕ → Table → List ℕ → List ℤ → Lent → Lent → Result (List Variable) → Type 0
+Assigns r rows t variables limits l after p = Settles r (Running rows t variables limits) l after p
 
 -- ---- what is seen of the results of an all-list yoke
 -- whether all are Booleans, and, where they are, whether all are true

@@ -17,7 +17,9 @@ ghost use lib.ListN.{length};
 ghost use Rattle.lingua.specs.Numbers.{body-cells};
 ghost use Rattle.lingua.specs.Value.{Composite, asWhole};
 ghost use Rattle.lingua.specs.Store.{Variable, variableAt, admitted as checks};
-ghost use Rattle.checked.specs.Meaning.{Current, HasCurrent, Running, Checkable, Admits};
+ghost use Rattle.steps.specs.Reached.{lent};
+ghost use Rattle.stores.specs.Memory.{Admits};
+ghost use Rattle.checked.specs.Meaning.{Current, HasCurrent, Running, Checkable};
 
 // A number's cell; for a value of another body 0 stands.
 fn whole(body: [u8; 96], value: &[i64]) -> i64
@@ -43,9 +45,9 @@ pub fn admitted(
     body: [u8; 96],
     stack: &mut [i64],
 ) -> u8
-    requires { ⌜ Checkable (now rows) t (now variables) (now limits) (now cells) (now states) n (now value) body ⌝ }
+    requires { ⌜ Checkable (now rows) t (now variables) (now limits) (lent (now cells) (now states)) n (now value) body ⌝ }
     requires { ⌜ body-cells * (t .count + 1) ≤ length (now stack) ⌝ }
-    ensures { λ r. ⌜ ((vs : List Variable) (x : Composite) → Running (now (rows .entry)) t (now (variables .entry)) (now (limits .entry)) (now (cells .entry)) (now (states .entry)) vs → n < length vs → Current (now (value .entry)) body x
+    ensures { λ r. ⌜ ((vs : List Variable) (x : Composite) → Running (now (rows .entry)) t (now (variables .entry)) (now (limits .entry)) (lent (now (cells .entry)) (now (states .entry))) vs → n < length vs → Current (now (value .entry)) body x
         → Admits r (checks vs (variableAt vs n) x)) ⌝ }
 {
     let yoke = states[2 * n + 1] as usize;

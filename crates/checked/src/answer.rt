@@ -3,25 +3,21 @@ use body::make::simple;
 use body::unary::is_boolean;
 use body::walk::BOOLEAN;
 use lingua::errors::NO_ERROR;
+use steps::Truth;
 ghost use mathlib.Core.Path.{_≡_};
-ghost use Prim.Native.Nat.{ℕ, _<_};
+ghost use Prim.Native.Nat.{_<_};
 ghost use lib.ListN.{length};
 ghost use Rattle.lingua.specs.Outcome.{ok, Result, _>>=_ as bind};
 ghost use Rattle.lingua.specs.Value.{Composite};
 ghost use Rattle.lingua.specs.Evaluation.{booleanOf, truthOr};
-ghost use Rattle.checked.specs.Meaning.{Given, Gives, Tells};
+ghost use Rattle.steps.specs.Reached.{Tells};
+ghost use Rattle.checked.specs.Meaning.{Gives};
 
 // An error, or a value on the stack with its body and the number of its cells.
 pub struct Evaluated {
     pub error: u8,
     pub body: [u8; 96],
     pub cells: usize,
-}
-
-// An error, or whether a Boolean is true.
-pub struct Truth {
-    pub error: u8,
-    pub holds: bool,
 }
 
 pub fn failed(error: u8) -> Evaluated

@@ -5,15 +5,14 @@ use lingua::errors::NO_ERROR;
 use rules::tables::Table;
 use stores::copies::front;
 use stores::part::put;
-ghost use mathlib.Core.Path.{_≡_};
-ghost use mathlib.Core.List.{List, _++_};
+ghost use mathlib.Core.List.{List};
 ghost use Prim.Native.Nat.{_+_, _*_, _<_, _≤_};
-ghost use lib.ListN.{length, take, drop, set};
-ghost use lib.Seq.{paste};
+ghost use lib.ListN.{length};
 ghost use Rattle.lingua.specs.Numbers.{body-cells};
 ghost use Rattle.lingua.specs.Outcome.{Result, _>>=_ as bind};
 ghost use Rattle.lingua.specs.Value.{Composite};
 ghost use Rattle.lingua.specs.Store.{Variable, assigned};
+ghost use Rattle.steps.specs.Reached.{lent};
 ghost use Rattle.checked.specs.Meaning.{Gives, Running, Assignable, Assigns};
 
 // Variable n takes an evaluated value, which lies on the stack, once it is admitted; an error leaves the store as it was.
@@ -28,10 +27,10 @@ pub fn assign(
     x: Evaluated,
     stack: &mut [i64],
 ) -> u8
-    requires { ⌜ Assignable (now rows) t (now variables) (now limits) (now cells) (now states) n x (now stack) ⌝ }
+    requires { ⌜ Assignable (now rows) t (now variables) (now limits) (lent (now cells) (now states)) n x (now stack) ⌝ }
     requires { ⌜ body-cells * (t .count + 1) ≤ length (now stack) ⌝ }
-    ensures { λ r. ⌜ ((vs : List Variable) (o : Result Composite) → Running (now (rows .entry)) t (now (variables .entry)) (now (limits .entry)) (now (cells .entry)) (now (states .entry)) vs → n < length vs → Gives x (now (stack .entry)) o
-        → Assigns r (now (rows .entry)) t (now (variables .entry)) (now (limits .entry)) (now (cells .entry)) (now (cells .exit)) (now (states .entry)) (now (states .exit)) (bind o (assigned vs n))) ⌝ }
+    ensures { λ r. ⌜ ((vs : List Variable) (o : Result Composite) → Running (now (rows .entry)) t (now (variables .entry)) (now (limits .entry)) (lent (now (cells .entry)) (now (states .entry))) vs → n < length vs → Gives x (now (stack .entry)) o
+        → Assigns r (now (rows .entry)) t (now (variables .entry)) (now (limits .entry)) (lent (now (cells .entry)) (now (states .entry))) (lent (now (cells .exit)) (now (states .exit))) (bind o (assigned vs n))) ⌝ }
 {
     if x.error != NO_ERROR {
         return x.error;

@@ -8,6 +8,7 @@ ghost use lib.ListN.{length};
 ghost use Rattle.lingua.specs.Numbers.{body-cells};
 ghost use Rattle.lingua.specs.Store.{Variable, yokeChanged};
 ghost use Rattle.lingua.specs.Trees.{yokeTree};
+ghost use Rattle.steps.specs.Reached.{lent};
 ghost use Rattle.checked.specs.Meaning.{Running, HasRunning, Assigns};
 
 pub fn change_yoke(
@@ -21,11 +22,11 @@ pub fn change_yoke(
     y: u16,
     stack: &mut [i64],
 ) -> u8
-    requires { ⌜ HasRunning (now rows) t (now variables) (now limits) (now cells) (now states) n ⌝ }
+    requires { ⌜ HasRunning (now rows) t (now variables) (now limits) (lent (now cells) (now states)) n ⌝ }
     requires { ⌜ y ≤ t .count ⌝ }
     requires { ⌜ body-cells * (y + 1) ≤ length (now stack) ⌝ }
-    ensures { λ r. ⌜ ((vs : List Variable) → Running (now (rows .entry)) t (now (variables .entry)) (now (limits .entry)) (now (cells .entry)) (now (states .entry)) vs → n < length vs
-        → Assigns r (now (rows .entry)) t (now (variables .entry)) (now (limits .entry)) (now (cells .entry)) (now (cells .entry)) (now (states .entry)) (now (states .exit)) (yokeChanged vs n (yokeTree (now (rows .entry)) y))) ⌝ }
+    ensures { λ r. ⌜ ((vs : List Variable) → Running (now (rows .entry)) t (now (variables .entry)) (now (limits .entry)) (lent (now (cells .entry)) (now (states .entry))) vs → n < length vs
+        → Assigns r (now (rows .entry)) t (now (variables .entry)) (now (limits .entry)) (lent (now (cells .entry)) (now (states .entry))) (lent (now (cells .entry)) (now (states .exit))) (yokeChanged vs n (yokeTree (now (rows .entry)) y))) ⌝ }
 {
     let error = yoke_holds(rows, t, variables, cells, states, n, y as usize, stack);
     if error != NO_ERROR {

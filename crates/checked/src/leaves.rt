@@ -11,7 +11,7 @@ use rules::tables::Table;
 use stores::copies::copy;
 ghost use mathlib.Core.Path.{_≡_};
 ghost use mathlib.Core.List.{List};
-ghost use Prim.Native.Nat.{ℕ, _+_, _*_, _<_, _≤_};
+ghost use Prim.Native.Nat.{_+_, _*_, _<_, _≤_};
 ghost use lib.ListN.{length, take, drop};
 ghost use Rattle.lingua.specs.Numbers.{expression-section, body-cells};
 ghost use Rattle.lingua.specs.Errors.{not-filled};

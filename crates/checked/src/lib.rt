@@ -3,7 +3,6 @@ mod admit; // admit.rt: the checks of a new value
 pub mod assign; // assign.rt: assignment
 pub mod answer; // answer.rt: what evaluation gives
 pub mod change; // change.rt: yoke change
-pub mod exec; // exec.rt: instructions, by their rows
 mod holds; // holds.rt: whether a value satisfies a new yoke
 mod leaves; // leaves.rt: constants, variables and the current value
 mod operate; // operate.rt: an operation on evaluated operands

@@ -7,7 +7,7 @@ use lingua::errors::NO_ERROR;
 use lingua::operations::BinaryOperation;
 use lingua::operations::UnaryOperation;
 ghost use Prim.Native.Nat.{_+_, _≤_};
-ghost use lib.ListN.{length, take, drop};
+ghost use lib.ListN.{length, drop};
 ghost use Rattle.lingua.specs.Numbers.{body-cells};
 ghost use Rattle.lingua.specs.Outcome.{Result, _>>=_ as bind};
 ghost use Rattle.lingua.specs.Value.{Composite};

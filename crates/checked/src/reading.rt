@@ -14,7 +14,9 @@ ghost use Prim.Native.Nat.{_+_, _*_, _<_, _≤_};
 ghost use lib.ListN.{length};
 ghost use Rattle.lingua.specs.Numbers.{body-cells};
 ghost use Rattle.lingua.specs.Store.{Variable, readingTaken};
-ghost use Rattle.checked.specs.Meaning.{reading, Running, HasRunning, Assigns};
+ghost use Rattle.steps.specs.Reached.{lent};
+ghost use Rattle.stores.specs.Memory.{reading};
+ghost use Rattle.checked.specs.Meaning.{Running, HasRunning, Assigns};
 
 pub fn take_reading(
     rows: &[u8],
@@ -27,10 +29,10 @@ pub fn take_reading(
     z: i64,
     stack: &mut [i64],
 ) -> u8
-    requires { ⌜ HasRunning (now rows) t (now variables) (now limits) (now cells) (now states) n ⌝ }
+    requires { ⌜ HasRunning (now rows) t (now variables) (now limits) (lent (now cells) (now states)) n ⌝ }
     requires { ⌜ body-cells * (t .count + 1) ≤ length (now stack) ⌝ }
-    ensures { λ r. ⌜ ((vs : List Variable) → Running (now (rows .entry)) t (now (variables .entry)) (now (limits .entry)) (now (cells .entry)) (now (states .entry)) vs → n < length vs
-        → Assigns r (now (rows .entry)) t (now (variables .entry)) (now (limits .entry)) (now (cells .entry)) (now (cells .exit)) (now (states .entry)) (now (states .exit)) (readingTaken vs (reading n z))) ⌝ }
+    ensures { λ r. ⌜ ((vs : List Variable) → Running (now (rows .entry)) t (now (variables .entry)) (now (limits .entry)) (lent (now (cells .entry)) (now (states .entry))) vs → n < length vs
+        → Assigns r (now (rows .entry)) t (now (variables .entry)) (now (limits .entry)) (lent (now (cells .entry)) (now (states .entry))) (lent (now (cells .exit)) (now (states .exit))) (readingTaken vs (reading n z))) ⌝ }
 {
     if !between(LOWEST_NUMBER, HIGHEST_NUMBER, z) {
         return OVERFLOW;

@@ -6,7 +6,6 @@ use crate::answer::failed;
 use body::unary::is_boolean;
 use lingua::errors::NO_ERROR;
 use lingua::errors::YOKE_EXPECTED;
-ghost use mathlib.Core.Path.{_≡_};
 ghost use mathlib.Core.List.{List, [], _∷_, _++_};
 ghost use Prim.Native.Nat.{_<_};
 ghost use lib.ListN.{length};
@@ -22,12 +21,12 @@ pub struct Seen {
 }
 
 // One result more.
-pub fn noted(s: Seen, x: Evaluated, stack: &[i64]) -> Seen
+pub fn noted(seen: Seen, x: Evaluated, stack: &[i64]) -> Seen
     requires { ⌜ 0 < length (now stack) ⌝ }
-    ensures { λ r. ⌜ ((rs : List (Result Composite)) (o : Result Composite) → Sees s rs → Gives x (now (stack .entry)) o → Sees r (rs ++ (o ∷ []))) ⌝ }
+    ensures { λ r. ⌜ ((rs : List (Result Composite)) (o : Result Composite) → Sees seen rs → Gives x (now (stack .entry)) o → Sees r (rs ++ (o ∷ []))) ⌝ }
 {
-    if s.error != NO_ERROR {
-        return s;
+    if seen.error != NO_ERROR {
+        return seen;
     }
     let error = x.error;
     if error != NO_ERROR {
@@ -46,11 +45,11 @@ pub fn noted(s: Seen, x: Evaluated, stack: &[i64]) -> Seen
         };
     }
     if stack[0] != 0 {
-        return s;
+        return seen;
     }
     Seen {
         error: NO_ERROR,
-        booleans: s.booleans,
+        booleans: seen.booleans,
         all: false,
     }
 }

@@ -1,6 +1,5 @@
 // Yokes, and expressions outside yokes.
 use crate::answer::Evaluated;
-use crate::answer::Truth;
 use crate::answer::boolean;
 use crate::answer::truth_of;
 use crate::eval::eval;
@@ -8,6 +7,7 @@ use body::make::simple;
 use body::walk::BOOLEAN;
 use lingua::errors::BOOLEAN_EXPECTED;
 use rules::tables::Table;
+use steps::Truth;
 ghost use mathlib.Core.List.{List};
 ghost use Prim.Native.Nat.{_+_, _*_, _<_, _≤_};
 ghost use lib.ListN.{length};
@@ -16,7 +16,8 @@ ghost use Rattle.lingua.specs.Value.{Composite};
 ghost use Rattle.lingua.specs.Store.{Variable, contents};
 ghost use Rattle.lingua.specs.Trees.{expressionTree, yokeTree};
 ghost use Rattle.lingua.specs.Evaluation.{eval as meaning, evalYoke, evalTest, no-current};
-ghost use Rattle.checked.specs.Meaning.{World, HasWorld, Current, Ready, Gives, Tells};
+ghost use Rattle.steps.specs.Reached.{Tells};
+ghost use Rattle.checked.specs.Meaning.{World, HasWorld, Current, Ready, Gives};
 
 // What yoke y gives on a value: 0 is the yoke that is always true, another is the expression of row y - 1.
 pub fn eval_yoke(

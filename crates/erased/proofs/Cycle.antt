@@ -22,21 +22,20 @@ use Rattle.lingua.specs.Typing.{Bodies, bodiesOf}
 use Rattle.safety.specs.Erasure.{valuesOf, evalErased}
 use Rattle.profile.specs.declared.row.ExpressionRow.{ExpressionRow as CodeRow}
 use Rattle.profile.specs.Row.{connective, constantOf, RowSays}
-use Rattle.profile.specs.Facts.{RowFacts, row-facts, rowTree, row-tree}
+use Rattle.profile.specs.Facts.{RowFacts, row-facts, rowTree, row-tree, settled-by}
 use Rattle.rules.specs.declared.tables.Table.{Table}
 use Rattle.cells.specs.Stack.{Leaves}
 use Rattle.cells.proofs.Operands.{leaves-as}
-use Rattle.erased.specs.declared.answer.Truth.{Truth}
-use Rattle.erased.specs.Meaning.{World, Current, Passed, Ready, Evaluates, Tells, Memory, HasVariable, HasCurrent, UnaryRow, HasUnary, BinaryRow, HasBinary}
+use Rattle.steps.specs.declared.Truth.{Truth}
+use Rattle.steps.specs.Reached.{Tells}
+use Rattle.stores.specs.Memory.{Memory}
+use Rattle.erased.specs.Meaning.{World, Current, Passed, Ready, Evaluates, HasVariable, HasCurrent, UnaryRow, HasUnary, BinaryRow, HasBinary}
 use Rattle.erased.proofs.Leaving.{leaves-ok, leaves-fail, leaves-from}
 use Rattle.erased.proofs.Telling.{told, truth-is}
 use Rattle.erased.proofs.Passing.{PassedUnary, PassedBinary, constant-passed, variable-passed, current-passed, unary-passed, binary-passed, lazy-passed, choice-passed, table-of, sizes}
 use Rattle.erased.proofs.Stacking.{first-stays, second-lies}
 
 -- ---- what a row says
-pub says-as : {rows : List ℕ} {r : ℕ} {c d : CodeRow} → c ≡ d → RowSays rows r c → RowSays rows r d
-says-as {rows} {r} e s = subst (λ (k : CodeRow). RowSays rows r k) e s
-
 module _ {rows : List ℕ} {t : Table} {layout : List ℕ} {cells : List ℤ} {states : List ℕ} {ds : List Declaration} {vs : List Variable} {row : ℕ} (w : World rows t layout cells states ds vs) (l : row < t .count) where
   pub facts : {d : CodeRow} → RowSays rows row d → RowFacts rows row d
   facts {d} s = row-facts rows (w .accepted) row (table-of w l) d s
@@ -44,8 +43,8 @@ module _ {rows : List ℕ} {t : Table} {layout : List ℕ} {cells : List ℤ} {s
   pub tree-is : {d : CodeRow} → RowSays rows row d → expressionTree rows row ≡ rowTree rows row d
   tree-is {d} s = row-tree rows row d s (facts s)
 
-memory-of : {rows : List ℕ} {t : Table} {layout : List ℕ} {cells : List ℤ} {states : List ℕ} {ds : List Declaration} {vs : List Variable} → World rows t layout cells states ds vs → Memory cells states vs (bodiesOf ds)
-memory-of w = record { cells-are = w .cells-are; states-are = w .states-are; few = w .few; small = w .small; fit = w .fit }
+pub memory-of : {rows : List ℕ} {t : Table} {layout : List ℕ} {cells : List ℤ} {states : List ℕ} {ds : List Declaration} {vs : List Variable} → World rows t layout cells states ds vs → Memory cells states vs (bodiesOf ds)
+memory-of w = record { cells-are = w .cells-are; states-are = w .states-are; few = w .few; small = λ n l. w .small n; fit = w .fit }
 
 module _ {rows : List ℕ} {t : Table} {layout : List ℕ} {cells : List ℤ} {states : List ℕ} {now : List ℤ} where
   pub ready-as : {e f : Expression} → e ≡ f → Ready rows t layout cells states now e → Ready rows t layout cells states now f
@@ -154,13 +153,6 @@ tested : {A : Type 0} (o : Result Value) (g : Bool → Result A) → (o >>= λ x
 tested (ok x) g = refl
 tested (fail n) g = refl
 
-settles : (t : Bool) → settledBy (connective t) ≡ t
-settles true = refl
-settles false = refl
-
-settled-by : (s t u : Bool) → Bool·beq s t ≡ u → Bool·beq s (settledBy (connective t)) ≡ u
-settled-by s t u e = ap (λ (r : Bool). Bool·beq s r) (settles t) ∙ e
-
 -- where a Boolean was told, there was no error
 passed-zero : {s : List ℤ} {o : Result Value} (n : ℕ) (p : Truth) → Leaves n s boolean o → Tells p (told o) → p .error ≡ 0 → n ≡ 0
 passed-zero zero p h g e = refl
@@ -209,32 +201,28 @@ module _ {rows : List ℕ} {t : Table} {layout : List ℕ} {cells : List ℤ} {s
             leaves-fail z (lazy-is vs x ∙ ap {B = Result Value} (λ (o : Result Bool). o >>= rest (evalErased f (valuesOf (contents vs)) x)) (g _ (h .leaves ds vs cur boolean x w c (lazy-passed d .first)) .error z));
       }
 
-      pub lazy-settled : p .error ≡ 0 → Bool·beq (p .holds) settling ≡ true → Evaluates rows t layout cells states now (lazy row (connective settling) e f) 0 s
+      -- what was told decides
+      lazy-told : (vs : List Variable) (x : Value) (b : Bool) → Leaves n s boolean (evalErased e (valuesOf (contents vs)) x) → p .error ≡ 0 → Bool·beq (p .holds) settling ≡ b
+          → evalErased (lazy row (connective settling) e f) (valuesOf (contents vs)) x ≡ (if b then ok (truth (p .holds)) else (evalErased f (valuesOf (contents vs)) x >>= λ y. ok (truth (asTruth y))))
       unfolding rest
+      lazy-told vs x b k z q =
+          lazy-is vs x
+          ∙ ap {B = Result Value} (λ (o : Result Bool). o >>= rest (evalErased f (valuesOf (contents vs)) x)) (g _ k .answer z)
+          ∙ ap {B = Result Value} (λ (v : Bool). if v then ok (truth (p .holds)) else (evalErased f (valuesOf (contents vs)) x >>= λ y. ok (truth (asTruth y)))) (settled-by (p .holds) settling b q)
+
+      pub lazy-settled : p .error ≡ 0 → Bool·beq (p .holds) settling ≡ true → Evaluates rows t layout cells states now (lazy row (connective settling) e f) 0 s
       lazy-settled z q = record {
         leaves = λ ds vs cur b x w c d.
             let u = lazy-passed d in
             let k = h .leaves ds vs cur boolean x w c (u .first) in
-            leaves-as (sym (u .is)) (leaves-from
-            (sym
-            (lazy-is vs x
-            ∙ ap {B = Result Value} (λ (o : Result Bool). o >>= rest (evalErased f (valuesOf (contents vs)) x)) (g _ k .answer z)
-            ∙ ap {B = Result Value} (λ (v : Bool). if v then ok (truth (p .holds)) else (evalErased f (valuesOf (contents vs)) x >>= λ y. ok (truth (asTruth y)))) (settled-by (p .holds) settling true q)))
-            (told-value p k (g _ k) z));
+            leaves-as (sym (u .is)) (leaves-from (sym (lazy-told vs x true k z q)) (told-value p k (g _ k) z));
       }
 
       pub lazy-second : {m : ℕ} {after : List ℤ} → p .error ≡ 0 → Bool·beq (p .holds) settling ≡ false → Evaluates rows t layout cells states now f m after → Evaluates rows t layout cells states now (lazy row (connective settling) e f) m after
-      unfolding rest
       lazy-second z q i = record {
         leaves = λ ds vs cur b x w c d.
             let u = lazy-passed d in
-            let k = h .leaves ds vs cur boolean x w c (u .first) in
-            leaves-as (sym (u .is)) (leaves-from
-            (sym
-            (lazy-is vs x
-            ∙ ap {B = Result Value} (λ (o : Result Bool). o >>= rest (evalErased f (valuesOf (contents vs)) x)) (g _ k .answer z)
-            ∙ ap {B = Result Value} (λ (v : Bool). if v then ok (truth (p .holds)) else (evalErased f (valuesOf (contents vs)) x >>= λ y. ok (truth (asTruth y)))) (settled-by (p .holds) settling false q)))
-            (as-truth (i .leaves ds vs cur boolean x w c (u .second))));
+            leaves-as (sym (u .is)) (leaves-from (sym (lazy-told vs x false (h .leaves ds vs cur boolean x w c (u .first)) z q)) (as-truth (i .leaves ds vs cur boolean x w c (u .second))));
       }
 
   -- ---- choice
@@ -262,29 +250,26 @@ module _ {rows : List ℕ} {t : Table} {layout : List ℕ} {cells : List ℤ} {s
             leaves-fail z (choice-is vs x ∙ ap {B = Result Value} (λ (o : Result Bool). o >>= chosen vs x) (k _ (h .leaves ds vs cur boolean x w c (choice-passed d .test)) .error z));
       }
 
+      -- what was told decides
+      choice-told : (vs : List Variable) (x : Value) (b : Bool) → Leaves n s boolean (evalErased e (valuesOf (contents vs)) x) → p .error ≡ 0 → p .holds ≡ b
+          → evalErased (choice row e f g) (valuesOf (contents vs)) x ≡ (if b then evalErased f (valuesOf (contents vs)) x else evalErased g (valuesOf (contents vs)) x)
+      unfolding chosen
+      choice-told vs x b l z q =
+          choice-is vs x
+          ∙ ap {B = Result Value} (λ (o : Result Bool). o >>= chosen vs x) (k _ l .answer z)
+          ∙ ap {B = Result Value} (λ (v : Bool). if v then evalErased f (valuesOf (contents vs)) x else evalErased g (valuesOf (contents vs)) x) q
+
       module _ {m : ℕ} {after : List ℤ} (z : p .error ≡ 0) where
         pub choice-yes : p .holds ≡ true → Evaluates rows t layout cells states now f m after → Evaluates rows t layout cells states now (choice row e f g) m after
-        unfolding chosen
         choice-yes q i = record {
           leaves = λ ds vs cur b x w c d.
               let u = choice-passed d in
-              leaves-from
-              (sym
-              (choice-is vs x
-              ∙ ap {B = Result Value} (λ (o : Result Bool). o >>= chosen vs x) (k _ (h .leaves ds vs cur boolean x w c (u .test)) .answer z)
-              ∙ ap {B = Result Value} (λ (v : Bool). if v then evalErased f (valuesOf (contents vs)) x else evalErased g (valuesOf (contents vs)) x) q))
-              (i .leaves ds vs cur b x w c (u .yes));
+              leaves-from (sym (choice-told vs x true (h .leaves ds vs cur boolean x w c (u .test)) z q)) (i .leaves ds vs cur b x w c (u .yes));
         }
 
         pub choice-no : p .holds ≡ false → Evaluates rows t layout cells states now g m after → Evaluates rows t layout cells states now (choice row e f g) m after
-        unfolding chosen
         choice-no q i = record {
           leaves = λ ds vs cur b x w c d.
               let u = choice-passed d in
-              leaves-from
-              (sym
-              (choice-is vs x
-              ∙ ap {B = Result Value} (λ (o : Result Bool). o >>= chosen vs x) (k _ (h .leaves ds vs cur boolean x w c (u .test)) .answer z)
-              ∙ ap {B = Result Value} (λ (v : Bool). if v then evalErased f (valuesOf (contents vs)) x else evalErased g (valuesOf (contents vs)) x) q))
-              (i .leaves ds vs cur b x w c (u .no));
+              leaves-from (sym (choice-told vs x false (h .leaves ds vs cur boolean x w c (u .test)) z q)) (i .leaves ds vs cur b x w c (u .no));
         }

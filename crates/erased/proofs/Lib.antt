@@ -7,3 +7,7 @@ pub mod Stacking
 pub mod Cycle
 pub mod Walking
 pub mod Yokes
+pub mod Keeping
+pub mod Satisfying
+pub mod Assigning
+pub mod Instructions

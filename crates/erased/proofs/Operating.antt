@@ -11,6 +11,7 @@ use Rattle.lingua.specs.Value.{Value}
 use Rattle.lingua.specs.Operation.{Unary, Binary}
 use Rattle.lingua.specs.Compute.{unaryValue, binaryValue}
 use Rattle.cells.specs.Stack.{Lies, Leaves}
+use Rattle.cells.proofs.Operands.{lies-above}
 use Rattle.cells.specs.Operands.{Operand, HasOperand, Operands, HasOperands}
 use Rattle.erased.specs.Meaning.{UnaryRow, HasUnary, BinaryRow, HasBinary}
 use Rattle.erased.proofs.Leaving.{leaves-fail, leaves-from}
@@ -32,12 +33,9 @@ module _ {layout : List ℕ} {o : Unary} {row a : ℕ} {s : List ℤ} (cells res
       leaves-from (ap {B = Result Value} (λ (q : Result Value). q >>= λ x. unaryValue o x) (sym (k .is))) (f _ _ _ (operand-of u (k .lies)))
 
 -- ---- two operands
-above : {s : List ℤ} {b : Body} {v : Value} → Lies (drop body-cells s) 0 b v → Lies s body-cells b v
-above h = record { cells = h .cells; fit = h .fit }
-
 module _ {layout : List ℕ} {o : Binary} {row a b : ℕ} {s : List ℤ} (cells others offset : ℕ) (ec : cells ≡ getD layout (2 * a) 0) (er : others ≡ getD layout (2 * b) 0) (eo : offset ≡ getD layout (2 * row + 1) 0) where
   operands-of : {c d g : Body} {v w : Value} → BinaryRow layout o row a b c d g → Lies s 0 c v → Lies (drop body-cells s) 0 d w → Operands o s cells others offset c d g v w
-  operands-of u l k = record { half = u .half; cells-are = sym (ec ∙ u .first-at); others-are = sym (er ∙ u .other-at); offset-is = sym (eo ∙ u .second-at); small = u .small; small-other = u .small-other; lies = l; lies-other = above k }
+  operands-of u l k = record { half = u .half; cells-are = sym (ec ∙ u .first-at); others-are = sym (er ∙ u .other-at); offset-is = sym (eo ∙ u .second-at); small = u .small; small-other = u .small-other; lies = l; lies-other = lies-above k }
 
   pub binary-has : {n m : ℕ} → HasBinary layout o row a b n m s → n ≡ 0 → m ≡ 0 → HasOperands o s cells others offset
   binary-has h e f =

@@ -23,7 +23,7 @@ use Rattle.safety.specs.Checked.{entry}
 use Rattle.safety.specs.Derivation.{Derived, of-constant, of-variable, of-current, of-unary, of-binary, of-lazy, of-choice, of-all-list}
 use Rattle.safety.specs.Layout.{HoldsIn}
 use Rattle.safety.specs.Sizes.{Small, derived-size, tree-small}
-use Rattle.profile.specs.Yokes.{number-of}
+use Rattle.safety.specs.Named.{number-of}
 use Rattle.rules.specs.declared.tables.Table.{Table}
 use Rattle.erased.specs.Meaning.{World, Current, Passed}
 

@@ -1,36 +1,22 @@
 -- Booleans on the stack, and what is seen of an all-list yoke's results, one more at a time. Assumes nothing.
 use mathlib.Core.Path.{_≡_, refl, sym, ap, _∙_}
-use mathlib.Core.Bool.{Bool, true, false, _&&_}
+use mathlib.Core.Bool.{Bool, true, false, _&&_, and-true, and-false}
 use mathlib.Core.List.{List, [], _∷_, _++_}
 use Prim.Native.Nat.{ℕ}
-use native.Mathlib.Omega.{arith}
 use lib.ListN.{getD}
 use lib.IntN.{ℤ, pos}
 use mir.Syntax.{w64}
 use mir.Val.{ofZ}
 use Rattle.lingua.specs.Outcome.{ok, fail, Result, allAnswers, _>>=_}
 use Rattle.lingua.specs.Body.{boolean}
-use Rattle.lingua.specs.Value.{Value, Fits, fit-truth, truth, asTruth, allOf, bit}
+use Rattle.lingua.specs.Value.{Value, Fits, fit-truth, truth, asTruth, allOf}
 use Rattle.cells.specs.Stack.{Lies, Leaves}
-use Rattle.cells.proofs.Singles.{boolean-cell}
-use Rattle.erased.specs.declared.answer.Truth.{Truth}
-use Rattle.erased.specs.Meaning.{Tells, allTold}
+use Rattle.cells.proofs.Singles.{truth-zero, truth-other}
+use Rattle.cells.proofs.Walking.{more, answers-snoc, all-snoc}
+use Rattle.steps.specs.declared.Truth.{Truth}
+use Rattle.steps.specs.Reached.{Tells}
+use Rattle.erased.specs.Meaning.{allTold}
 use Rattle.erased.proofs.Leaving.{leaves-ok, leaves-fail}
-
--- ---- a Boolean read from the stack
-zero-false : (t : Bool) → ofZ w64 (bit t) ≡ 0 → t ≡ false
-zero-false false e = refl
-zero-false true e = absurd (let k : ⊥ = omega arith in k)
-
-other-true : (t : Bool) → (ofZ w64 (bit t) ≡ 0 → ⊥) → t ≡ true
-other-true true f = refl
-other-true false f = absurd (f refl)
-
-truth-zero : {s : List ℤ} {v : Value} → Lies s 0 boolean v → ofZ w64 (getD s 0 (pos 0)) ≡ 0 → asTruth v ≡ false
-truth-zero {s} {v} h z = zero-false (asTruth v) (ap (λ (x : ℤ). ofZ w64 x) (sym (boolean-cell h)) ∙ z)
-
-truth-other : {s : List ℤ} {v : Value} → Lies s 0 boolean v → (ofZ w64 (getD s 0 (pos 0)) ≡ 0 → ⊥) → asTruth v ≡ true
-truth-other {s} {v} h f = other-true (asTruth v) (λ z. f (ap (λ (x : ℤ). ofZ w64 x) (boolean-cell h) ∙ z))
 
 -- a Boolean is its truth
 pub truth-is : {v : Value} → Fits v boolean → truth (asTruth v) ≡ v
@@ -60,39 +46,6 @@ module _ {n : ℕ} {s : List ℤ} {o : Result Value} (h : Leaves n s boolean o) 
   pub tells-true : n ≡ 0 → (ofZ w64 (getD s 0 (pos 0)) ≡ 0 → ⊥) → (r : Truth) → r .error ≡ 0 → r .holds ≡ true → Tells r (told o)
   tells-true e z r p q = tells-truth e true (truth-other (h .answer e .lies) z) r p q
 
--- ---- lists with one result more
-abbrev more : Result (List Value) → Result Value → Result (List Value)
-more m o = m >>= λ xs. o >>= λ y. ok (xs ++ (y ∷ []))
-
-carried : (a : Value) (m : Result (List Value)) (o : Result Value) → (more m o >>= λ rest. ok (a ∷ rest)) ≡ more (m >>= λ rest. ok (a ∷ rest)) o
-carried a (fail n) o = refl
-carried a (ok xs) (fail n) = refl
-carried a (ok xs) (ok y) = refl
-
-answers-snoc : (rs : List (Result Value)) (o : Result Value) → allAnswers (rs ++ (o ∷ [])) ≡ more (allAnswers rs) o
-unfolding allAnswers
-answers-snoc [] (ok y) = refl
-answers-snoc [] (fail n) = refl
-answers-snoc (fail n ∷ rs) o = refl
-answers-snoc (ok a ∷ rs) o = ap (λ (m : Result (List Value)). m >>= λ rest. ok (a ∷ rest)) (answers-snoc rs o) ∙ carried a (allAnswers rs) o
-
-and-true : (t : Bool) → (t && true) ≡ t
-and-true true = refl
-and-true false = refl
-
-and-false : (t : Bool) → (t && false) ≡ false
-and-false true = refl
-and-false false = refl
-
-and-assoc : (r s t : Bool) → (r && (s && t)) ≡ ((r && s) && t)
-and-assoc true s t = refl
-and-assoc false s t = refl
-
-all-snoc : (xs : List Value) (y : Value) → allOf asTruth (xs ++ (y ∷ [])) ≡ (allOf asTruth xs && asTruth y)
-unfolding allOf
-all-snoc [] y = and-true (asTruth y)
-all-snoc (x ∷ xs) y = ap (λ (t : Bool). asTruth x && t) (all-snoc xs y) ∙ and-assoc (asTruth x) (allOf asTruth xs) (asTruth y)
-
 -- the first error, then whether both are true
 abbrev both : Result Bool → Result Bool → Result Bool
 both p q = p >>= λ s. q >>= λ t. ok (s && t)
@@ -100,7 +53,7 @@ both p q = p >>= λ s. q >>= λ t. ok (s && t)
 told-more : (m : Result (List Value)) (o : Result Value) → (more m o >>= λ xs. ok (allOf asTruth xs)) ≡ both (m >>= λ xs. ok (allOf asTruth xs)) (told o)
 told-more (fail n) o = refl
 told-more (ok xs) (fail n) = refl
-told-more (ok xs) (ok y) = ap {B = Result Bool} ok (all-snoc xs y)
+told-more (ok xs) (ok y) = ap {B = Result Bool} ok (all-snoc asTruth xs y)
 
 told-snoc : (rs : List (Result Value)) (o : Result Value) → allTold (rs ++ (o ∷ [])) ≡ both (allTold rs) (told o)
 unfolding allTold

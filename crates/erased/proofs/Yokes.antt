@@ -1,35 +1,21 @@
 -- Yokes by their numbers, and the Boolean that stands for the current value outside yokes. Assumes nothing.
-use mathlib.Core.Path.{_≡_, refl, sym, ap, subst}
+use mathlib.Core.Path.{_≡_, refl, sym, subst}
 use mathlib.Core.Bool.{true}
 use mathlib.Core.List.{List, [], _∷_}
-use Prim.Native.Nat.{ℕ, zero, suc, _-_}
+use Prim.Native.Nat.{ℕ, _-_}
 use native.Mathlib.Omega.{arith}
 use lib.IntN.{ℤ, pos}
-use Rattle.lingua.specs.Outcome.{Result}
 use Rattle.lingua.specs.Body.{boolean, size}
-use Rattle.lingua.specs.Value.{Value, fit-truth, cellsOf, truth, asTruth}
+use Rattle.lingua.specs.Value.{fit-truth, cellsOf, truth, asTruth}
 use Rattle.lingua.specs.Evaluation.{no-current}
 use Rattle.lingua.specs.Expression.{Expression, Yoke, always, yoke}
-use Rattle.lingua.specs.Trees.{expressionTree, yokeTree}
 use Rattle.lingua.specs.Typing.{no-current-body}
 use Rattle.safety.specs.Derivation.{DerivedYoke}
-use Rattle.safety.specs.ErasedSteps.{yokeErased, testErased}
+use Rattle.safety.specs.ErasedSteps.{yokeErased}
 use Rattle.rules.specs.declared.tables.Table.{Table}
-use Rattle.cells.specs.Stack.{Lies, Leaves}
-use Rattle.erased.specs.declared.answer.Truth.{Truth}
-use Rattle.erased.specs.Meaning.{Current, Ready, ReadyYoke, ReadyPlain, Evaluates, EvaluatesYoke, EvaluatesPlain, EvaluatesTest, Tells}
+use Rattle.cells.specs.Stack.{Lies}
+use Rattle.erased.specs.Meaning.{Current, Ready, ReadyYoke, ReadyPlain, Evaluates, EvaluatesYoke, EvaluatesPlain}
 use Rattle.erased.proofs.Leaving.{leaves-ok}
-use Rattle.erased.proofs.Telling.{told}
-
-pub always-is : (rows : List ℕ) (y : ℕ) → y ≡ 0 → yokeTree rows y ≡ always
-unfolding yokeTree
-always-is rows zero e = refl
-always-is rows (suc y) e = absurd (let k : ⊥ = omega arith in k)
-
-pub yoke-is : (rows : List ℕ) (y : ℕ) → (y ≡ 0 → ⊥) → yokeTree rows y ≡ yoke (expressionTree rows (y - 1))
-unfolding yokeTree
-yoke-is rows zero f = absurd (f refl)
-yoke-is rows (suc y) f = ap (λ (k : ℕ). yoke (expressionTree rows k)) (let e : y ≡ suc y - 1 = omega arith in e)
 
 module _ {rows : List ℕ} {t : Table} {layout : List ℕ} {cells : List ℤ} {states : List ℕ} {now : List ℤ} {y : Yoke} where
   -- the yoke that is always true
@@ -52,7 +38,7 @@ module _ {rows : List ℕ} {t : Table} {layout : List ℕ} {cells : List ℤ} {s
       (record { leaves = λ ds vs cur x w c d. h .leaves ds vs cur boolean x w c d })
 
 -- ---- outside yokes
-none-current : Current (pos 0 ∷ []) no-current-body (no-current .value)
+pub none-current : Current (pos 0 ∷ []) no-current-body (no-current .value)
 unfolding cellsOf asTruth size
 none-current = record { lies = record { cells = refl; fit = fit-truth }; small = omega arith }
 
@@ -62,7 +48,3 @@ module _ {rows : List ℕ} {t : Table} {layout : List ℕ} {cells : List ℤ} {s
 
   pub plain-evaluates : {n : ℕ} {s : List ℤ} → Evaluates rows t layout cells states (pos 0 ∷ []) e n s → EvaluatesPlain rows t layout cells states e n s
   plain-evaluates h = record { leaves = λ ds vs b w d. h .leaves ds vs no-current-body b (no-current .value) w none-current d }
-
-  pub test-evaluates : {n : ℕ} {s : List ℤ} {r : Truth} → EvaluatesPlain rows t layout cells states e n s → ((o : Result Value) → Leaves n s boolean o → Tells r (told o)) → EvaluatesTest rows t layout cells states e r
-  unfolding testErased
-  test-evaluates h f = record { tells = λ ds vs w d. f _ (h .leaves ds vs boolean w d) }

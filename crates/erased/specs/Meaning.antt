@@ -1,33 +1,40 @@
 -- What the code of the erased run holds and gives: bare numbers, the layout table, and no body. The bodies stand in the premises alone, as the
 -- type check found them. Assumes nothing: these are definitions.
 use mathlib.Core.Path.{_≡_}
-use mathlib.Core.Bool.{Bool}
-use mathlib.Core.List.{List}
+use mathlib.Core.Bool.{Bool, true}
+use mathlib.Core.List.{List, map}
+use mathlib.Core.Option.{some}
 use Prim.Native.Nat.{ℕ, _+_, _*_, _≤_, _<_}
 use lib.IntN.{ℤ}
 use lib.ListN.{length, drop, getD}
-use Rattle.lingua.specs.Numbers.{body-cells, declaration-section, expression-section, layout-length, most-variables}
-use Rattle.lingua.specs.Errors.{no-error}
-use Rattle.lingua.specs.Outcome.{ok, fail, Result, _>>=_, allAnswers}
-use Rattle.lingua.specs.Body.{Body, boolean, size}
-use Rattle.lingua.specs.Value.{Value, asTruth, allOf}
+use Rattle.lingua.specs.Numbers.{body-cells, declaration-section, expression-section, instruction-section, layout-length, most-variables}
+use Rattle.lingua.specs.Outcome.{ok, Result, _>>=_, allAnswers}
+use Rattle.lingua.specs.Body.{Body, boolean, number, size}
+use Rattle.lingua.specs.Value.{Value, Composite, asTruth, allOf}
 use Rattle.lingua.specs.Operation.{Unary, Binary, unaryBody, binaryBody}
-use Rattle.lingua.specs.Expression.{Expression, Yoke}
+use Rattle.lingua.specs.Expression.{Expression, Yoke, Instruction, skip, assign, set-yoke, sequence, branch, loop, handle}
 use Rattle.lingua.specs.Evaluation.{no-current}
-use Rattle.lingua.specs.Rows.{pairCount}
-use Rattle.lingua.specs.Store.{Variable, contents, cellsIn, statesIn}
-use Rattle.lingua.specs.Run.{Declaration}
+use Rattle.lingua.specs.Rows.{tableCount, pairCount}
+use Rattle.lingua.specs.Store.{Limit, Variable, variableAt, contents, cellsIn, statesIn}
+use Rattle.lingua.specs.Run.{Declaration, unfilled}
 use Rattle.lingua.specs.Typing.{Bodies, bodiesOf, no-current-body, unarySecond, binarySecond}
+use Rattle.lingua.specs.Trees.{expressionTree, yokeTree, instructionTree}
+use Rattle.lingua.specs.Refusal.{isNumberVariable}
 use Rattle.safety.specs.Accepted.{AcceptedRows}
-use Rattle.safety.specs.Derivation.{Derived, DerivedYoke}
+use Rattle.safety.specs.Stored.{StoreKept}
+use Rattle.safety.specs.Programs.{YokesDerived}
+use Rattle.safety.specs.Derivation.{Derived, DerivedYoke, DerivedRow}
 use Rattle.safety.specs.Layout.{HoldsIn}
 use Rattle.safety.specs.TypeSound.{VariablesFit}
 use Rattle.safety.specs.Erasure.{valuesOf, evalErased}
-use Rattle.safety.specs.ErasedSteps.{yokeErased, testErased}
+use Rattle.safety.specs.ErasedSteps.{yokeErased, yokeHoldsErased}
+use Rattle.profile.specs.Variables.{LimitAt}
+use Rattle.profile.specs.Yokes.{YokeOf}
 use Rattle.rules.specs.Tables.{IsTable}
 use Rattle.rules.specs.declared.tables.Table.{Table}
 use Rattle.cells.specs.Stack.{Lies, Leaves, first-place}
-use Rattle.erased.specs.declared.answer.Truth.{Truth}
+use Rattle.stores.specs.Memory.{Memory, Admits}
+use Rattle.steps.specs.Reached.{Lent}
 
 -- accepted rows with their table, a layout table, and the caller's memory, which holds a store of the declared variables
 pub record World (rows : List ℕ) (t : Table) (layout : List ℕ) (cells : List ℤ) (states : List ℕ) (ds : List Declaration) (vs : List Variable) : Type 0 where
@@ -99,15 +106,6 @@ pub record EvaluatesPlain (rows : List ℕ) (t : Table) (layout : List ℕ) (cel
   pub leaves : (ds : List Declaration) (vs : List Variable) (b : Body) → World rows t layout cells states ds vs → Passed layout ds e no-current-body b
       → Leaves r stack b (evalErased e (valuesOf (contents vs)) (no-current .value))
 
--- a Boolean's value, or the error
-pub record Tells (r : Truth) (o : Result Bool) : Type 0 where
-  pub answer : r .error ≡ no-error → o ≡ ok (r .holds)
-  pub error : (r .error ≡ no-error → ⊥) → o ≡ fail (r .error)
-
--- a test's value
-pub record EvaluatesTest (rows : List ℕ) (t : Table) (layout : List ℕ) (cells : List ℤ) (states : List ℕ) (e : Expression) (r : Truth) : Type 0 where
-  pub tells : (ds : List Declaration) (vs : List Variable) → World rows t layout cells states ds vs → Passed layout ds e no-current-body boolean → Tells r (testErased e (valuesOf (contents vs)))
-
 -- the first error of an all-list yoke's results, or whether all are true
 unfoldable pub allTold : List (Result Value) → Result Bool
 allTold rs = do
@@ -115,15 +113,7 @@ allTold rs = do
   ok (allOf asTruth xs)
 
 -- ---- what a row's own work asks
--- the caller's memory holds a store whose values have the bodies of vars
-pub record Memory (cells : List ℤ) (states : List ℕ) (vs : List Variable) (vars : Bodies) : Type 0 where
-  pub cells-are : cells ≡ cellsIn vs
-  pub states-are : states ≡ statesIn vs
-  pub few : length vs ≤ most-variables
-  pub small : (n : ℕ) → size (vars n) ≤ body-cells
-  pub fit : VariablesFit vars (contents vs)
-
--- some such store, with a variable n of m cells
+-- memory with a store in it, and a variable n of m cells
 pub record HasVariable (cells : List ℤ) (states : List ℕ) (n m : ℕ) : Type 0 where
   pub store : List Variable
   pub bodies : Bodies
@@ -173,3 +163,100 @@ pub record HasBinary (layout : List ℕ) (o : Binary) (row a b first second : �
   pub leaves : Leaves first stack operand outcome
   pub other-outcome : Result Value
   pub other-leaves : Leaves second (drop body-cells stack) other other-outcome
+
+-- ---- what stores and tests of a run ask
+-- a store of a run: what the type check found of its current yokes and of every instruction row, and its limits, which number variables alone have
+pub record Running (rows : List ℕ) (t : Table) (layout : List ℕ) (limits : List ℤ) (l : Lent) (vs : List Variable) : Type 0 where
+  pub declarations : List Declaration
+  pub world : World rows t layout (l .cells) (l .states) declarations vs
+  pub kept : StoreKept (map unfilled declarations) vs
+  pub passed-yokes : YokesDerived (HoldsIn layout) (bodiesOf declarations) vs
+  pub passed-rows : (r : ℕ) → r < tableCount rows instruction-section → DerivedRow (HoldsIn layout) (bodiesOf declarations) (instructionTree rows r)
+  pub room : 3 * length vs ≤ length limits
+  pub limited : (n : ℕ) → n < length vs → LimitAt limits (3 * n) (variableAt vs n .limit)
+  pub limited-numbers : (n : ℕ) (b : Limit) → n < length vs → variableAt vs n .limit ≡ some b → bodiesOf declarations n ≡ number
+  pub number-variables : (n : ℕ) → isNumberVariable rows n ≡ true → bodiesOf declarations n ≡ number
+  pub yokes : (n : ℕ) → n < length vs → YokeOf rows (variableAt vs n .current)
+
+-- some such store
+pub record HasRunning (rows : List ℕ) (t : Table) (layout : List ℕ) (limits : List ℤ) (l : Lent) : Type 0 where
+  pub store : List Variable
+  pub running : Running rows t layout limits l store
+
+-- some limits, and such a store
+pub record HasStore (rows : List ℕ) (t : Table) (layout : List ℕ) (l : Lent) : Type 0 where
+  pub limits : List ℤ
+  pub has : HasRunning rows t layout limits l
+
+-- ---- what an instruction row says, for whichever row it is
+-- an assignment of expression row e to variable n
+pub record AssignRow (rows : List ℕ) (n e : ℕ) : Type 0 where
+  pub at : ℕ
+  pub there : at < tableCount rows instruction-section
+  pub is : instructionTree rows at ≡ assign at n (expressionTree rows e)
+
+-- a change of variable n's yoke to y
+pub record YokeRow (rows : List ℕ) (n y : ℕ) : Type 0 where
+  pub at : ℕ
+  pub there : at < tableCount rows instruction-section
+  pub is : instructionTree rows at ≡ set-yoke at n (yokeTree rows y)
+
+-- a test of expression row e
+unfoldable pub Tests : Instruction → Expression → Type 0
+Tests (skip r) e = ⊥
+Tests (assign r n f) e = ⊥
+Tests (set-yoke r n y) e = ⊥
+Tests (sequence r i j) e = ⊥
+Tests (branch r f i j) e = f ≡ e
+Tests (loop r f i) e = f ≡ e
+Tests (handle r n i) e = ⊥
+
+pub record TestRow (rows : List ℕ) (e : ℕ) : Type 0 where
+  pub at : ℕ
+  pub there : at < tableCount rows instruction-section
+  pub is : Tests (instructionTree rows at) (expressionTree rows e)
+
+-- ---- what the parts of a store ask and give
+-- a value of variable n's declared body, as width cells at a list's front
+pub record ValueFor (ds : List Declaration) (n width : ℕ) (value : List ℤ) (x : Composite) : Type 0 where
+  pub coherent : x .body ≡ bodiesOf ds n
+  pub lies : Lies value first-place (x .body) (x .value)
+  pub cells : width ≡ size (x .body)
+
+-- some store of a run with a variable n, and some such value
+pub record Storable (rows : List ℕ) (t : Table) (layout : List ℕ) (limits : List ℤ) (l : Lent) (n width : ℕ) (value : List ℤ) : Type 0 where
+  pub store : List Variable
+  pub running : Running rows t layout limits l store
+  pub there : n < length store
+  pub composite : Composite
+  pub is : ValueFor (running .declarations) n width value composite
+
+-- room for the limit, the cells and the flag of variable n, and for its value
+pub record StoreRoom (limits cells : List ℤ) (states : List ℕ) (n width : ℕ) (value : List ℤ) : Type 0 where
+  pub limit : 3 * n + 3 ≤ length limits
+  pub part : body-cells * n + body-cells ≤ length cells
+  pub flag : 2 * n < length states
+  pub narrow : width ≤ body-cells
+  pub front : body-cells ≤ length value
+
+-- a value that satisfies variable n's current yoke
+pub record Satisfies (vs : List Variable) (n : ℕ) (x : Composite) : Type 0 where
+  pub holds : yokeHoldsErased (variableAt vs n .current) (valuesOf (contents vs)) (some (x .value)) ≡ ok tt
+
+-- whether a value satisfies a yoke, for every store, value and body with which the type check passed it
+pub record AdmitsValue (rows : List ℕ) (t : Table) (layout : List ℕ) (cells : List ℤ) (states : List ℕ) (value : List ℤ) (y : Yoke) (r : ℕ) : Type 0 where
+  pub admits : (ds : List Declaration) (vs : List Variable) (cur : Body) (x : Value) → World rows t layout cells states ds vs → Current value cur x → PassedYoke layout ds y cur
+      → Admits r (yokeHoldsErased y (valuesOf (contents vs)) (some x))
+
+-- a new yoke that the type check passed, on variable n's declared body
+pub record HasChange (rows : List ℕ) (t : Table) (layout : List ℕ) (cells : List ℤ) (states : List ℕ) (n : ℕ) (y : Yoke) : Type 0 where
+  pub declarations : List Declaration
+  pub store : List Variable
+  pub world : World rows t layout cells states declarations store
+  pub there : n < length store
+  pub passed : PassedYoke layout declarations y (bodiesOf declarations n)
+
+-- whether variable n takes the yoke, for every store with which the type check passed it
+pub record AdmitsYoke (rows : List ℕ) (t : Table) (layout : List ℕ) (cells : List ℤ) (states : List ℕ) (n : ℕ) (y : Yoke) (r : ℕ) : Type 0 where
+  pub admits : (ds : List Declaration) (vs : List Variable) → World rows t layout cells states ds vs → n < length vs → PassedYoke layout ds y (bodiesOf ds n)
+      → Admits r (yokeHoldsErased y (valuesOf (contents vs)) (valuesOf (contents vs) n))

@@ -1,6 +1,5 @@
 // Evaluation descends the expression tree, the row number falling at each call. A value's cells lie at the stack's front;
 // the second operand of two is evaluated 64 cells further up. How many cells a value takes is read from the layout table.
-use crate::answer::Truth;
 use crate::answer::truth_of;
 use crate::layout::second_at;
 use crate::leaves::constant;
@@ -15,6 +14,7 @@ use lingua::sizes::BODY_CELLS;
 use profile::row::ExpressionRow;
 use profile::row::expression_row;
 use rules::tables::Table;
+use steps::Truth;
 ghost use Prim.Native.Nat.{_+_, _*_, _<_, _≤_};
 ghost use lib.ListN.{length};
 ghost use Rattle.lingua.specs.Numbers.{body-cells};

@@ -9,7 +9,7 @@ use stores::copies::copy;
 ghost use mathlib.Core.Path.{_≡_};
 ghost use mathlib.Core.List.{List};
 ghost use Prim.Native.Nat.{_+_, _*_, _<_, _≤_};
-ghost use lib.ListN.{length, drop, getD};
+ghost use lib.ListN.{length, getD};
 ghost use Rattle.lingua.specs.Numbers.{expression-section, body-cells};
 ghost use Rattle.lingua.specs.Errors.{not-filled};
 ghost use Rattle.lingua.specs.Outcome.{ok, orFail};
@@ -22,7 +22,8 @@ ghost use Rattle.rules.specs.Tables.{IsTable};
 ghost use Rattle.profile.specs.Row.{constantOf};
 ghost use Rattle.profile.specs.Constants.{ConstantRow};
 ghost use Rattle.cells.specs.Stack.{Leaves};
-ghost use Rattle.erased.specs.Meaning.{Current, HasCurrent, Memory, HasVariable};
+ghost use Rattle.stores.specs.Memory.{Memory};
+ghost use Rattle.erased.specs.Meaning.{Current, HasCurrent, HasVariable};
 
 // A constant takes one cell.
 pub fn constant(rows: &[u8], t: Table, row: usize, stack: &mut [i64]) -> u8

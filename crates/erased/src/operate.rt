@@ -64,6 +64,6 @@ pub fn binary(
     }
     let size = size_at(layout, a);
     let others = size_at(layout, b);
-    let offset = second_at(layout, row);
-    values::binary(o, stack, size, others, offset)
+    let place = second_at(layout, row);
+    values::binary(o, stack, size, others, place)
 }

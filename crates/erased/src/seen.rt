@@ -1,9 +1,9 @@
 // What is seen of the results of an all-list yoke, one for each element, all of them evaluated: the first error, and
 // whether all are true.
-use crate::answer::Truth;
 use crate::answer::put_truth;
 use crate::answer::truth_of;
 use lingua::errors::NO_ERROR;
+use steps::Truth;
 ghost use mathlib.Core.List.{List, [], _∷_, _++_};
 ghost use Prim.Native.Nat.{_<_};
 ghost use lib.ListN.{length};
@@ -11,7 +11,8 @@ ghost use Rattle.lingua.specs.Outcome.{ok, Result, _>>=_ as bind};
 ghost use Rattle.lingua.specs.Body.{boolean};
 ghost use Rattle.lingua.specs.Value.{Value, truth};
 ghost use Rattle.cells.specs.Stack.{Leaves};
-ghost use Rattle.erased.specs.Meaning.{Tells, allTold};
+ghost use Rattle.steps.specs.Reached.{Tells};
+ghost use Rattle.erased.specs.Meaning.{allTold};
 
 // One result more.
 pub fn noted(seen: Truth, error: u8, stack: &[i64]) -> Truth

@@ -1,7 +1,5 @@
 // Yokes, and expressions outside yokes.
-use crate::answer::Truth;
 use crate::answer::put_truth;
-use crate::answer::truth_of;
 use crate::eval::eval;
 use lingua::errors::NO_ERROR;
 use rules::tables::Table;
@@ -9,7 +7,7 @@ ghost use Prim.Native.Nat.{_+_, _*_, _<_, _≤_};
 ghost use lib.ListN.{length};
 ghost use Rattle.lingua.specs.Numbers.{body-cells};
 ghost use Rattle.lingua.specs.Trees.{expressionTree, yokeTree};
-ghost use Rattle.erased.specs.Meaning.{ReadyYoke, EvaluatesYoke, ReadyPlain, EvaluatesPlain, EvaluatesTest};
+ghost use Rattle.erased.specs.Meaning.{ReadyYoke, EvaluatesYoke, ReadyPlain, EvaluatesPlain};
 
 // What yoke y gives on a value: 0 is the yoke that is always true, another is the expression of row y - 1.
 pub fn eval_yoke(
@@ -51,23 +49,4 @@ pub fn eval_plain(
 {
     let current = [0i64; 1];
     eval(rows, t, layout, cells, states, row, &current, stack)
-}
-
-// A test's value.
-pub fn eval_test(
-    rows: &[u8],
-    t: Table,
-    layout: &[u16],
-    cells: &[i64],
-    states: &[u16],
-    row: usize,
-    stack: &mut [i64],
-) -> Truth
-    requires { ⌜ ReadyPlain (now rows) t (now layout) (now cells) (now states) (expressionTree (now rows) row) ⌝ }
-    requires { ⌜ row < t .count ⌝ }
-    requires { ⌜ body-cells * (row + 2) ≤ length (now stack) ⌝ }
-    ensures { λ r. ⌜ EvaluatesTest (now (rows .entry)) t (now (layout .entry)) (now (cells .entry)) (now (states .entry)) (expressionTree (now (rows .entry)) row) r ⌝ }
-{
-    let x = eval_plain(rows, t, layout, cells, states, row, &mut *stack);
-    truth_of(x, stack)
 }

@@ -7,35 +7,48 @@ use Prim.Native.Nat.{ℕ, _+_, _≤_}
 use native.Mathlib.Omega.{arith}
 use lib.Dec.{eqb, ltb}
 use borrow.Author.Tests.{not-true, ltb-false, eq-eqb}
-use Rattle.lingua.specs.Numbers.{body-cells}
+use Rattle.lingua.specs.Numbers.{body-cells, body-nodes, body-depth, record-attributes}
 use Rattle.lingua.specs.Errors.{number-expected, boolean-expected, word-expected, list-expected, record-expected, no-such-attribute, attribute-present, no-coherence, not-comparable, body-too-large}
 use Rattle.lingua.specs.Outcome.{ok, orFail, isSome, if_then_else_}
-use Rattle.lingua.specs.Body.{Body, boolean, number, word, list-of, record-of, Attributes, end, attribute, size, sizes, isBoolean, isNumber, isWord, isSimple, sameBody, elementBody, attributesOf, attributeBody, attributeOffset, insertAttribute, tooLarge}
+use Rattle.lingua.specs.Body.{Body, boolean, number, word, list-of, record-of, Attributes, end, attribute, size, sizes, nodes, depth, width, isBoolean, isNumber, isWord, isSimple, sameBody, elementBody, attributesOf, attributeBody, attributeOffset, insertAttribute, tooLarge}
+use Rattle.lingua.specs.WellFormed.{InBounds}
 use Rattle.lingua.specs.Operation.{Unary, negation, make-record, select, make-list, top, pop, Binary, add, subtract, multiply, divide, less, equal, glue, expand, change, push, bounded, present, unaryBody, numbersTo, binaryBody}
-use Rattle.laws.specs.Outcomes.{false-is-true, ok-same, required, orFail-ok, asked, and-left, and-right, same-body, is-boolean, is-number, is-word, is-list, is-record, none-is-some, some-same}
+use Rattle.laws.specs.Outcomes.{false-is-true, ok-same, required, orFail-ok, asked, and-left, and-right, or-left, or-right, same-body, is-boolean, is-number, is-word, is-list, is-record, none-is-some, some-same}
 
 -- ---- bounds
 pub bounded-is : {b d : Body} → bounded b ≡ ok d → d ≡ b
 unfolding bounded
 bounded-is {b} {d} e = sym (ok-same (required (not (tooLarge b)) body-too-large (ok b) d e .1))
 
-or-left : (s t : Bool) → (s || t) ≡ false → s ≡ false
-or-left true t e = e
-or-left false t e = refl
+-- no part of the test of bounds applies
+pub bounded-within : (b : Body) {d : Body} → bounded b ≡ ok d → tooLarge d ≡ false
+unfolding bounded
+bounded-within b {d} e =
+    let p = required (not (tooLarge b)) body-too-large (ok b) d e in
+    subst (λ (c : Body). tooLarge c ≡ false) (ok-same (p .1)) (not-true (tooLarge b) (p .0))
 
-or-first : (s t u v : Bool) → (s || t || u || v) ≡ false → s ≡ false
-or-first s t u v e = or-left s t (or-left (s || t) u (or-left (s || t || u) v e))
-
--- a body within its bounds has at most 64 cells
-pub small-body : (b : Body) → tooLarge b ≡ false → size b ≤ body-cells
+-- so a body is within its bounds, and a record has at most 8 attributes
+pub in-bounds : (b : Body) → tooLarge b ≡ false → InBounds b
 unfolding tooLarge
-small-body b e = ltb-false body-cells (size b) (or-first (ltb body-cells (size b)) _ _ _ e)
+in-bounds b e =
+    let cells = ltb body-cells (size b) in
+    let many = ltb body-nodes (nodes b) in
+    let deep = ltb body-depth (depth b) in
+    let p = or-left (cells || many || deep) (ltb record-attributes (width b)) e in
+    let q = or-left (cells || many) deep p in
+    record {
+      few-cells = ltb-false body-cells (size b) (or-left cells many q);
+      few-nodes = ltb-false body-nodes (nodes b) (or-right cells many q);
+      shallow = ltb-false body-depth (depth b) (or-right (cells || many) deep p);
+    }
+
+pub few-attributes : (b : Body) → tooLarge b ≡ false → width b ≤ record-attributes
+unfolding tooLarge
+few-attributes b e =
+    ltb-false record-attributes (width b) (or-right (ltb body-cells (size b) || ltb body-nodes (nodes b) || ltb body-depth (depth b)) (ltb record-attributes (width b)) e)
 
 pub bounded-small : (b : Body) {d : Body} → bounded b ≡ ok d → size d ≤ body-cells
-unfolding bounded
-bounded-small b {d} e =
-    let p = required (not (tooLarge b)) body-too-large (ok b) d e in
-    subst (λ (c : Body). size c ≤ body-cells) (ok-same (p .1)) (small-body b (not-true (tooLarge b) (p .0)))
+bounded-small b {d} e = in-bounds d (bounded-within b e) .few-cells
 
 -- ---- one operand
 pub negation-body : {b d : Body} → unaryBody negation b ≡ ok d → (b ≡ boolean) × (d ≡ boolean)
@@ -98,6 +111,7 @@ pub record Expands (n : ℕ) (b c d : Body) : Type 0 where
   pub is : b ≡ record-of attributes
   pub absent : present n attributes ≡ false
   pub result : d ≡ record-of (insertAttribute n c attributes)
+  pub within : tooLarge d ≡ false
   pub small : size d ≤ body-cells
 
 pub expand-body : {n : ℕ} {b c d : Body} → binaryBody (expand n) b c ≡ ok d → Expands n b c d
@@ -111,6 +125,7 @@ expand-body {n} {b} {c} {d} e =
       is = is-record b fs (p .1);
       absent = not-true (present n fs) (q .0);
       result = bounded-is (q .1);
+      within = bounded-within (record-of (insertAttribute n c fs)) (q .1);
       small = bounded-small (record-of (insertAttribute n c fs)) (q .1);
     }
 

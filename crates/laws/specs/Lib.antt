@@ -14,6 +14,7 @@ pub mod Parts
 pub mod Areas
 pub mod Stores
 pub mod Halves
+pub mod Formed
 pub mod Written
 pub mod Checks
 pub mod Accepted

@@ -1,6 +1,6 @@
 -- What an answer shows of the steps that led to it: each condition held, and each option held something. Assumes nothing.
 use mathlib.Core.Path.{_≡_, refl, sym, ap, ap₂, _∙_}
-use mathlib.Core.Bool.{Bool, true, false, _&&_}
+use mathlib.Core.Bool.{Bool, true, false, _&&_, _||_}
 use mathlib.Core.Option.{Option, some, none}
 use Prim.Native.Nat.{ℕ}
 use lib.Dec.{eqb}
@@ -43,6 +43,14 @@ and-right false t e = false-is-true e
 pub and-both : (s t : Bool) → s ≡ true → t ≡ true → (s && t) ≡ true
 and-both true t e f = f
 and-both false t e f = e
+
+pub or-left : (s t : Bool) → (s || t) ≡ false → s ≡ false
+or-left true t e = e
+or-left false t e = refl
+
+pub or-right : (s t : Bool) → (s || t) ≡ false → t ≡ false
+or-right true t e = false-is-true (sym e)
+or-right false t e = e
 
 -- an option that holds something with a property
 pub held : {A : Type 0} (m : Option A) (p : A → Bool) → holds m p ≡ true → (a : A) × (m ≡ some a) × (p a ≡ true)

@@ -1,16 +1,15 @@
 -- The store as lent memory: where a variable's cells and state words lie, and that a store changes just these.
 -- Carried by laws of lists that are made of parts of one length. Assumes nothing.
 use mathlib.Core.Path.{_≡_, refl, sym, ap, _∙_}
-use mathlib.Core.List.{List, [], _∷_, _++_, append-assoc, map}
-use mathlib.Core.Option.{Option, some, none}
+use mathlib.Core.List.{List, [], _∷_, _++_, append-assoc}
 use Prim.Native.Nat.{ℕ, zero, suc, _+_, _-_, _*_, _≤_, _<_}
 use native.Mathlib.Nat.{mul-suc, mul-zero, le-of-suc-le-suc}
 use native.Mathlib.Omega.{arith}
-use lib.ListN.{length, getD, take, drop, set, replicate, length-append, length-replicate, length-set}
-use lib.Seq.{paste, take-at, drop-at}
+use lib.ListN.{length, getD, take, drop, set, replicate, length-append, length-set}
+use lib.Seq.{paste, take-at, drop-at, getD-take, getD-drop}
 use lib.IntN.{ℤ, pos}
 use Rattle.lingua.specs.Numbers.{body-cells, cells-length, states-length}
-use Rattle.lingua.specs.Value.{pad, Composite}
+use Rattle.lingua.specs.Value.{pad}
 use Rattle.lingua.specs.Expression.{yokeNumber}
 use Rattle.lingua.specs.Store.{Variable, no-variable, variableAt, contentCells, filledFlag, storeCells, storeStates, cellsIn, statesIn}
 use Rattle.laws.specs.Lists.{length-pad, paste-at}
@@ -132,6 +131,11 @@ pub data Small : List Variable → Type 0 where
   small-none : Small []
   small-more : {v : Variable} {vs : List Variable} → length (contentCells (v .content)) ≤ body-cells → Small vs → Small (v ∷ vs)
 
+-- from each content's bound
+pub small-by : (vs : List Variable) → ((n : ℕ) → n < length vs → length (contentCells (variableAt vs n .content)) ≤ body-cells) → Small vs
+small-by [] f = small-none
+small-by (v ∷ vs) f = small-more (f 0 (omega arith)) (small-by vs (λ n l. f (suc n) (let k : suc n < length (v ∷ vs) = omega arith in k)))
+
 pub small-sized : {vs : List Variable} → Small vs → Sized variableCells body-cells vs
 small-sized small-none = sized-none
 small-sized (small-more {v} {vs} h hs) = sized-more (length-pad body-cells (pos 0) (contentCells (v .content)) h) (small-sized hs)
@@ -156,6 +160,20 @@ module _ (vs : List Variable) (n : ℕ) (lt : n < length vs) where
   pub states-at : take 2 (drop (2 * n) (statesIn vs)) ≡ variableStates (variableAt vs n)
   unfolding statesIn
   states-at = rw (store-states-parts vs) (part-at variableStates 2 states-length 0 vs (states-sized vs) n lt no-variable)
+
+  -- its two state words, each for itself: whether it is filled, and its yoke
+  pub flag-at : getD (statesIn vs) (2 * n) 0 ≡ filledFlag (variableAt vs n .content)
+  flag-at =
+      ap (λ (k : ℕ). getD (statesIn vs) k 0) (let e : 2 * n ≡ 2 * n + 0 = omega arith in e)
+      ∙ sym (getD-drop (2 * n) (statesIn vs) 0 0)
+      ∙ sym (getD-take 2 (drop (2 * n) (statesIn vs)) 0 0 (omega arith))
+      ∙ ap (λ (l : List ℕ). getD l 0 0) states-at
+
+  pub yoke-at : getD (statesIn vs) (2 * n + 1) 0 ≡ yokeNumber (variableAt vs n .current)
+  yoke-at =
+      sym (getD-drop (2 * n) (statesIn vs) 1 0)
+      ∙ sym (getD-take 2 (drop (2 * n) (statesIn vs)) 1 0 (omega arith))
+      ∙ ap (λ (l : List ℕ). getD l 1 0) states-at
 
   pub states-set : (v : Variable) → statesIn (set vs n v) ≡ paste (statesIn vs) (2 * n) (variableStates v) 2
   unfolding statesIn

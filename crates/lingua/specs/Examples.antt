@@ -2,21 +2,23 @@
 use mathlib.Core.Path.{_≡_, refl}
 use mathlib.Core.Bool.{true}
 use mathlib.Core.List.{List, [], _∷_, _++_}
-use mathlib.Core.Option.{none}
+use mathlib.Core.Option.{some, none}
 use Prim.Native.Nat.{ℕ}
+use native.Mathlib.Omega.{arith}
 use lib.ListN.{take, drop, set, replicate}
 use lib.IntN.{ℤ, pos}
-use Rattle.lingua.specs.Errors.{overflow, division-by-zero, yoke-not-satisfied, number-expected, attribute-present, body-too-large, bad-marker, bad-check, type-error-found}
+use Rattle.lingua.specs.Errors.{overflow, division-by-zero, yoke-not-satisfied, number-expected, attribute-present, no-coherence, yoke-expected, body-too-large, bad-marker, bad-check, type-error-found}
 use Rattle.lingua.specs.Outcome.{Outcome, ok, fail, Result, _>>=_}
 use Rattle.lingua.specs.Body.{Body, boolean, number, word, list-of, record-of, end, attribute}
+use Rattle.lingua.specs.WellFormed.{InBounds, WellFormed, formed-number, formed-record, formed-end, formed-attribute}
 use Rattle.lingua.specs.Value.{whole, text, items, item, no-items, fields, field, no-fields, cellsOf, pad, Composite, composite}
-use Rattle.lingua.specs.Operation.{make-record, select, pop, add, less, expand, unaryBody, binaryBody}
-use Rattle.lingua.specs.Expression.{constant, variable, unary, binary, always, Instruction, skip, assign, set-yoke, sequence, loop, handle}
+use Rattle.lingua.specs.Operation.{negation, make-record, select, pop, add, divide, less, expand, unaryBody, binaryBody}
+use Rattle.lingua.specs.Expression.{constant, variable, current, unary, binary, all-list, always, yoke, Instruction, skip, assign, set-yoke, sequence, loop, handle}
 use Rattle.lingua.specs.Evaluation.{applyUnary, applyBinary, no-current}
 use Rattle.lingua.specs.Store.{Reading, statesIn}
 use Rattle.lingua.specs.Run.{Profile, run, lastState}
 use Rattle.lingua.specs.Typing.{TypeError, Typed, check, layoutOf}
-use Rattle.lingua.specs.Meets.{met}
+use Rattle.lingua.specs.Meets.{met, runMet}
 use Rattle.lingua.specs.Format.{profile, limits, blockCheck, fileOf, rowsOf}
 use Rattle.lingua.specs.Answers.{refused, answered, Ending, ending, faulted}
 use Rattle.lingua.specs.Calls.{endingOf, checkCall, erasedCall}
@@ -71,6 +73,23 @@ pub fifth-level : (unaryBody (make-record 0) number >>= λ b. unaryBody (make-re
 unfolding computing
 fifth-level = refl
 
+-- ---- well-formed bodies
+-- attributes 1 and 5 ascend; 5 and 1 do not
+pub ascending-attributes : WellFormed (one-and-five .body)
+unfolding computing
+ascending-attributes =
+    let within : InBounds (one-and-five .body) = record { few-cells = omega arith; few-nodes = omega arith; shallow = omega arith } in
+    formed-record within (omega arith) (omega arith)
+    (formed-attribute {n = 0} {m = 1} (omega arith) (omega arith) formed-number (formed-attribute {n = 2} {m = 5} (omega arith) (omega arith) formed-number formed-end))
+
+pub descending-attributes : WellFormed (record-of (attribute 5 number (attribute 1 number end))) → ⊥
+descending-attributes (formed-record b l m (formed-attribute p q f (formed-attribute r s g h))) = omega arith
+
+-- a record without attributes is none
+pub no-attributes : WellFormed (record-of end) → ⊥
+unfolding computing
+no-attributes (formed-record b l m h) = omega arith
+
 -- ---- runs
 abbrev pub reading : ℤ → List Reading
 reading z = record { variable = 0; number = z } ∷ []
@@ -116,10 +135,52 @@ pub kept-yoke : statesIn (lastState (run (limited (sequence 2 (assign 0 0 (liter
 unfolding computing
 kept-yoke = refl
 
+-- ---- errors that are met
 -- true + 1/0 meets both errors, though it gives 2: the divisor's own check and the division's, then the sum's first operand's
 pub both-met : met (binary 3 add (truth-literal true) one-by-zero) (λ n. none) no-current ≡ division-by-zero ∷ division-by-zero ∷ number-expected ∷ []
 unfolding computing
 both-met = refl
+
+abbrev pub zero-and-one : Composite
+zero-and-one = composite (list-of number) (items (item (whole (pos 0)) (item (whole (pos 1)) no-items)))
+
+-- an all-list of (1,000,000 + value)/value < 5 on 0 and 1 gives 2, and meets the second element's overflow too
+pub later-element-met : met (all-list 7 (binary 6 less (binary 4 divide (binary 2 add (literal (pos 1000000)) (current 1)) (current 3)) (literal (pos 5)))) (λ n. none) zero-and-one
+    ≡ division-by-zero ∷ division-by-zero ∷ overflow ∷ []
+unfolding computing
+later-element-met = refl
+
+-- one of 10/value on 0 and 1 gives 2, and meets that the second element's result is no Boolean
+pub other-element-met : met (all-list 3 (binary 2 divide (literal (pos 10)) (current 1))) (λ n. none) zero-and-one ≡ division-by-zero ∷ division-by-zero ∷ yoke-expected ∷ []
+unfolding computing
+other-element-met = refl
+
+abbrev pub meetsIn : Profile → List Reading → List ℕ
+meetsIn p rs = runMet p rs 9
+
+-- a number variable assigned true: its yoke, not value, gives false, and its body is another
+pub yoke-and-body-met : meetsIn (program (speed (yoke (unary 1 negation (current 0))) none) (assign 0 0 (truth-literal true))) [] ≡ yoke-not-satisfied ∷ no-coherence ∷ []
+unfolding computing
+yoke-and-body-met = refl
+
+-- limits of 5 to 600 say nothing of true
+pub limits-of-numbers : meetsIn (program (speed always (some (record { low = pos 5; high = pos 600 }))) (assign 0 0 (truth-literal true))) [] ≡ no-coherence ∷ []
+unfolding computing
+limits-of-numbers = refl
+
+-- what a handler clears was met
+pub cleared-met : meetsIn (limited (sequence 3 (assign 0 0 (literal (pos 601))) (handle 2 yoke-not-satisfied (skip 1)))) [] ≡ yoke-not-satisfied ∷ []
+unfolding computing
+cleared-met = refl
+
+-- a reading out of range is not asked for its limits; one outside them meets 3
+pub wide-reading-met : meetsIn (limited (skip 0)) (reading (pos 1000001)) ≡ overflow ∷ []
+unfolding computing
+wide-reading-met = refl
+
+pub fast-reading-met : meetsIn (limited (skip 0)) (reading (pos 601)) ≡ yoke-not-satisfied ∷ []
+unfolding computing
+fast-reading-met = refl
 
 -- ---- the type check
 abbrev pub layoutIn : Outcome TypeError Typed → List ℕ

@@ -2,6 +2,7 @@ pub mod Numbers
 pub mod Errors
 pub mod Outcome
 pub mod Body
+pub mod WellFormed
 pub mod Value
 pub mod Operation
 pub mod Compute

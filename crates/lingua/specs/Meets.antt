@@ -1,6 +1,7 @@
 -- Every error that a run meets: what any check gives, also one that an earlier error hides or a handler clears
 -- (document 01, The contract and the cases). An operand in error does not hide the checks of the other operand alone,
--- and an assignment's checks do not hide each other. What is not evaluated meets nothing. Assumes nothing: these are definitions.
+-- and an assignment's yoke and body do not hide each other; of a value of another body no limits are asked. What is not
+-- evaluated meets nothing. Assumes nothing: these are definitions.
 use mathlib.Core.Bool.{Bool, true, false, not, Bool·beq}
 use mathlib.Core.List.{List, [], _∷_, _++_, map}
 use mathlib.Core.Option.{Option, some, none}
@@ -130,12 +131,12 @@ yokeChecksMet y vars x =
     ++ onAnswer (truthOr yoke-expected r) (λ t. unlessMet t yoke-not-satisfied))
 
 -- ---- instructions
--- an assignment of a value: its yoke, its body and its limits, each for itself
+-- an assignment of a value: its yoke and its body, each for itself, and its limits where it is of the variable's body
 unfoldable pub assignMet : List Variable → ℕ → Composite → List ℕ
 assignMet vs n x =
     yokeChecksMet (variableAt vs n .current) (contents vs) x
     ++ unlessMet (sameBody (variableAt vs n .body) (x .body)) no-coherence
-    ++ unlessMet (within (variableAt vs n .limit) (asWhole (x .value))) yoke-not-satisfied
+    ++ onTrue (sameBody (variableAt vs n .body) (x .body)) (unlessMet (within (variableAt vs n .limit) (asWhole (x .value))) yoke-not-satisfied)
 
 unfoldable pub testMet : Expression → Variables → List ℕ
 testMet e vars = met e vars no-current ++ onAnswer (eval e vars no-current) (λ x. errorIn (truthOr boolean-expected x))

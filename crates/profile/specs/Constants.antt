@@ -30,6 +30,10 @@ use Rattle.profile.specs.Accepted.{constant-bytes}
 pub record IsCell (z : ℤ) (x : Composite) : Type 0 where
   pub is : cellsOf (x .body) (x .value) ≡ z ∷ []
 
+-- the same of an equal cell
+pub cell-as : {z y : ℤ} {x : Composite} → z ≡ y → IsCell z x → IsCell y x
+cell-as {x = x} e h = subst (λ (k : ℤ). IsCell k x) e h
+
 -- row r of the expressions is a constant in range
 pub record ConstantRow (rows : List ℕ) (r : ℕ) : Type 0 where
   pub kind-least : 1 ≤ kindAt rows (rowIn rows expression-section r)

@@ -1,13 +1,13 @@
 -- What acceptance shows of a row as the code has it: what it names is there, and its tree by those of the rows that it names.
 -- Assumes nothing.
 use mathlib.Core.Path.{_≡_, refl, sym, ap, ap₂, _∙_, subst}
-use mathlib.Core.Bool.{Bool, true, false}
+use mathlib.Core.Bool.{Bool, true, false, Bool·beq}
 use mathlib.Core.List.{List, [], _∷_, _++_}
 use Prim.Native.Nat.{ℕ, zero, suc, _<_}
 use Rattle.lingua.specs.Numbers.{declaration-section, expression-section, instruction-section}
 use Rattle.lingua.specs.Errors.{last-error}
 use Rattle.lingua.specs.Value.{Composite}
-use Rattle.lingua.specs.Expression.{Expression, constant, variable, current, unary, binary, lazy, choice, all-list, Instruction, skip, assign, set-yoke, sequence, branch, loop, handle}
+use Rattle.lingua.specs.Expression.{Expression, settledBy, constant, variable, current, unary, binary, lazy, choice, all-list, Instruction, skip, assign, set-yoke, sequence, branch, loop, handle}
 use Rattle.lingua.specs.Operations.{unaryMeaning, binaryMeaning}
 use Rattle.lingua.specs.Rows.{tableCount, pairCount, ExpressionRow, expressionRow, operands, InstructionRow, instructionRow, parts, evaluated, yokeRoot, yokeSet}
 use Rattle.lingua.specs.Trees.{lower, no-expression, expressionOf, expressionTree, yokeTree, instructionOf, instructionTree}
@@ -25,6 +25,18 @@ use Rattle.profile.specs.Constants.{ConstantRow, constant-row-is}
 use Rattle.profile.specs.Unrolled.{lower-is, expression-unrolled, instruction-unrolled}
 
 -- ---- expressions
+-- the same of an equal row
+pub says-as : {rows : List ℕ} {r : ℕ} {c d : CodeRow} → c ≡ d → RowSays rows r c → RowSays rows r d
+says-as {rows} {r} e s = subst (λ (k : CodeRow). RowSays rows r k) e s
+
+-- and, or are settled by the value that the code has
+settles : (t : Bool) → settledBy (connective t) ≡ t
+settles true = refl
+settles false = refl
+
+pub settled-by : (s t u : Bool) → Bool·beq s t ≡ u → Bool·beq s (settledBy (connective t)) ≡ u
+settled-by s t u e = ap (λ (r : Bool). Bool·beq s r) (settles t) ∙ e
+
 -- operands are lower rows, a variable is declared, and a constant is in range
 unfoldable pub RowFacts : List ℕ → ℕ → CodeRow → Type 0
 RowFacts rows r code.Constant = ConstantRow rows r

@@ -16,6 +16,7 @@ use Rattle.lingua.specs.Format.{rowsOf}
 use Rattle.lingua.specs.Refusal.{lowest, pairRules}
 use Rattle.lingua.specs.Answers.{Answer, refused, answered, Ending}
 use Rattle.lingua.specs.Report.{digitsIn, decimal, signedDecimal, endLine, cellTexts, refusedText}
+use Rattle.safety.specs.Accepted.{length-until}
 use Rattle.safety.specs.Accepted.{AcceptedRows, accepted-pair}
 use Rattle.safety.specs.Memory.{declared-size}
 use Rattle.profile.specs.Accepted.{counts}
@@ -57,15 +58,6 @@ unfolding cellTexts
 cells-length-most [] = omega arith
 cells-length-most (z ∷ zs) = simp length-append (omega (arith, signed-length z, cells-length-most zs))
 
-until-length : (cs : List ℕ) → length (untilZero cs) ≤ length cs
-unfolding untilZero
-until-length [] = omega arith
-until-length (c ∷ cs) = go (eqb c 0) (until-length cs)
-  where
-    go : (t : Bool) → length (untilZero cs) ≤ length cs → length (if t then [] else c ∷ untilZero cs) ≤ suc (length cs)
-    go true h = omega arith
-    go false h = omega arith
-
 content-length : (filled : Bool) (zs : List ℤ) → length zs ≤ 64 → length (contentOf filled zs) ≤ 1408
 unfolding contentOf
 content-length true zs h = omega (arith, cells-length-most zs)
@@ -85,7 +77,7 @@ module _ (rows : List ℕ) (accepted : AcceptedRows rows) (cells : List ℤ) (st
   unfolding memoryLine variableLine
   line-length d l =
       simp length-append
-      (omega (arith, until-length (nameAt rows declaration-section d), name-length rows d, content-length (filledAt states d) (bodyCells rows cells d) (body-length d l)))
+      (omega (arith, length-until (nameAt rows declaration-section d), name-length rows d, content-length (filledAt states d) (bodyCells rows cells d) (body-length d l)))
 
   lines-length : (d n : ℕ) → d + n ≤ pairCount rows declaration-section → length (memoryLines rows cells states d n) ≤ 1417 * n
   unfolding memoryLines

@@ -1,7 +1,7 @@
 // The whole report.
 use crate::answers::put_answer;
 use crate::variables::put_variables;
-use desk::call::run_checked;
+use calls::checked_run::run_checked;
 ghost use Prim.Native.Nat.{_≤_};
 ghost use lib.ListN.{length};
 ghost use Rattle.lingua.specs.Report.{reportText};

@@ -12,7 +12,7 @@ use lib.Dec.{eqb, ltb, leb}
 use lib.ListN.{length, getD, drop, length-take}
 use borrow.Author.Tests.{eqb-true, eqb-false, ltb-true, leb-true, le-leb, not-false, not-true}
 use Rattle.lingua.specs.Numbers.{row-bytes, word-length, most-variables, most-types, most-expressions, most-instructions, declaration-section, type-section, expression-section, instruction-section, limit-section}
-use Rattle.lingua.specs.Errors.{no-error, last-error}
+use Rattle.lingua.specs.Errors.{last-error}
 use Rattle.lingua.specs.Outcome.{ok, fail, Result, isOk, if_then_else_}
 use Rattle.lingua.specs.Body.{Body, boolean, number, word, size}
 use Rattle.lingua.specs.Value.{truth, whole, text, fit-truth, fit-whole, fit-text, inRange, isCharacter, allOf, isText, Composite, composite}
@@ -25,8 +25,9 @@ use Rattle.lingua.specs.Trees.{tabulate, typeBody, expressionTree, yokeTree, in
 use Rattle.lingua.specs.Format.{profile, everyBelow, allZero, rowsOf}
 use Rattle.lingua.specs.Rules.{usedBytes, sectionBelongs, bytesFit, rowFits, ascending, paired, formWrong, between, countWrong, paddedBy, constantFits, attributesFit, expressionAttributes, typeAttributes, handledErrors, constantWrong}
 use Rattle.lingua.specs.References.{allBelow, declaredYoke, declarationRefers, expressionRefers, instructionRefers, instructionVariables, typeParts, referenceWrong, occurrences, expressionUses, instructionUses, useWrong, yokeRoots, plainRoots, readsVariable, readsCurrent, placeWrong, typeWrong}
-use Rattle.lingua.specs.Refusal.{Rule, rule, lower-of, lowest, fileRules, rowRules, wholeFileRules, pairRules}
+use Rattle.lingua.specs.Refusal.{Rule, rule, lowest, fileRules, rowRules, wholeFileRules, pairRules}
 use Rattle.laws.specs.Outcomes.{false-is-true, and-left, and-right, and-both}
+use Rattle.laws.specs.Refusals.{lowest-none}
 use Rattle.safety.specs.Answers.{true-is-false}
 use Rattle.safety.specs.Every.{Every, every-more, every-left, every-right, every-implies, every-joined-part, every-tabulate, tabulated, all-true, below-true}
 use Rattle.safety.specs.Constants.{Fitting, ConstantsHave, constants-imply, ConstantsFit, ClosedYoke}
@@ -35,18 +36,8 @@ use Rattle.safety.specs.Forest.{ConstantHas, tree-has, tree-everywhere}
 use Rattle.safety.specs.Invariant.{WellMade, WellMadeProfile, FilledWell, run-invariant}
 
 -- ---- no rule applies
-lower-none : (n : ℕ) (b : Bool) (m : ℕ) → ltb 0 n ≡ true → lower-of n b m ≡ 0 → (b ≡ false) × (m ≡ 0)
-lower-none n true m p e = absurd (go (eqb m no-error) refl (ltb n m) e)
-  where
-    go : (t : Bool) → eqb m no-error ≡ t → (u : Bool) → (if t then n else (if u then n else m)) ≡ 0 → ⊥
-    go true q u z = omega (arith, ltb-true 0 n p)
-    go false q true z = omega (arith, ltb-true 0 n p)
-    go false q false z = eqb-false m no-error q z
-lower-none n false m p e = (refl, e)
-
 pub none-applies : (n : ℕ) (b : Bool) (rs : List Rule) → ltb 0 n ≡ true → lowest (rule n b ∷ rs) ≡ 0 → (b ≡ false) × (lowest rs ≡ 0)
-unfolding lowest
-none-applies n b rs p e = lower-none n b (lowest rs) p e
+none-applies n b rs p e = lowest-none n b rs (ltb-true 0 n p) e
 
 -- the rows of a profile to which no rule applies
 pub record AcceptedRows (rows : List ℕ) : Type 0 where
@@ -111,7 +102,7 @@ characters (c ∷ cs) e = go (eqb c 0) e (λ q. characters cs q)
         and-both (isCharacter c) (allOf isCharacter (untilZero cs)) (and-left (isCharacter c) (paddedBy isCharacter cs) q)
         (ih (and-right (isCharacter c) (paddedBy isCharacter cs) q))
 
-length-until : (cs : List ℕ) → length (untilZero cs) ≤ length cs
+pub length-until : (cs : List ℕ) → length (untilZero cs) ≤ length cs
 unfolding untilZero
 length-until [] = omega arith
 length-until (c ∷ cs) = go (eqb c 0) (length-until cs)
@@ -152,18 +143,20 @@ constant-by rows i k false false false a b c n l e =
     let z : k ≢ 3 = eqb-false k 3 c in
     absurd (let q : ⊥ = omega arith in q)
 
-row-if : (t : Bool) (a b : ExpressionRow) → ConstantHas Plain a → ConstantHas Plain b → ConstantHas Plain (if t then a else b)
-row-if true a b p q = p
-row-if false a b p q = q
+module _ (P : Composite → Type 0) where
+  row-if : (t : Bool) (a b : ExpressionRow) → ConstantHas P a → ConstantHas P b → ConstantHas P (if t then a else b)
+  row-if true a b p q = p
+  row-if false a b p q = q
 
-other-kinds : (k a b c : ℕ) → ConstantHas Plain (expressionKind k a b c)
-unfolding expressionKind ConstantHas
-other-kinds k a b c =
-    row-if (eqb k 4) _ _ tt (row-if (eqb k 5) _ _ tt (row-if (eqb k 6) _ _ tt (row-if (eqb k 7) _ _ tt (row-if (eqb k 8) _ _ tt
-    (row-if (eqb k 9) _ _ tt (row-if (eqb k 10) _ _ tt (row-if (eqb k 11) _ _ tt (row-if (eqb k 12) _ _ tt (row-if (eqb k 13) _ _ tt
-    (row-if (eqb k 14) _ _ tt (row-if (eqb k 15) _ _ tt (row-if (eqb k 16) _ _ tt (row-if (eqb k 17) _ _ tt (row-if (eqb k 18) _ _ tt
-    (row-if (eqb k 19) _ _ tt (row-if (eqb k 20) _ _ tt (row-if (eqb k 21) _ _ tt (row-if (eqb k 22) _ _ tt (row-if (eqb k 23) _ _ tt
-    (row-if (eqb k 24) _ _ tt tt))))))))))))))))))))
+  -- kinds 4 to 25 have no constant
+  pub other-kinds : (k a b c : ℕ) → ConstantHas P (expressionKind k a b c)
+  unfolding expressionKind ConstantHas
+  other-kinds k a b c =
+      row-if (eqb k 4) _ _ tt (row-if (eqb k 5) _ _ tt (row-if (eqb k 6) _ _ tt (row-if (eqb k 7) _ _ tt (row-if (eqb k 8) _ _ tt
+      (row-if (eqb k 9) _ _ tt (row-if (eqb k 10) _ _ tt (row-if (eqb k 11) _ _ tt (row-if (eqb k 12) _ _ tt (row-if (eqb k 13) _ _ tt
+      (row-if (eqb k 14) _ _ tt (row-if (eqb k 15) _ _ tt (row-if (eqb k 16) _ _ tt (row-if (eqb k 17) _ _ tt (row-if (eqb k 18) _ _ tt
+      (row-if (eqb k 19) _ _ tt (row-if (eqb k 20) _ _ tt (row-if (eqb k 21) _ _ tt (row-if (eqb k 22) _ _ tt (row-if (eqb k 23) _ _ tt
+      (row-if (eqb k 24) _ _ tt tt))))))))))))))))))))
 
 module _ (rows : List ℕ) (accepted : AcceptedRows rows) where
   form-holds : (everyBelow (rowCount rows) (λ i. rowFits profile rows i) ≡ true) × (ascending rows ≡ true)
@@ -180,16 +173,30 @@ module _ (rows : List ℕ) (accepted : AcceptedRows rows) where
       has-kind (sectionAt rows i) (kindAt rows i) (bytesAt rows i) (at .in-section)
       (and-right (sectionBelongs profile (sectionAt rows i)) _ (below-true (rowCount rows) (λ j. rowFits profile rows j) (form-holds .0) i (at .in-file)))
 
-  constant-holds : (r : ℕ) → r < tableCount rows expression-section → constantFits rows (rowIn rows expression-section r) ≡ true
+  -- 9: attributes are numbered below 64, and constants fit
+  numbers-hold : (everyBelow (tableCount rows type-section) (λ j. attributesFit (typeAttributes (typeRow rows j))) ≡ true)
+      × (everyBelow (tableCount rows expression-section) (λ j. constantFits rows (rowIn rows expression-section j) && attributesFit (expressionAttributes (expressionRow rows j))) ≡ true)
   unfolding constantWrong
-  constant-holds r l =
+  numbers-hold =
       let p = all-three
       (everyBelow (tableCount rows type-section) (λ j. attributesFit (typeAttributes (typeRow rows j))))
       (everyBelow (tableCount rows expression-section) (λ j. constantFits rows (rowIn rows expression-section j) && attributesFit (expressionAttributes (expressionRow rows j))))
       (everyBelow (tableCount rows instruction-section) (λ j. allOf (λ n. between 1 last-error n) (handledErrors (instructionRow rows j))))
       (accepted .constants) in
-      and-left (constantFits rows (rowIn rows expression-section r)) (attributesFit (expressionAttributes (expressionRow rows r)))
-      (below-true (tableCount rows expression-section) (λ j. constantFits rows (rowIn rows expression-section j) && attributesFit (expressionAttributes (expressionRow rows j))) (p .1) r l)
+      (p .0, p .1)
+
+  pub type-attributes : (r : ℕ) → r < tableCount rows type-section → attributesFit (typeAttributes (typeRow rows r)) ≡ true
+  type-attributes r l = below-true (tableCount rows type-section) (λ j. attributesFit (typeAttributes (typeRow rows j))) (numbers-hold .0) r l
+
+  expression-holds : (r : ℕ) → r < tableCount rows expression-section → (constantFits rows (rowIn rows expression-section r) && attributesFit (expressionAttributes (expressionRow rows r))) ≡ true
+  expression-holds r l =
+      below-true (tableCount rows expression-section) (λ j. constantFits rows (rowIn rows expression-section j) && attributesFit (expressionAttributes (expressionRow rows j))) (numbers-hold .1) r l
+
+  pub expression-attributes : (r : ℕ) → r < tableCount rows expression-section → attributesFit (expressionAttributes (expressionRow rows r)) ≡ true
+  expression-attributes r l = and-right (constantFits rows (rowIn rows expression-section r)) (attributesFit (expressionAttributes (expressionRow rows r))) (expression-holds r l)
+
+  constant-holds : (r : ℕ) → r < tableCount rows expression-section → constantFits rows (rowIn rows expression-section r) ≡ true
+  constant-holds r l = and-left (constantFits rows (rowIn rows expression-section r)) (attributesFit (expressionAttributes (expressionRow rows r))) (expression-holds r l)
 
   pub constant-row-fits : (r : ℕ) → r < tableCount rows expression-section → ConstantHas Plain (expressionRow rows r)
   unfolding expressionRow
@@ -203,7 +210,7 @@ module _ (rows : List ℕ) (accepted : AcceptedRows rows) where
 
       go : (t : Bool) → ltb k 4 ≡ t → ConstantHas Plain (if t then constant-row (constantKind k rows i) else expressionKind k (aAt rows i) (bAt rows i) (cAt rows i))
       go true e = unfold ConstantHas constantKind constantFits in constant-by rows i k (eqb k 1) (eqb k 2) (eqb k 3) refl refl refl (expression-kind r l) (ltb-true k 4 e) (constant-holds r l)
-      go false e = other-kinds k (aAt rows i) (bAt rows i) (cAt rows i)
+      go false e = other-kinds Plain k (aAt rows i) (bAt rows i) (cAt rows i)
 
   pub tree-plain : (r : ℕ) → r < tableCount rows expression-section → ConstantsHave Plain (expressionTree rows r)
   unfolding size
@@ -342,16 +349,18 @@ module _ (rows : List ℕ) (accepted : AcceptedRows rows) where
   profile-well-made lims =
       record { yokes = every-tabulate (pairCount rows declaration-section) (λ d. declarationAt rows lims d) (λ d l. closed-yoke (declaredYoke rows d) (declared-root d l) (declared-reads-none d l)); instructions = tree-everywhere WellMade (λ r. unfold WellMade in tt) rows (tableCount rows instruction-section) tree-well-made (pred (tableCount rows instruction-section)) program-row }
 
-  -- 13: a declared body is its type row's
-  pub declared-body-is : (lims : List ℕ) (d : ℕ) → d < pairCount rows declaration-section → declaredBody rows d ≡ ok (declarationAt rows lims d .body)
-  unfolding declaredBody declarationAt typeWrong
-  declared-body-is lims d l =
-      is-answer (typeBody rows (aAt rows (detailRow rows declaration-section d)))
-      (below-true (tableCount rows type-section) (λ r. isOk (typeBody rows r)) (not-false _ (accepted .types)) (aAt rows (detailRow rows declaration-section d)) (declared-type d l))
+  -- 13: each type row has a body, and a declared body is its type row's
+  pub type-body-is : (r : ℕ) → r < tableCount rows type-section → typeBody rows r ≡ ok (bodyOr (typeBody rows r))
+  unfolding typeWrong
+  type-body-is r l = is-answer (typeBody rows r) (below-true (tableCount rows type-section) (λ k. isOk (typeBody rows k)) (not-false _ (accepted .types)) r l)
     where
       is-answer : (o : Result Body) → isOk o ≡ true → o ≡ ok (bodyOr o)
       is-answer (ok b) e = refl
       is-answer (fail n) e = false-is-true e
+
+  pub declared-body-is : (lims : List ℕ) (d : ℕ) → d < pairCount rows declaration-section → declaredBody rows d ≡ ok (declarationAt rows lims d .body)
+  unfolding declaredBody declarationAt
+  declared-body-is lims d l = type-body-is (aAt rows (detailRow rows declaration-section d)) (declared-type d l)
 
 -- each filled variable at the end of every run of an accepted pair of files, whether or not the type check passes it
 pub accepted-invariant : (prof lims : List ℕ) → lowest (pairRules prof lims) ≡ 0 → (readings : List Reading) (budget n : ℕ) (x : Composite)

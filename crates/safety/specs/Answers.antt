@@ -1,6 +1,6 @@
 -- What an answer shows of the steps that led to it, whatever their errors are: each step had an answer. Assumes nothing.
 use mathlib.Core.Path.{_≡_, refl, sym, ap, subst}
-use mathlib.Core.Bool.{Bool, true, false, _||_}
+use mathlib.Core.Bool.{Bool, true, false}
 use mathlib.Core.List.{List, [], _∷_}
 use mathlib.Core.Option.{some, none}
 use Prim.Native.Nat.{ℕ}
@@ -54,11 +54,3 @@ none-is-some e = absurd (let z : _≡_ {A = ℕ} 0 1 = cc in let k : ⊥ = omega
 -- ---- tests
 pub true-is-false {ℓ} : {A : Type ℓ} → true ≡ false → A
 true-is-false e = absurd (let z : _≡_ {A = ℕ} 0 1 = cc in let k : ⊥ = omega arith in k)
-
-pub or-left : (s t : Bool) → (s || t) ≡ false → s ≡ false
-or-left true t e = e
-or-left false t e = refl
-
-pub or-right : (s t : Bool) → (s || t) ≡ false → t ≡ false
-or-right true t e = true-is-false e
-or-right false t e = e

@@ -9,7 +9,8 @@ use Rattle.lingua.specs.Value.{Fits, Composite}
 use Rattle.lingua.specs.Expression.{settledBy, Expression, constant, variable, current, unary, binary, lazy, choice, all-list, Yoke, always, yoke}
 use Rattle.lingua.specs.Evaluation.{Variables, applyUnary, applyBinary, truthOr, booleanOf, allTrue, elementsOf, eval, evalYoke}
 use Rattle.lingua.specs.References.{readsVariable}
-use Rattle.safety.specs.Answers.{or-left, or-right, true-is-false}
+use Rattle.laws.specs.Outcomes.{or-left, or-right}
+use Rattle.safety.specs.Answers.{true-is-false}
 
 -- a composite whose value fits its body
 abbrev pub Fitting : Composite → Type 0

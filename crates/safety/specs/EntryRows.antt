@@ -1,14 +1,14 @@
--- The rows of the entries that the type check records are the rows of the trees that it goes through, in order of evaluation.
--- Assumes nothing.
-use mathlib.Core.Path.{_≡_, refl, ap, ap₂, _∙_, subst}
+-- The rows of the entries that the type check records are the rows of the trees that it goes through, in order of evaluation:
+-- `entries-rows`. Assumes nothing.
+use mathlib.Core.Path.{_≡_, refl, sym, ap, ap₂, _∙_, subst}
 use mathlib.Core.List.{List, [], _∷_, _++_, map}
 use Prim.Native.Nat.{ℕ, suc, _+_}
 use Rattle.lingua.specs.Numbers.{declaration-place}
 use Rattle.lingua.specs.Outcome.{ok, allAnswers}
 use Rattle.lingua.specs.Body.{Body}
 use Rattle.lingua.specs.Expression.{Expression, constant, variable, current, unary, binary, lazy, choice, all-list, Yoke, always, yoke, Instruction, skip, assign, set-yoke, sequence, branch, loop, handle}
-use Rattle.lingua.specs.Run.{Declaration}
-use Rattle.lingua.specs.Typing.{Entry, Bodies, checkYoke, checkInstruction, checkDeclarations, joined}
+use Rattle.lingua.specs.Run.{Declaration, Profile}
+use Rattle.lingua.specs.Typing.{Entry, Bodies, checkYoke, checkInstruction, checkDeclarations, bodiesOf, joined, checkProfile}
 use Rattle.safety.specs.Answers.{same-answer, bound}
 use Rattle.safety.specs.Checked.{Checked, checked-constant, checked-variable, checked-current, checked-unary, checked-binary, checked-lazy, checked-choice, checked-all-list, CheckedYoke, CheckedRow, yoke-checked, row-checked}
 use Rattle.safety.specs.Layout.{entryRow}
@@ -39,7 +39,7 @@ ownRows (loop r e i) = treeRows e
 ownRows (handle r n i) = []
 
 -- ---- lists
-pub map-append : (xs ys : List Entry) → map entryRow (xs ++ ys) ≡ map entryRow xs ++ map entryRow ys
+map-append : (xs ys : List Entry) → map entryRow (xs ++ ys) ≡ map entryRow xs ++ map entryRow ys
 map-append [] ys = refl
 map-append (x ∷ xs) ys = ap (λ (l : List ℕ). x .row ∷ l) (map-append xs ys)
 
@@ -78,7 +78,7 @@ own-rows vars (loop r e i) es c = checked-rows c
 own-rows vars (handle r n i) es c = no-rows c
 
 -- ---- all of them
-pub declarations-rows : (vars : Bodies) (d : ℕ) (ds : List Declaration) (xss : List (List Entry)) → allAnswers (checkDeclarations vars d ds) ≡ ok xss
+declarations-rows : (vars : Bodies) (d : ℕ) (ds : List Declaration) (xss : List (List Entry)) → allAnswers (checkDeclarations vars d ds) ≡ ok xss
     → map entryRow (joined xss) ≡ joined (map (λ v. yokeRows (v .declared)) ds)
 unfolding checkDeclarations allAnswers joined
 declarations-rows vars d [] xss q = subst (λ (l : List (List Entry)). map entryRow (joined l) ≡ []) (same-answer q) refl
@@ -88,7 +88,7 @@ declarations-rows vars d (v ∷ ds) xss q =
     subst (λ (l : List (List Entry)). map entryRow (joined l) ≡ yokeRows (v .declared) ++ joined (map (λ (w : Declaration). yokeRows (w .declared)) ds)) (same-answer (b .2))
     (rows-append (a .0) (joined (b .0)) (yoke-rows vars (v .declared) (v .body) (a .0) (yoke-checked vars (v .declared) (v .body) (declaration-place + d) (a .0) (a .1))) (declarations-rows vars (suc d) ds (b .0) (b .1)))
 
-pub instructions-rows : (vars : Bodies) (is : List Instruction) (xss : List (List Entry)) → allAnswers (map (λ i. checkInstruction vars i) is) ≡ ok xss
+instructions-rows : (vars : Bodies) (is : List Instruction) (xss : List (List Entry)) → allAnswers (map (λ i. checkInstruction vars i) is) ≡ ok xss
     → map entryRow (joined xss) ≡ joined (map ownRows is)
 unfolding allAnswers joined
 instructions-rows vars [] xss q = subst (λ (l : List (List Entry)). map entryRow (joined l) ≡ []) (same-answer q) refl
@@ -97,3 +97,16 @@ instructions-rows vars (i ∷ is) xss q =
     let b = bound (allAnswers (map (λ k. checkInstruction vars k) is)) _ xss (a .2) in
     subst (λ (l : List (List Entry)). map entryRow (joined l) ≡ ownRows i ++ joined (map ownRows is)) (same-answer (b .2))
     (rows-append (a .0) (joined (b .0)) (own-rows vars i (a .0) (row-checked vars i (a .0) (a .1))) (instructions-rows vars is (b .0) (b .1)))
+
+-- the rows of the trees that the type check goes through: those of the declared yokes, then those of each instruction row
+unfoldable pub checkedRows : Profile → List ℕ
+checkedRows p = joined (map (λ d. yokeRows (d .declared)) (p .declarations)) ++ joined (map ownRows (p .instructions))
+
+pub entries-rows : (p : Profile) (es : List Entry) → checkProfile p ≡ ok es → map entryRow es ≡ checkedRows p
+unfolding checkProfile checkedRows
+entries-rows p es e =
+    let vars : Bodies = bodiesOf (p .declarations) in
+    let a = bound (allAnswers (checkDeclarations vars 0 (p .declarations))) _ es e in
+    let b = bound (allAnswers (map (λ i. checkInstruction vars i) (p .instructions))) _ es (a .2) in
+    ap (map entryRow) (sym (same-answer (b .2)))
+    ∙ rows-append (joined (a .0)) (joined (b .0)) (declarations-rows vars 0 (p .declarations) (a .0) (a .1)) (instructions-rows vars (p .instructions) (b .0) (b .1))

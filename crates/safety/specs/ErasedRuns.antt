@@ -115,14 +115,14 @@ module _ (P : State → Type 0) (stable : Stable P) where
 -- ---- one store
 module _ (H : Entry → Type 0) (ds : List Declaration) where
   -- a value with the declared body
-  assigned-as : (s : State) → StateTyped H ds s → (n : ℕ) (v : Value) → assignedErased (s .store) n v ≡ assigned (s .store) n (composite (bodiesOf ds n) v)
+  pub assigned-as : (s : State) → StateTyped H ds s → (n : ℕ) (v : Value) → assignedErased (s .store) n v ≡ assigned (s .store) n (composite (bodiesOf ds n) v)
   unfolding assignedErased
   assigned-as s h n v =
       ap (λ (b : Body). admittedErased (variableAt (s .store) n .current) (variableAt (s .store) n .limit) (valuesOf (contents (s .store))) v >> ok (set (s .store) n (withContent (variableAt (s .store) n) (composite b v))))
       (kept-body ds (s .store) (h .kept) n)
       ∙ sym (assigned-erased H ds (s .store) (h .kept) (h .yokes) n (composite (bodiesOf ds n) v) refl)
 
-  assign-same : (s : State) → StateTyped H ds s → (r n : ℕ) (e : Expression) → DerivedRow H (bodiesOf ds) (assign r n e)
+  pub assign-same : (s : State) → StateTyped H ds s → (r n : ℕ) (e : Expression) → DerivedRow H (bodiesOf ds) (assign r n e)
       → (evalErased e (valuesOf (contents (s .store))) (truth false) >>= λ v. assignedErased (s .store) n v) ≡ (eval e (contents (s .store)) no-current >>= λ x. assigned (s .store) n x)
   unfolding DerivedRow
   assign-same s h r n e d =
@@ -153,7 +153,7 @@ module _ (H : Entry → Type 0) (ds : List Declaration) where
       step-same (StateTyped H ds) (typed-stable H ds) s _ _ h (λ t u. handled-same (StateTyped H ds) (typed-stable H ds) (eqb (t .error) n) t _ _ u (λ w v. exec-erased i a c w v))
 
   -- ---- readings
-  reading-same : (s : State) → StateTyped H ds s → (r : Reading) → ReadsNumber ds r → readingErased (s .store) r ≡ readingTaken (s .store) r
+  pub reading-same : (s : State) → StateTyped H ds s → (r : Reading) → ReadsNumber ds r → readingErased (s .store) r ≡ readingTaken (s .store) r
   unfolding readingErased readingTaken ReadsNumber
   reading-same s h r e =
       ap (λ (o : Result (List Variable)). require (inRange (r .number)) overflow >> o)

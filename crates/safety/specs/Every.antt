@@ -1,17 +1,15 @@
 -- Lists all of whose elements have a property: of parts joined, mapped, tabulated, and of tests that hold everywhere. Assumes nothing.
 use mathlib.Core.Path.{_≡_, refl, sym, subst}
-use mathlib.Core.Logic.{_≢_}
-use mathlib.Core.Bool.{Bool, true, false}
+use mathlib.Core.Bool.{Bool, true}
 use mathlib.Core.List.{List, [], _∷_, _++_, map, List·Memᴰ, List·Memᴰ·head, List·Memᴰ·tail}
 use Prim.Native.Nat.{ℕ, zero, suc, _+_, _<_}
 use native.Mathlib.Omega.{arith}
-use lib.Dec.{eqb}
-use borrow.Author.Tests.{eqb-true, eqb-false}
 use Rattle.lingua.specs.Value.{allOf}
 use Rattle.lingua.specs.Typing.{joined}
 use Rattle.lingua.specs.Trees.{tabulateFrom, tabulate}
 use Rattle.lingua.specs.Format.{everyBelow}
 use Rattle.laws.specs.Outcomes.{and-left, and-right}
+use Rattle.laws.specs.Tests.{every-at as below-at}
 
 pub data Every {A : Type 0} (P : A → Type 0) : List A → Type 0 where
   every-none : Every P []
@@ -97,10 +95,4 @@ all-true p [] e = every-none
 all-true p (x ∷ xs) e = every-more (and-left (p x) (allOf p xs) e) (all-true p xs (and-right (p x) (allOf p xs) e))
 
 pub below-true : (n : ℕ) (p : ℕ → Bool) → everyBelow n p ≡ true → (k : ℕ) → k < n → p k ≡ true
-unfolding everyBelow
-below-true zero p e k l = absurd (let z : ⊥ = omega arith in z)
-below-true (suc n) p e k l = by (eqb k n) refl (λ j. below-true n p (and-left (everyBelow n p) (p n) e) k j)
-  where
-    by : (t : Bool) → eqb k n ≡ t → (k < n → p k ≡ true) → p k ≡ true
-    by true q h = subst (λ (j : ℕ). p j ≡ true) (sym (eqb-true k n q)) (and-right (everyBelow n p) (p n) e)
-    by false q h = let apart : k ≢ n = eqb-false k n q in h (omega arith)
+below-true n p e k l = below-at n p k e l

@@ -3,8 +3,8 @@
 use mathlib.Core.Path.{_≡_, refl, sym, ap, _∙_, subst}
 use mathlib.Core.Bool.{Bool, true, false, not, _&&_}
 use mathlib.Core.List.{List, _∷_}
-use mathlib.Core.Option.{Option, some, none}
-use Prim.Native.Nat.{ℕ, zero, suc, _+_, _≤_, _<_}
+use mathlib.Core.Option.{some}
+use Prim.Native.Nat.{ℕ, zero, suc, _+_, _<_}
 use native.Mathlib.Omega.{arith}
 use lib.Dec.{ltb}
 use lib.IntN.{pos}
@@ -14,7 +14,7 @@ use Rattle.lingua.specs.Numbers.{declaration-section, limit-section}
 use Rattle.lingua.specs.Body.{number}
 use Rattle.lingua.specs.Value.{inRange}
 use Rattle.lingua.specs.Compute.{sameText}
-use Rattle.lingua.specs.Store.{Limit, Reading}
+use Rattle.lingua.specs.Store.{Limit}
 use Rattle.lingua.specs.Rows.{pairCount}
 use Rattle.lingua.specs.Trees.{limitIf, limitFrom, limitOf, limitRow, nameAt, declarationAt, profileOf}
 use Rattle.lingua.specs.Typing.{bodiesOf}

@@ -11,23 +11,23 @@ use native.Mathlib.Omega.{arith}
 use lib.Dec.{eqb, ltb, leb}
 use borrow.Author.Tests.{eqb-true, eqb-false, ltb-true, ltb-false, leb-true, leb-false, le-leb, lt-leb, ne-eqb}
 use Rattle.lingua.specs.Numbers.{declaration-section, expression-section, instruction-section, most-expressions}
-use Rattle.lingua.specs.Outcome.{ok, if_then_else_, allAnswers}
+use Rattle.lingua.specs.Outcome.{ok, if_then_else_}
 use Rattle.lingua.specs.Expression.{Expression, Instruction}
-use Rattle.lingua.specs.Typing.{Entry, Bodies, checkInstruction, checkDeclarations, bodiesOf, joined, checkProfile, layoutOf}
+use Rattle.lingua.specs.Typing.{Entry, bodiesOf, joined, checkProfile, layoutOf}
 use Rattle.lingua.specs.Rows.{tableCount, pairCount, ExpressionRow, constant-row, variable-row, current-row, unary-row, binary-row, lazy-row, choice-row, all-list-row, expressionRow, operands, InstructionRow, skip-row, assign-row, set-yoke-row, sequence-row, branch-row, loop-row, handle-row, instructionRow, evaluated, yokeRoot, yokeSet}
 use Rattle.lingua.specs.Trees.{tabulateFrom, tabulate, lower, no-expression, expressionOf, expressionIn, expressionTree, yokeTree, instructionOf, instructionIn, instructionTree, declarationAt, profileOf}
 use Rattle.lingua.specs.References.{occurrences, declaredYoke, yokeRoots, plainRoots, expressionUses}
-use Rattle.safety.specs.Answers.{same-answer, bound}
 use Rattle.safety.specs.Every.{Every, every-none, every-more, every-append, every-implies, every-map, every-unmap, every-joined, every-tabulate}
 use Rattle.safety.specs.Forest.{lower-at}
 use Rattle.safety.specs.Accepted.{AcceptedRows, operands-below, used-once, declared-root, instruction-roots, most-rows}
 use Rattle.safety.specs.Layout.{HoldsIn, Once, entryRow, layout-holds}
-use Rattle.safety.specs.EntryRows.{map-append, treeRows, yokeRows, ownRows, declarations-rows, instructions-rows}
+use Rattle.safety.specs.EntryRows.{treeRows, yokeRows, ownRows, checkedRows, entries-rows}
 use Rattle.safety.specs.Programs.{TypedProfile}
-use Rattle.safety.specs.Passed.{profile-derives}
+use Rattle.safety.specs.Derivation.{DerivedRow}
+use Rattle.safety.specs.Passed.{profile-derives, rows-derive}
 
 -- ---- counts
-count-append : (x : ℕ) (cs bs : List ℕ) → occurrences x (cs ++ bs) ≡ occurrences x cs + occurrences x bs
+pub count-append : (x : ℕ) (cs bs : List ℕ) → occurrences x (cs ++ bs) ≡ occurrences x cs + occurrences x bs
 unfolding occurrences
 count-append x [] bs = omega arith
 count-append x (a ∷ cs) bs = omega (arith, count-append x cs bs)
@@ -123,10 +123,10 @@ module _ (w : ℕ → ℕ) where
       by (inr o) = at-once i ks o
 
 -- ---- what the rows of a list use
-abbrev usedBy : List ℕ → ℕ → List ℕ
+abbrev pub usedBy : List ℕ → ℕ → List ℕ
 usedBy rows k = operands (expressionRow rows k)
 
-uses : List ℕ → List ℕ → List ℕ
+unfoldable pub uses : List ℕ → List ℕ → List ℕ
 uses rows ks = joined (map (usedBy rows) ks)
 
 module _ (rows : List ℕ) (x : ℕ) where
@@ -212,10 +212,10 @@ declaredRoots rows = joined (tabulate (pairCount rows declaration-section) (λ d
 instructionRoots : List ℕ → List ℕ
 instructionRoots rows = joined (tabulate (tableCount rows instruction-section) (λ r. evaluated (instructionRow rows r) ++ yokeSet (instructionRow rows r)))
 
-roots : List ℕ → List ℕ
+pub roots : List ℕ → List ℕ
 roots rows = declaredRoots rows ++ instructionRoots rows
 
-forest : List ℕ → List ℕ
+pub forest : List ℕ → List ℕ
 forest rows = joined (map (rowsUnder rows) (roots rows))
 
 tabulated-rows : {A : Type 0} (rows : List ℕ) (f : ℕ → A) (g : A → List ℕ) (h : ℕ → List ℕ) → ((k : ℕ) → g (f k) ≡ joined (map (rowsUnder rows) (h k)))
@@ -244,20 +244,17 @@ instruction-forest : (rows : List ℕ) (r : ℕ) → ownRows (instructionTree ro
 unfolding instructionTree instructionIn
 instruction-forest rows r = own-forest rows r (instructionRow rows r) _
 
--- the entries' rows are those of the roots' trees
-entries-forest : (rows lims : List ℕ) (es : List Entry) → checkProfile (profileOf rows lims) ≡ ok es → map entryRow es ≡ forest rows
-unfolding checkProfile profileOf forest roots declaredRoots instructionRoots tabulate declarationAt declaredYoke
-entries-forest rows lims es e =
-    let p = profileOf rows lims in
-    let vars : Bodies = bodiesOf (p .declarations) in
-    let a = bound (allAnswers (checkDeclarations vars 0 (p .declarations))) _ es e in
-    let b = bound (allAnswers (map (λ i. checkInstruction vars i) (p .instructions))) _ es (a .2) in
-    ap (map entryRow) (sym (same-answer (b .2)))
-    ∙ map-append (joined (a .0)) (joined (b .0))
-    ∙ ap₂ (λ (l m : List ℕ). l ++ m)
-    (declarations-rows vars 0 (p .declarations) (a .0) (a .1) ∙ tabulated-rows rows (λ d. declarationAt rows lims d) (λ v. yokeRows (v .declared)) (λ d. yokeRoot (declaredYoke rows d)) (λ d. yoke-forest rows (declaredYoke rows d)) 0 (pairCount rows declaration-section))
-    (instructions-rows vars (p .instructions) (b .0) (b .1) ∙ tabulated-rows rows (λ r. instructionTree rows r) ownRows (λ r. evaluated (instructionRow rows r) ++ yokeSet (instructionRow rows r)) (instruction-forest rows) 0 (tableCount rows instruction-section))
+-- the rows that the type check goes through are those of the roots' trees
+pub profile-forest : (rows lims : List ℕ) → checkedRows (profileOf rows lims) ≡ forest rows
+unfolding checkedRows profileOf forest roots declaredRoots instructionRoots tabulate declarationAt declaredYoke
+profile-forest rows lims =
+    ap₂ (λ (l m : List ℕ). l ++ m)
+    (tabulated-rows rows (λ d. declarationAt rows lims d) (λ v. yokeRows (v .declared)) (λ d. yokeRoot (declaredYoke rows d)) (λ d. yoke-forest rows (declaredYoke rows d)) 0 (pairCount rows declaration-section))
+    (tabulated-rows rows (λ r. instructionTree rows r) ownRows (λ r. evaluated (instructionRow rows r) ++ yokeSet (instructionRow rows r)) (instruction-forest rows) 0 (tableCount rows instruction-section))
     ∙ sym (joined-append (rowsUnder rows) (declaredRoots rows) (instructionRoots rows))
+
+entries-forest : (rows lims : List ℕ) (es : List Entry) → checkProfile (profileOf rows lims) ≡ ok es → map entryRow es ≡ forest rows
+entries-forest rows lims es e = entries-rows (profileOf rows lims) es e ∙ profile-forest rows lims
 
 -- ---- each row once
 count-both : (x : ℕ) (f g : ℕ → List ℕ) (i n : ℕ)
@@ -268,7 +265,7 @@ count-both x f g i (suc n) =
     omega (arith, count-both x f g (suc i) n, count-append x (f i) (g i), count-append x (f i ++ g i) (joined (tabulateFrom (suc i) n (λ r. f r ++ g r))), count-append x (f i) (joined (tabulateFrom (suc i) n f)), count-append x (g i) (joined (tabulateFrom (suc i) n g)))
 
 -- the roots are the roots that rule 11 counts
-count-roots : (rows : List ℕ) (x : ℕ)
+pub count-roots : (rows : List ℕ) (x : ℕ)
     → occurrences x (expressionUses rows) ≡ occurrences x (roots rows) + occurrences x (joined (tabulate (tableCount rows expression-section) (usedBy rows)))
 unfolding expressionUses yokeRoots plainRoots roots declaredRoots instructionRoots tabulate
 count-roots rows x =
@@ -297,12 +294,12 @@ module _ (rows : List ℕ) (accepted : AcceptedRows rows) where
   forest-below =
       every-joined (every-map (rowsUnder rows) (λ r (l : r < tableCount rows expression-section). every-implies (λ k (q : k < suc r). let z : k < tableCount rows expression-section = omega arith in z) (tree-below rows accepted r l)) roots-below)
 
-  forest-reached : (x : ℕ) → occurrences x (forest rows) ≡ occurrences x (roots rows) + occurrences x (uses rows (forest rows))
+  pub forest-reached : (x : ℕ) → occurrences x (forest rows) ≡ occurrences x (roots rows) + occurrences x (uses rows (forest rows))
   unfolding forest
   forest-reached x = reached-all rows x (rowsUnder rows) (roots rows) (every-implies (λ r l. tree-reached rows accepted x r l) roots-below)
 
   -- a row uses lower rows only
-  no-use : (x k : ℕ) → k < tableCount rows expression-section → k ≤ x → occurrences x (usedBy rows k) ≡ 0
+  pub no-use : (x k : ℕ) → k < tableCount rows expression-section → k ≤ x → occurrences x (usedBy rows k) ≡ 0
   no-use x k l m = not-counted x (every-implies (λ a (q : a < k). let z : a < x = omega arith in z) (operands-below rows accepted k l))
 
   once-from : (m x : ℕ) → tableCount rows expression-section ≤ x + m → occurrences x (forest rows) ≤ 1
@@ -325,7 +322,7 @@ module _ (rows : List ℕ) (accepted : AcceptedRows rows) where
           either k q false p = inl (no-use x k q (ltb-false x k p))
       go false e ih = omega (arith, not-counted x (every-implies (λ k (q : k < count). let r = ltb-false x count e in let z : k < x = omega arith in z) forest-below))
 
-  forest-once : Once (forest rows)
+  pub forest-once : Once (forest rows)
   unfolding Once
   forest-once x = once-from (tableCount rows expression-section) x (omega arith)
 
@@ -344,3 +341,7 @@ module _ (rows : List ℕ) (accepted : AcceptedRows rows) where
   -- every yoke and every instruction, with the layout table's numbers at each expression row
   pub profile-laid-out : (lims : List ℕ) (es : List Entry) → checkProfile (profileOf rows lims) ≡ ok es → TypedProfile (HoldsIn (layoutOf es)) (profileOf rows lims)
   profile-laid-out lims es e = profile-derives rows accepted lims es e (profile-layout lims es e)
+
+  pub rows-laid-out : (lims : List ℕ) (es : List Entry) → checkProfile (profileOf rows lims) ≡ ok es
+      → (r : ℕ) → r < tableCount rows instruction-section → DerivedRow (HoldsIn (layoutOf es)) (bodiesOf (profileOf rows lims .declarations)) (instructionTree rows r)
+  rows-laid-out lims es e = rows-derive rows lims es e (profile-layout lims es e)

@@ -24,8 +24,8 @@ use Rattle.lingua.specs.Trees.{tabulateFrom, tabulate, instructionTree, declare
 use Rattle.lingua.specs.Format.{rowsOf}
 use Rattle.lingua.specs.Refusal.{lowest, pairRules, isNumberBody, isNumberVariable, readingWrong, runRules, checkedRefusal, erasedRefusal}
 use Rattle.lingua.specs.Calls.{readingsOf}
-use Rattle.laws.specs.Outcomes.{and-left, and-right, is-number, false-is-true}
-use Rattle.safety.specs.Answers.{same-answer, bound, all-answered, or-right}
+use Rattle.laws.specs.Outcomes.{and-left, and-right, is-number, false-is-true, or-right}
+use Rattle.safety.specs.Answers.{same-answer, bound, all-answered}
 use Rattle.safety.specs.Every.{Every, every-none, every-more, every-left, every-right, every-joined-part, every-implies, every-unmap, tabulated, all-true}
 use Rattle.safety.specs.Derivation.{Anything, anything, DerivedYoke, DerivedRow, yoke-derives, row-derives}
 use Rattle.safety.specs.Everywhere.{Everywhere, everywhere-implies}
@@ -64,6 +64,12 @@ module _ {H : Entry → Type 0} (p : Profile) (es : List Entry) (passed : checkP
       let is = all-answered (map (λ i. checkInstruction vars i) (p .instructions)) (b .0) (b .1) (every-joined-part (b .0) (every-right (joined (a .0)) (joined (b .0)) k)) in
       (declarations-derive vars 0 (p .declarations) ds, instructions-derive vars (p .instructions) is)
 
+-- every instruction row, also one that no run gets to
+pub rows-derive : {H : Entry → Type 0} (rows lims : List ℕ) (es : List Entry) → checkProfile (profileOf rows lims) ≡ ok es → Every H es
+    → (r : ℕ) → r < tableCount rows instruction-section → DerivedRow H (bodiesOf (profileOf rows lims .declarations)) (instructionTree rows r)
+unfolding profileOf
+rows-derive rows lims es e h = tabulated (tableCount rows instruction-section) (λ r. instructionTree rows r) (parts-derive (profileOf rows lims) es e h .1)
+
 -- the rows that the check goes through are those of the program's tree
 pub profile-derives : {H : Entry → Type 0} (rows : List ℕ) → AcceptedRows rows → (lims : List ℕ) (es : List Entry) → checkProfile (profileOf rows lims) ≡ ok es → Every H es → TypedProfile H (profileOf rows lims)
 unfolding profileOf
@@ -83,7 +89,7 @@ passed-below-derives p es e h =
     record { yokes = parts-derive p es e (anything es) .0; instructions = everywhere-implies (λ i k. row-derives (bodiesOf (p .declarations)) i (k .0) (k .1) (anything (k .0))) h }
 
 -- ---- readings
-tabulated-at : {A B : Type 0} (f : A → B) (g : ℕ → A) (other : B) (i n k : ℕ) → k < n → getD (map f (tabulateFrom i n g)) k other ≡ f (g (i + k))
+pub tabulated-at : {A B : Type 0} (f : A → B) (g : ℕ → A) (other : B) (i n k : ℕ) → k < n → getD (map f (tabulateFrom i n g)) k other ≡ f (g (i + k))
 unfolding tabulateFrom
 tabulated-at f g other i zero k l = absurd (let z : ⊥ = omega arith in z)
 tabulated-at f g other i (suc n) zero l = ap (λ (j : ℕ). f (g j)) (let e : i ≡ i + zero = omega arith in e)

@@ -85,7 +85,7 @@ module _ (H : Entry → Type 0) (ds : List Declaration) (vs : List Variable) (ke
       (yoke-checks-safe (variableAt vs n .current) (kept n .closed) x h (subst (λ (b : Body). DerivedYoke H (bodiesOf ds) (variableAt vs n .current) b) (sym e) (ys n)))
       (unless-met (sameBody (variableAt vs n .body) (x .body)) no-coherence
       (subst (λ (b : Body). sameBody (variableAt vs n .body) b ≡ true) (kept-body ds vs kept n ∙ sym e) (body-same (variableAt vs n .body)))))
-      (unless-run-error (within (variableAt vs n .limit) (asWhole (x .value))) yoke-not-satisfied (omega arith))
+      (on-true-met (sameBody (variableAt vs n .body) (x .body)) _ (λ q. unless-run-error (within (variableAt vs n .limit) (asWhole (x .value))) yoke-not-satisfied (omega arith)))
 
 -- ---- instructions
 module _ (H : Entry → Type 0) (vars : Bodies) (vs : List Variable) (derived : YokesDerived H vars vs) where

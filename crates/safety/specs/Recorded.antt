@@ -23,7 +23,7 @@ use Rattle.lingua.specs.Format.{rowsOf}
 use Rattle.lingua.specs.Refusal.{lowest, pairRules, isNumberVariable}
 use Rattle.safety.specs.Every.{Every, every-at}
 use Rattle.safety.specs.Passed.{accepted-safe}
-use Rattle.safety.specs.Failures.{In, fails, required-fails, answer-in, unless-in, eval-met, test-met, assign-met, change-met}
+use Rattle.safety.specs.Failures.{In, fails, required-fails, answer-in, unless-in, true-in, eval-met, test-met, assign-met, change-met}
 
 -- ---- runs
 -- the error that is recorded after a part of a run: the one before, none, or one that was met in it
@@ -134,7 +134,7 @@ reading-met vs r n e = go (required-fails (inRange (r .number)) overflow _ n e)
     go (inl q) = Memᴰ·append-left (onTrue (inRange (r .number)) next) (unless-in (inRange (r .number)) overflow n (q .0) (q .1))
     go (inr q) =
         Memᴰ·append-right (unlessMet (inRange (r .number)) overflow)
-        (subst (λ (t : Bool). In n (onTrue t next)) (sym (q .0)) (assign-met vs (r .variable) (composite number (whole (r .number))) n (q .1)))
+        (true-in (inRange (r .number)) next n (q .0) (assign-met vs (r .variable) (composite number (whole (r .number))) n (q .1)))
 
 taken-recorded : (b : Bool) (s : State) (i : ℕ) (r : Reading) → Recorded (s .error) (takenUnless b s i r .error) (onTrue b (readingMet (s .store) r))
 taken-recorded true s i r = settled-recorded s (reading-place + i) (readingTaken (s .store) r) (readingMet (s .store) r) (reading-met (s .store) r)

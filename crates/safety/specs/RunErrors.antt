@@ -19,9 +19,9 @@ use Rattle.lingua.specs.Operation.{Unary, negation, make-record, select, make-l
 use Rattle.lingua.specs.Compute.{ranged, sameNumber, divided, glued, pushed, topOf, popOf, unaryValue, binaryValue}
 use Rattle.lingua.specs.Evaluation.{applyUnary, applyBinary, truthOr}
 use Rattle.lingua.specs.Meets.{errorIn, onAnswer, unlessMet, expandMet, changeMet, pushMet, firstMet, divisorMet, secondMet, binaryMet}
-use Rattle.laws.specs.Outcomes.{false-is-true, required, asked, and-left, and-right, same-body}
+use Rattle.laws.specs.Outcomes.{false-is-true, required, asked, and-left, and-right, same-body, or-right}
 use Rattle.laws.specs.Sound.{unary-sound, binary-sound}
-use Rattle.safety.specs.Answers.{same-answer, never-ok, or-right}
+use Rattle.safety.specs.Answers.{same-answer, never-ok}
 use Rattle.safety.specs.Every.{Every, every-none, every-append, every-one}
 use Rattle.safety.specs.Constants.{Fitting}
 

@@ -1,99 +1,170 @@
--- The checked run and the erased run of one pair of files that no rule refuses and the type check passes, as one claim over all readings,
--- buffers and budgets (document 01: the third demand): `two-runs`. Assumes nothing.
-use mathlib.Core.Path.{_≡_, refl, sym, ap, _∙_, subst}
-use mathlib.Core.Bool.{Bool, true, false, not}
+-- Demand 3 of document 01 about what two calls gave, the checked run's and the erased run's, each with its own lent memory: one claim
+-- (`TwoRuns`) over all passed pairs of files, all readings and all budgets. The calls' contracts give it, and nothing else is asked of them:
+-- `two-runs`, and `demand-3` with what it supposes on the claim's side. Assumes nothing.
+use mathlib.Core.Path.{_≡_, refl, sym, ap, ap₂, _∙_, subst}
+use mathlib.Core.Bool.{not, _&&_}
 use mathlib.Core.List.{List, _∷_}
 use Prim.Native.Nat.{ℕ, zero, suc, _*_, _<_}
+use native.Mathlib.Omega.{arith}
 use lib.Dec.{eqb}
 use lib.ListN.{length, getD}
 use lib.IntN.{ℤ}
 use borrow.Author.Tests.{eq-eqb}
-use Rattle.lingua.specs.Numbers.{layout-length}
-use Rattle.lingua.specs.Errors.{bad-buffer, type-error-found, first-type-error}
+use Rattle.lingua.specs.Numbers.{cells-length, states-length, layout-length}
+use Rattle.lingua.specs.Errors.{bad-buffer, bad-reading, type-error-found, first-type-error}
 use Rattle.lingua.specs.Outcome.{Outcome, ok, isOk}
-use Rattle.lingua.specs.Run.{run, lastState}
-use Rattle.lingua.specs.Typing.{TypeError, Entry, checkProfile}
+use Rattle.lingua.specs.Run.{lastState}
+use Rattle.lingua.specs.Typing.{TypeError, Entry, checkProfile, layoutOf}
 use Rattle.lingua.specs.Meets.{runMet}
 use Rattle.lingua.specs.Trees.{profileOf}
 use Rattle.lingua.specs.Format.{rowsOf}
-use Rattle.lingua.specs.Refusal.{Rule, rule, lower-of, lowest, pairRules, checkedRefusal, erasedRefusal}
-use Rattle.lingua.specs.Calls.{RunCall, ErasedCall, readingsOf, ran, runOf, runUnless, checkedCall, erasedUnless, erasedCall}
+use Rattle.lingua.specs.Refusal.{rule, lowest, pairRules, readingWrong, checkRefusal, runRules, checkedRefusal, erasedRefusal}
+use Rattle.lingua.specs.Answers.{refused}
+use Rattle.lingua.specs.Calls.{RunCall, ErasedCall, readingsOf, ran, runOf, runUnless, checkedCall, withLayout, erasedUnless, erasedCall, checkVerdict, checkUnless, checkCall, runResult, erasedResult}
+use Rattle.lingua.specs.declared.RunAnswer.{RunAnswer}
+use Rattle.laws.specs.Refusals.{lowest-skip}
 use Rattle.safety.specs.RunErrors.{RunErrors}
 use Rattle.safety.specs.Passed.{accepted-safe, rules-readings}
-use Rattle.safety.specs.ErasedRuns.{runErased, accepted-erased}
 use Rattle.safety.specs.Recorded.{accepted-error}
 use Rattle.safety.specs.Memory.{HoldsValue, accepted-memory}
 
--- ---- one number refuses both
-rule-passes : (n : ℕ) (t : Bool) (rs : List Rule) → t ≡ false → lowest (rule n t ∷ rs) ≡ lowest rs
-unfolding lowest
-rule-passes n true rs e = ap (λ (t : Bool). lower-of n t (lowest rs)) e
-rule-passes n false rs e = refl
+-- ---- what the claim supposes
+-- a pair of files passes: no rule refuses it, and the type check finds no error
+pub record Passes (prof lims : List ℕ) : Type 0 where
+  pub accepted : lowest (pairRules prof lims) ≡ 0
+  pub entries : List Entry
+  pub checked : checkProfile (profileOf (rowsOf prof) (rowsOf lims)) ≡ ok entries
 
+-- the lent memory of both calls has the listed lengths; primed is the erased run's
+pub record ListedLengths (cells : List ℤ) (states : List ℕ) (cells′ : List ℤ) (states′ layout : List ℕ) : Type 0 where
+  pub cells-are : length cells ≡ cells-length
+  pub states-are : length states ≡ states-length
+  pub cells′-are : length cells′ ≡ cells-length
+  pub states′-are : length states′ ≡ states-length
+  pub layout-is : length layout ≡ layout-length
+
+-- ---- the claim
+-- each declared variable whose flag is 1 fits, satisfies its current yoke and lies within the limits
+pub record FilledHold (prof lims : List ℕ) (cells : List ℤ) (states : List ℕ) : Type 0 where
+  pub holds : (n : ℕ) → n < length (profileOf (rowsOf prof) (rowsOf lims) .declarations) → getD states (2 * n) 0 ≡ 1 → HoldsValue (rowsOf prof) (rowsOf lims) cells states n
+
+module _ (prof lims variables : List ℕ) (numbers : List ℤ) (budget : ℕ) (cells : List ℤ) (states : List ℕ) (c : RunCall) (cells′ : List ℤ) (states′ layout : List ℕ) (d : ErasedCall) where
+  -- one number refuses both, and each leaves its own memory as it was
+  pub record BothRefused : Type 0 where
+    pub number : ℕ
+    pub refuses : checkedRefusal prof lims variables numbers cells states ≡ number
+    pub some : 0 < number
+    pub checked : c ≡ record { answer = refused number; cells = cells; states = states }
+    pub erased : d ≡ record { answer = refused number; cells = cells′; states = states′; layout = layout }
+
+  -- neither is refused
+  pub record BothRan : Type 0 where
+    pub refuses-none : checkedRefusal prof lims variables numbers cells states ≡ 0
+    -- alike in end, error, place and steps, in all cells and in all state words
+    pub same-answer : d .answer ≡ c .answer
+    pub same-cells : d .cells ≡ c .cells
+    pub same-states : d .states ≡ c .states
+    -- each is the definition's run, whatever its memory held, and the erased run leaves the type check's layout table
+    pub entries : List Entry
+    pub passed : checkProfile (profileOf (rowsOf prof) (rowsOf lims)) ≡ ok entries
+    pub checked : c ≡ ran budget (runOf prof lims variables numbers budget)
+    pub erased : d ≡ withLayout (ran budget (runOf prof lims variables numbers budget)) (layoutOf entries)
+    pub layout-as-checked : d .layout ≡ checkCall prof lims layout .layout
+    -- no type error is met, and none recorded
+    pub meets : RunErrors (runMet (profileOf (rowsOf prof) (rowsOf lims)) (readingsOf variables numbers) budget)
+    pub recorded : lastState (runOf prof lims variables numbers budget) .error < first-type-error
+    -- what is filled in either memory
+    pub checked-filled : FilledHold prof lims (c .cells) (c .states)
+    pub erased-filled : FilledHold prof lims (d .cells) (d .states)
+
+  -- document 01: both runs are refused by the same number, or neither is
+  pub data TwoRuns : Type 0 where
+    both-refused : BothRefused → TwoRuns
+    both-ran : BothRan → TwoRuns
+
+  -- the claim with what it supposes: a promise for any two calls of the code
+  pub record Demand3 : Type 0 where
+    pub claim : Passes prof lims → ListedLengths cells states cells′ states′ layout → TwoRuns
+
+-- ---- one number refuses both
+-- rule 17 does not apply to a pair that passes, nor rule 1 to a layout table of the listed length
 pub same-refusal : (prof lims variables : List ℕ) (numbers cells : List ℤ) (states layout : List ℕ) → length layout ≡ layout-length
     → (es : List Entry) → checkProfile (profileOf (rowsOf prof) (rowsOf lims)) ≡ ok es
     → erasedRefusal prof lims variables numbers cells states layout ≡ checkedRefusal prof lims variables numbers cells states
 unfolding erasedRefusal checkedRefusal
 same-refusal prof lims variables numbers cells states layout l es e =
-    rule-passes bad-buffer (not (eqb (length layout) layout-length)) _ (ap not (eq-eqb (length layout) layout-length l))
-    ∙ rule-passes type-error-found (not (isOk (checkProfile (profileOf (rowsOf prof) (rowsOf lims))))) _ (ap (λ (o : Outcome TypeError (List Entry)). not (isOk o)) e)
+    lowest-skip bad-buffer (not (eqb (length layout) layout-length)) _ (ap not (eq-eqb (length layout) layout-length l))
+    ∙ lowest-skip type-error-found (not (isOk (checkProfile (profileOf (rowsOf prof) (rowsOf lims))))) _ (ap (λ (o : Outcome TypeError (List Entry)). not (isOk o)) e)
 
--- ---- what both hand back
-pub record SameCall (c : RunCall) (d : ErasedCall) : Type 0 where
-  pub answer : d .answer ≡ c .answer
-  pub cells : d .cells ≡ c .cells
-  pub states : d .states ≡ c .states
+-- of the cells and the state words the rules see the lengths alone
+same-lengths : (prof lims variables : List ℕ) (numbers cells cells′ : List ℤ) (states states′ : List ℕ) → length cells ≡ length cells′ → length states ≡ length states′
+    → checkedRefusal prof lims variables numbers cells states ≡ checkedRefusal prof lims variables numbers cells′ states′
+unfolding checkedRefusal runRules
+same-lengths prof lims variables numbers cells cells′ states states′ c s =
+    ap₂ (λ (a b : ℕ). lowest (rule bad-buffer (not (eqb (length variables) (length numbers) && eqb a cells-length && eqb b states-length)) ∷ rule bad-reading (readingWrong (rowsOf prof) variables) ∷ pairRules prof lims)) c s
 
-unless-same : (k : ℕ) (prof lims variables : List ℕ) (numbers : List ℤ) (budget : ℕ) (cells : List ℤ) (states layout : List ℕ)
-    → SameCall (runUnless k prof lims variables numbers budget cells states) (erasedUnless k prof lims variables numbers budget cells states layout)
-unfolding runUnless erasedUnless
-unless-same zero prof lims variables numbers budget cells states layout = record { answer = refl; cells = refl; states = refl }
-unless-same (suc k) prof lims variables numbers budget cells states layout = record { answer = refl; cells = refl; states = refl }
+-- ---- the layout table of a pair that passes
+pub passed-layout : (prof lims layout : List ℕ) (p : Passes prof lims) → length layout ≡ layout-length → checkCall prof lims layout .layout ≡ layoutOf (p .entries)
+unfolding checkCall checkUnless checkVerdict checkRefusal
+passed-layout prof lims layout p l =
+    ap (λ (k : ℕ). checkUnless k prof lims layout .layout)
+    (lowest-skip bad-buffer (not (eqb (length layout) layout-length)) (pairRules prof lims) (ap not (eq-eqb (length layout) layout-length l)) ∙ p .accepted)
+    ∙ ap (λ (o : Outcome TypeError (List Entry)). checkVerdict o .layout) (p .checked)
 
-pub same-call : (prof lims variables : List ℕ) (numbers : List ℤ) (budget : ℕ) (cells : List ℤ) (states layout : List ℕ) → length layout ≡ layout-length
-    → (es : List Entry) → checkProfile (profileOf (rowsOf prof) (rowsOf lims)) ≡ ok es
-    → SameCall (checkedCall prof lims variables numbers budget cells states) (erasedCall prof lims variables numbers budget cells states layout)
-unfolding checkedCall erasedCall
-same-call prof lims variables numbers budget cells states layout l es e =
-    subst (λ (k : ℕ). SameCall (runUnless (checkedRefusal prof lims variables numbers cells states) prof lims variables numbers budget cells states) (erasedUnless k prof lims variables numbers budget cells states layout))
-    (sym (same-refusal prof lims variables numbers cells states layout l es e))
-    (unless-same (checkedRefusal prof lims variables numbers cells states) prof lims variables numbers budget cells states layout)
+-- ---- the claim about the definitions' calls
+module _ (prof lims variables : List ℕ) (numbers : List ℤ) (budget : ℕ) (cells : List ℤ) (states : List ℕ) (cells′ : List ℤ) (states′ layout : List ℕ)
+    (p : Passes prof lims) (listed : ListedLengths cells states cells′ states′ layout) where
+  ran-both : checkedRefusal prof lims variables numbers cells states ≡ 0
+      → BothRan prof lims variables numbers budget cells states (ran budget (runOf prof lims variables numbers budget)) cells′ states′ layout (erasedUnless 0 prof lims variables numbers budget cells′ states′ layout)
+  unfolding ran runOf erasedUnless checkedRefusal
+  ran-both z =
+      let readings = readingsOf variables numbers in
+      let numeric = rules-readings prof lims variables numbers cells states z in
+      record {
+        refuses-none = z;
+        same-answer = refl;
+        same-cells = refl;
+        same-states = refl;
+        entries = p .entries;
+        passed = p .checked;
+        checked = refl;
+        erased = ap (withLayout (ran budget (runOf prof lims variables numbers budget))) (passed-layout prof lims layout p (listed .layout-is));
+        layout-as-checked = refl;
+        meets = accepted-safe prof lims (p .accepted) (p .entries) (p .checked) readings numeric budget;
+        recorded = accepted-error prof lims (p .accepted) (p .entries) (p .checked) readings numeric budget;
+        checked-filled = record { holds = λ n l q. accepted-memory prof lims (p .accepted) readings budget n l q };
+        erased-filled = record { holds = λ n l q. accepted-memory prof lims (p .accepted) readings budget n l q };
+      }
 
--- ---- the claim
--- a run that is not refused
-pub record SafeRun (prof lims variables : List ℕ) (numbers : List ℤ) (budget : ℕ) (c : RunCall) : Type 0 where
-  -- it meets no type error
-  pub meets : RunErrors (runMet (profileOf (rowsOf prof) (rowsOf lims)) (readingsOf variables numbers) budget)
-  -- and records none
-  pub recorded : lastState (runOf prof lims variables numbers budget) .error < first-type-error
-  -- without bodies it goes through the same states
-  pub without-bodies : runErased (profileOf (rowsOf prof) (rowsOf lims)) (readingsOf variables numbers) budget ≡ run (profileOf (rowsOf prof) (rowsOf lims)) (readingsOf variables numbers) budget
-  -- each filled variable fits, satisfies its yoke and lies within its limit
-  pub filled : (n : ℕ) → n < length (profileOf (rowsOf prof) (rowsOf lims) .declarations) → getD (c .states) (2 * n) 0 ≡ 1 → HoldsValue (profileOf (rowsOf prof) (rowsOf lims)) (c .cells) (c .states) n
+  by-number : (k : ℕ) → checkedRefusal prof lims variables numbers cells states ≡ k
+      → TwoRuns prof lims variables numbers budget cells states (runUnless k prof lims variables numbers budget cells states) cells′ states′ layout (erasedUnless k prof lims variables numbers budget cells′ states′ layout)
+  unfolding runUnless erasedUnless
+  by-number zero z = both-ran (ran-both z)
+  by-number (suc k) z = both-refused (record { number = suc k; refuses = z; some = omega arith; checked = refl; erased = refl })
 
-pub record TwoRuns (prof lims variables : List ℕ) (numbers : List ℤ) (budget : ℕ) (cells : List ℤ) (states layout : List ℕ) : Type 0 where
-  -- both are refused by the same number, or neither
-  pub refused : erasedRefusal prof lims variables numbers cells states layout ≡ checkedRefusal prof lims variables numbers cells states
-  -- both answer the same and leave the same cells and state words
-  pub same : SameCall (checkedCall prof lims variables numbers budget cells states) (erasedCall prof lims variables numbers budget cells states layout)
-  pub safe : checkedRefusal prof lims variables numbers cells states ≡ 0 → SafeRun prof lims variables numbers budget (checkedCall prof lims variables numbers budget cells states)
+  calls-agree : TwoRuns prof lims variables numbers budget cells states (checkedCall prof lims variables numbers budget cells states) cells′ states′ layout (erasedCall prof lims variables numbers budget cells′ states′ layout)
+  unfolding checkedCall erasedCall
+  calls-agree =
+      let k : ℕ = checkedRefusal prof lims variables numbers cells states in
+      let same : k ≡ erasedRefusal prof lims variables numbers cells′ states′ layout =
+      same-lengths prof lims variables numbers cells cells′ states states′ (listed .cells-are ∙ sym (listed .cells′-are)) (listed .states-are ∙ sym (listed .states′-are))
+      ∙ sym (same-refusal prof lims variables numbers cells′ states′ layout (listed .layout-is) (p .entries) (p .checked)) in
+      subst (λ (j : ℕ). TwoRuns prof lims variables numbers budget cells states (runUnless k prof lims variables numbers budget cells states) cells′ states′ layout (erasedUnless j prof lims variables numbers budget cells′ states′ layout))
+      same (by-number k refl)
 
-call-runs : (prof lims variables : List ℕ) (numbers : List ℤ) (budget : ℕ) (cells : List ℤ) (states : List ℕ) → checkedRefusal prof lims variables numbers cells states ≡ 0
-    → checkedCall prof lims variables numbers budget cells states ≡ ran budget (runOf prof lims variables numbers budget)
-unfolding checkedCall runUnless
-call-runs prof lims variables numbers budget cells states e = ap (λ (k : ℕ). runUnless k prof lims variables numbers budget cells states) e
+-- ---- the claim about two calls of the code, by their contracts
+module _ (prof lims variables : List ℕ) (numbers : List ℤ) (budget : ℕ) (cells : List ℤ) (states : List ℕ) (cells′ : List ℤ) (states′ layout : List ℕ)
+    (r r′ : RunAnswer) (after : List ℤ) (states-after : List ℕ) (after′ : List ℤ) (states-after′ layout-after : List ℕ) where
+  pub two-runs : runResult r after states-after ≡ checkedCall prof lims variables numbers budget cells states
+      → erasedResult r′ after′ states-after′ layout-after ≡ erasedCall prof lims variables numbers budget cells′ states′ layout
+      → Passes prof lims → ListedLengths cells states cells′ states′ layout
+      → TwoRuns prof lims variables numbers budget cells states (runResult r after states-after) cells′ states′ layout (erasedResult r′ after′ states-after′ layout-after)
+  two-runs e e′ p listed =
+      subst (λ (c : RunCall). TwoRuns prof lims variables numbers budget cells states c cells′ states′ layout (erasedResult r′ after′ states-after′ layout-after)) (sym e)
+      (subst (λ (d : ErasedCall). TwoRuns prof lims variables numbers budget cells states (checkedCall prof lims variables numbers budget cells states) cells′ states′ layout d) (sym e′)
+      (calls-agree prof lims variables numbers budget cells states cells′ states′ layout p listed))
 
-safe-run : (prof lims variables : List ℕ) (numbers : List ℤ) (budget : ℕ) (cells : List ℤ) (states : List ℕ) → lowest (pairRules prof lims) ≡ 0 → (es : List Entry)
-    → checkProfile (profileOf (rowsOf prof) (rowsOf lims)) ≡ ok es → checkedRefusal prof lims variables numbers cells states ≡ 0
-    → SafeRun prof lims variables numbers budget (ran budget (runOf prof lims variables numbers budget))
-unfolding checkedRefusal ran runOf
-safe-run prof lims variables numbers budget cells states accepted es passed rules =
-    let numeric = rules-readings prof lims variables numbers cells states rules in
-    let readings = readingsOf variables numbers in
-    record { meets = accepted-safe prof lims accepted es passed readings numeric budget; recorded = accepted-error prof lims accepted es passed readings numeric budget; without-bodies = accepted-erased prof lims accepted es passed readings numeric budget; filled = λ n m q. accepted-memory prof lims accepted readings budget n m q }
-
-pub two-runs : (prof lims : List ℕ) → lowest (pairRules prof lims) ≡ 0 → (es : List Entry) → checkProfile (profileOf (rowsOf prof) (rowsOf lims)) ≡ ok es
-    → (variables : List ℕ) (numbers : List ℤ) (budget : ℕ) (cells : List ℤ) (states layout : List ℕ) → length layout ≡ layout-length
-    → TwoRuns prof lims variables numbers budget cells states layout
-two-runs prof lims accepted es passed variables numbers budget cells states layout l =
-    record { refused = same-refusal prof lims variables numbers cells states layout l es passed; same = same-call prof lims variables numbers budget cells states layout l es passed; safe = λ e. subst (SafeRun prof lims variables numbers budget) (sym (call-runs prof lims variables numbers budget cells states e)) (safe-run prof lims variables numbers budget cells states accepted es passed e) }
+  pub demand-3 : runResult r after states-after ≡ checkedCall prof lims variables numbers budget cells states
+      → erasedResult r′ after′ states-after′ layout-after ≡ erasedCall prof lims variables numbers budget cells′ states′ layout
+      → Demand3 prof lims variables numbers budget cells states (runResult r after states-after) cells′ states′ layout (erasedResult r′ after′ states-after′ layout-after)
+  demand-3 e e′ = record { claim = two-runs e e′ }

@@ -132,8 +132,7 @@ pub kept-nothing : (kept : List ℤ) (d : ℕ) (limit : CodeLimit) → limit ≡
 kept-nothing kept d limit e h = rw e (put-nothing kept d h)
 
 -- ---- all of it
-pub begun : (rows limits variables : List ℕ) (kept cells : List ℤ) (states : List ℕ) → AcceptedRows rows → cells ≡ replicate cells-length (pos 0)
-    → YokesKept rows states (pairCount rows declaration-section) → BodiesKept rows variables (pairCount rows declaration-section) → LimitsKept rows limits kept (pairCount rows declaration-section)
-    → Begun rows limits variables kept cells states
-begun rows limits variables kept cells states h e y b l =
-    record { cells-are = start-cells rows limits cells h e; states-are = start-states rows limits states y; count = start-count rows limits; long = b .long; room = l .room; bodies = start-bodies rows limits variables b; limited = start-limits rows limits kept l }
+pub begun : (rows limits : List ℕ) (kept cells : List ℤ) (states : List ℕ) → AcceptedRows rows → cells ≡ replicate cells-length (pos 0)
+    → YokesKept rows states (pairCount rows declaration-section) → LimitsKept rows limits kept (pairCount rows declaration-section) → Begun rows limits kept cells states
+begun rows limits kept cells states h e y l =
+    record { cells-are = start-cells rows limits cells h e; states-are = start-states rows limits states y; count = start-count rows limits; room = l .room; limited = start-limits rows limits kept l }

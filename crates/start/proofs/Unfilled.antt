@@ -19,10 +19,11 @@ use Rattle.lingua.specs.Trees.{tabulateFrom, tabulate, declarationAt, profileOf
 use Rattle.laws.specs.Lists.{pad-free, pad-append}
 use Rattle.laws.specs.Stores.{store-states-parts, states-sized, variableStates, length-parts}
 use Rattle.safety.specs.Accepted.{AcceptedRows}
+use Rattle.safety.specs.Passed.{tabulated-at}
 use Rattle.rules.specs.Tables.{IsTable}
 use Rattle.rules.specs.declared.tables.Table.{Table}
 use Rattle.profile.specs.Accepted.{counts}
-use Rattle.profile.specs.Yokes.{number-of}
+use Rattle.safety.specs.Named.{number-of}
 use Rattle.start.specs.Begun.{startStore}
 use Rattle.start.specs.Kept.{YokesKept}
 
@@ -31,13 +32,6 @@ length-table : {A B : Type 0} (f : A → B) (g : ℕ → A) (i n : ℕ) → leng
 unfolding tabulateFrom
 length-table f g i zero = refl
 length-table f g i (suc n) = ap suc (length-table f g (suc i) n)
-
-table-at : {A B : Type 0} (f : A → B) (g : ℕ → A) (other : B) (i n k : ℕ) → k < n → getD (map f (tabulateFrom i n g)) k other ≡ f (g (i + k))
-unfolding tabulateFrom
-table-at f g other i zero k l = absurd (let z : ⊥ = omega arith in z)
-table-at f g other i (suc n) zero l = ap (λ (j : ℕ). f (g j)) (let e : i ≡ i + zero = omega arith in e)
-table-at f g other i (suc n) (suc k) l =
-    table-at f g other (suc i) n k (omega arith) ∙ ap (λ (j : ℕ). f (g j)) (let e : suc i + k ≡ i + suc k = omega arith in e)
 
 pub few-variables : (rows : List ℕ) → AcceptedRows rows → pairCount rows declaration-section ≤ most-variables
 few-variables rows h = counts rows (h .counts) .variables .most
@@ -58,7 +52,7 @@ module _ (rows limits : List ℕ) where
   pub start-at : (n : ℕ) → n < pairCount rows declaration-section → variableAt (startStore rows limits) n ≡ unfilled (declarationAt rows limits n)
   unfolding profileOf tabulate
   start-at n l =
-      table-at unfilled (λ d. declarationAt rows limits d) no-variable 0 (pairCount rows declaration-section) n l
+      tabulated-at unfilled (λ d. declarationAt rows limits d) no-variable 0 (pairCount rows declaration-section) n l
       ∙ ap (λ (j : ℕ). unfilled (declarationAt rows limits j)) (let e : 0 + n ≡ n = omega arith in e)
 
 -- ---- its cells

@@ -1,28 +1,24 @@
--- What a run's start leaves in memory: the store that the definition starts with, the declared bodies and the limits.
--- Assumes nothing: these are definitions.
+-- What a run's start leaves in memory: the store that the definition starts with, and the limits. Assumes nothing: these are definitions.
 use mathlib.Core.Path.{_≡_}
 use mathlib.Core.List.{List, map}
 use Prim.Native.Nat.{ℕ, _*_, _<_}
 use lib.IntN.{ℤ}
-use lib.ListN.{length, take, drop}
+use lib.ListN.{length}
 use Rattle.lingua.specs.Numbers.{declaration-section}
 use Rattle.lingua.specs.Rows.{pairCount}
 use Rattle.lingua.specs.Store.{Variable, variableAt, cellsIn, statesIn}
 use Rattle.lingua.specs.Run.{unfilled}
 use Rattle.lingua.specs.Trees.{profileOf}
-use Rattle.body.specs.Encode.{Holds, body-bytes}
 use Rattle.profile.specs.Variables.{LimitAt}
 
 -- no variable is filled, and each has its declared yoke
 abbrev pub startStore : List ℕ → List ℕ → List Variable
 startStore rows limits = map unfilled (profileOf rows limits .declarations)
 
--- 96 bytes for each variable's declared body, three cells for its limit; cells and state words as the definition has them
-pub record Begun (rows limits variables : List ℕ) (kept cells : List ℤ) (states : List ℕ) : Type 0 where
+-- cells and state words as the definition has them, and three cells for each variable's limit; no body
+pub record Begun (rows limits : List ℕ) (kept cells : List ℤ) (states : List ℕ) : Type 0 where
   pub cells-are : cells ≡ cellsIn (startStore rows limits)
   pub states-are : states ≡ statesIn (startStore rows limits)
   pub count : length (startStore rows limits) ≡ pairCount rows declaration-section
-  pub long : length variables ≡ 1536
   pub room : length kept ≡ 48
-  pub bodies : (n : ℕ) → n < length (startStore rows limits) → Holds (take body-bytes (drop (body-bytes * n) variables)) (variableAt (startStore rows limits) n .body)
   pub limited : (n : ℕ) → n < length (startStore rows limits) → LimitAt kept (3 * n) (variableAt (startStore rows limits) n .limit)

@@ -10,8 +10,9 @@ use Rattle.lingua.specs.Store.{Variable}
 use Rattle.lingua.specs.Expression.{skip}
 use Rattle.lingua.specs.Run.{State, Progress, going, out, settled, act, decided, exec}
 use Rattle.steps.specs.declared.Moment.{Moment}
+use Rattle.steps.specs.declared.Truth.{Truth}
 use Rattle.steps.specs.Moments.{stateOf, progressOf, onward, StepOf, recorded}
-use Rattle.steps.specs.Reached.{Memory, Going, Reached, Passes, Settles, Told}
+use Rattle.steps.specs.Reached.{Lent, Holding, Going, Reached, Passes, Settles, Tells}
 use Rattle.steps.specs.Steps.{act-passed, act-steps}
 
 -- ---- the moment
@@ -56,38 +57,37 @@ skip-stepped {m} {r} row g h e =
     record { is = λ vs. acted h e vs (λ t. going t) ∙ onward-going (r .out) (stateOf r vs); clean = clean-after g h }
 
 -- ---- the memory
-module _ {M : Memory} {cells : List ℤ} {states : List ℕ} where
+module _ {M : Holding} {l : Lent} where
   -- nothing is stored
-  pub stays : {m : Moment} {q : Progress} (vs : List Variable) → M cells states vs → (m .error ≡ 0 → m .place ≡ 0) → q ≡ progressOf (m .out) (stateOf m vs) → Reached M cells states m q
+  pub stays : {m : Moment} {q : Progress} (vs : List Variable) → M l vs → (m .error ≡ 0 → m .place ≡ 0) → q ≡ progressOf (m .out) (stateOf m vs) → Reached M l m q
   stays vs w k e = record { store = vs; is = e; running = w; clean = k }
 
-  pub reaches-as : {m : Moment} {p q : Progress} → q ≡ p → Reached M cells states m p → Reached M cells states m q
+  pub reaches-as : {m : Moment} {p q : Progress} → q ≡ p → Reached M l m p → Reached M l m q
   reaches-as e h = record { store = h .store; is = e ∙ h .is; running = h .running; clean = h .clean }
 
-kept : (M : Memory) (cells after : List ℤ) (states words : List ℕ) (vs : List Variable) → M cells states vs → after ≡ cells → words ≡ states → M after words vs
-kept M cells after states words vs w a b =
-    subst (λ (zs : List ℤ). M zs words vs) (sym a) (subst (λ (ns : List ℕ). M cells ns vs) (sym b) w)
+kept : (M : Holding) (l after : Lent) (vs : List Variable) → M l vs → after ≡ l → M after vs
+kept M l after vs w e = subst (λ (k : Lent). M k vs) (sym e) w
 
-module _ {M : Memory} {cells after : List ℤ} {states words : List ℕ} (vs : List Variable) (w : M cells states vs) where
+module _ {M : Holding} {l after : Lent} (vs : List Variable) (w : M l vs) where
   -- a new store, or an error with its place
-  pub settles : (r s : Moment) {o : Result (List Variable)} (error place : ℕ) → Settles error M cells after states words o → s ≡ recorded r error place → r .out ≡ false → (r .error ≡ 0 → r .place ≡ 0)
-      → Reached M after words s (going (settled (stateOf r vs) place o))
-  settles r s {o} error place a e q k = subst (λ (x : Moment). Reached M after words x (going (settled (stateOf r vs) place o))) (sym e) (by error a)
+  pub settles : (r s : Moment) {o : Result (List Variable)} (error place : ℕ) → Settles error M l after o → s ≡ recorded r error place → r .out ≡ false → (r .error ≡ 0 → r .place ≡ 0)
+      → Reached M after s (going (settled (stateOf r vs) place o))
+  settles r s {o} error place a e q k = subst (λ (x : Moment). Reached M after x (going (settled (stateOf r vs) place o))) (sym e) (by error a)
     where
-      by : (n : ℕ) → Settles n M cells after states words o → Reached M after words (recorded r n place) (going (settled (stateOf r vs) place o))
+      by : (n : ℕ) → Settles n M l after o → Reached M after (recorded r n place) (going (settled (stateOf r vs) place o))
       by zero a =
           let b = a .answer refl in
           record { store = b .store; is = ap (λ (p : Result (List Variable)). going (settled (stateOf r vs) place p)) (b .is) ∙ still-going r (stateOf r (b .store)) q; running = b .running; clean = k }
       by (suc n) a =
           let b = a .error (λ z. let f : ⊥ = omega (arith, z) in f) in
-          record { store = vs; is = ap (λ (p : Result (List Variable)). going (settled (stateOf r vs) place p)) (b .is) ∙ still-going (recorded r (suc n) place) (stateOf (recorded r (suc n) place) vs) q; running = kept M cells after states words vs w (b .same-cells) (b .same-states); clean = λ z. absurd (let f : ⊥ = omega (arith, z) in f) }
+          record { store = vs; is = ap (λ (p : Result (List Variable)). going (settled (stateOf r vs) place p)) (b .is) ∙ still-going (recorded r (suc n) place) (stateOf (recorded r (suc n) place) vs) q; running = kept M l after vs w (b .same); clean = λ z. absurd (let f : ⊥ = omega (arith, z) in f) }
 
 -- ---- a test
-module _ {error : ℕ} {holds : Bool} {o : Result Bool} (h : Told error holds o) (p : ℕ) (s : State) (f g : State → Progress) where
-  pub decided-yes : error ≡ 0 → holds ≡ true → decided o p s f g ≡ f s
+module _ {told : Truth} {o : Result Bool} (h : Tells told o) (p : ℕ) (s : State) (f g : State → Progress) where
+  pub decided-yes : told .error ≡ 0 → told .holds ≡ true → decided o p s f g ≡ f s
   decided-yes e b = ap (λ (x : Result Bool). decided x p s f g) (h .answer e ∙ ap ok b)
 
-  pub decided-no : error ≡ 0 → holds ≡ false → decided o p s f g ≡ g s
+  pub decided-no : told .error ≡ 0 → told .holds ≡ false → decided o p s f g ≡ g s
   decided-no e b = ap (λ (x : Result Bool). decided x p s f g) (h .answer e ∙ ap ok b)
 
 recorded-error : (r s : Moment) (vs : List Variable) (error place : ℕ) → s ≡ recorded r error place → (error ≡ 0 → ⊥) → r .out ≡ false → going (settled (stateOf r vs) place (fail error)) ≡ progressOf (s .out) (stateOf s vs)
@@ -98,9 +98,9 @@ recorded-clean : (r s : Moment) (error place : ℕ) → s ≡ recorded r error p
 recorded-clean r s zero place e z k = absurd (z refl)
 recorded-clean r s (suc n) place e z k = absurd (let f : suc n ≡ 0 = sym (ap (λ (x : Moment). x .error) e) ∙ k in let b : ⊥ = omega (arith, f) in b)
 
-module _ {M : Memory} {cells : List ℤ} {states : List ℕ} (vs : List Variable) (w : M cells states vs) where
-  pub test-failed : {error : ℕ} {holds : Bool} {o : Result Bool} (r s : Moment) (place : ℕ) (f g : State → Progress) → Told error holds o → (error ≡ 0 → ⊥) → s ≡ recorded r error place → r .out ≡ false
-      → Reached M cells states s (decided o place (stateOf r vs) f g)
-  test-failed {error} {holds} {o} r s place f g h z e q =
-      stays vs w (recorded-clean r s error place e z)
-      (ap (λ (x : Result Bool). decided x place (stateOf r vs) f g) (h .error-is z) ∙ recorded-error r s vs error place e z q)
+module _ {M : Holding} {l : Lent} (vs : List Variable) (w : M l vs) where
+  pub test-failed : {told : Truth} {o : Result Bool} (r s : Moment) (place : ℕ) (f g : State → Progress) → Tells told o → (told .error ≡ 0 → ⊥) → s ≡ recorded r (told .error) place → r .out ≡ false
+      → Reached M l s (decided o place (stateOf r vs) f g)
+  test-failed {told} {o} r s place f g h z e q =
+      stays vs w (recorded-clean r s (told .error) place e z)
+      (ap (λ (x : Result Bool). decided x place (stateOf r vs) f g) (h .error z) ∙ recorded-error r s vs (told .error) place e z q)

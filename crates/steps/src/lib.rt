@@ -1,4 +1,5 @@
-// What a run records beside its store: the error with its place, the steps that are left, and whether it is out of budget.
+// What a run records beside its store: the error with its place, the steps that are left, and whether it is out of budget;
+// and what it is told by a test.
 use lingua::RunAnswer;
 use lingua::errors::NO_ERROR;
 ghost use mathlib.Core.Path.{_≡_};
@@ -15,6 +16,12 @@ pub struct Moment {
     pub place: u16,
     pub left: u16,
     pub out: bool,
+}
+
+// What a test gave: an error, or whether it holds.
+pub struct Truth {
+    pub error: u8,
+    pub holds: bool,
 }
 
 // A run's start, with its whole budget.

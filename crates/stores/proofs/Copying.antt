@@ -1,13 +1,17 @@
--- A turn of each loop over cells, and a variable's part that comes back. Assumes nothing.
+-- A turn of each loop over cells, a variable's part that comes back, and a value that is copied. Assumes nothing.
 use mathlib.Core.Path.{_≡_, sym, ap, _∙_}
 use mathlib.Core.List.{List, [], _∷_, _++_}
-use Prim.Native.Nat.{ℕ, _+_, _-_, _*_, _<_}
+use Prim.Native.Nat.{ℕ, _+_, _-_, _*_, _≤_, _<_}
 use native.Mathlib.Numerals.{add-one}
 use native.Mathlib.Omega.{arith}
 use lib.IntN.{ℤ, pos}
 use lib.ListN.{length, take, drop, getD, set, length-drop}
 use lib.Seq.{drop-drop, getD-drop, take-suc, take-suc-set, paste, paste-suc}
 use Rattle.lingua.specs.Numbers.{body-cells}
+use Rattle.lingua.specs.Body.{Body, size}
+use Rattle.lingua.specs.Value.{Value, Fits, cellsOf}
+use Rattle.cells.specs.Stack.{Lies}
+use Rattle.cells.proofs.Windows.{paste-front}
 
 pub cells-turn : (s from : List ℤ) (at i : ℕ) → i < length s → at + i < length from → set (paste s 0 (drop at from) i) i (getD from (at + i) (pos 0)) ≡ paste s 0 (drop at from) (i + 1)
 cells-turn s from at i h k =
@@ -33,3 +37,15 @@ put-is cells value part n width e =
     ap (λ (l : List ℤ). take (body-cells * n) cells ++ (l ++ drop (body-cells * n + body-cells - body-cells * n) (drop (body-cells * n) cells))) e
     ∙ ap (λ (j : ℕ). take (body-cells * n) cells ++ (paste (take j (drop (body-cells * n) cells)) 0 value width ++ drop j (drop (body-cells * n) cells))) k
     ∙ ap (λ (l : List ℤ). take (body-cells * n) cells ++ (paste (take body-cells (drop (body-cells * n) cells)) 0 value width ++ l)) (drop-drop body-cells (body-cells * n) cells)
+
+-- ---- a value copied to the front
+pub copied-lies : {after : List ℤ} (s from : List ℤ) (at n : ℕ) (b : Body) (v : Value) → after ≡ paste s 0 (drop at from) n → n ≡ size b → at + n ≤ length from → take (size b) (drop at from) ≡ cellsOf b v → Fits v b → Lies after 0 b v
+copied-lies {after} s from at n b v e z h q f = record {
+  cells =
+      ap (λ (k : ℕ). take k after) (sym z)
+      ∙ ap (λ (l : List ℤ). take n l) e
+      ∙ paste-front s (drop at from) n (omega (arith, length-drop at from))
+      ∙ ap (λ (k : ℕ). take k (drop at from)) z
+      ∙ q;
+  fit = f;
+}

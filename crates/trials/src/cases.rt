@@ -6,11 +6,6 @@ use crate::answers::check_line;
 use crate::answers::read_line;
 use crate::answers::run_line;
 use crate::answers::write_line;
-use crate::calls;
-use crate::calls::CheckCalled;
-use crate::calls::ReadCalled;
-use crate::calls::RunCalled;
-use crate::calls::WriteCalled;
 use crate::fields::count_fields;
 use crate::fields::field;
 use crate::fields::same;
@@ -80,10 +75,8 @@ fn read_case(line: &[u8], out: &mut [u8]) -> usize {
 
 fn read_file(kind: FileKind, file: &[u8], out: &mut [u8]) -> usize {
     let mut rows = [nonsense::BYTE; 8320];
-    match calls::read(kind, file, &mut rows) {
-        ReadCalled::Made(answer) => read_line(answer, nonsense::bytes_kept(&rows), &rows, out),
-        ReadCalled::Missing => bad_case(out),
-    }
+    let answer = format::read(kind, file, &mut rows);
+    read_line(answer, nonsense::bytes_kept(&rows), &rows, out)
 }
 
 // ---- write KIND MODEL ROWS
@@ -131,10 +124,8 @@ fn write_sized(kind: FileKind, model: u16, rows: &[u8], buffer: &mut [u8], out: 
 }
 
 fn write_into(kind: FileKind, model: u16, rows: &[u8], file: &mut [u8], out: &mut [u8]) -> usize {
-    match calls::write(kind, model, rows, file) {
-        WriteCalled::Made(answer) => write_line(answer, nonsense::bytes_kept(file), file, out),
-        WriteCalled::Missing => bad_case(out),
-    }
+    let answer = format::write(kind, model, rows, &mut *file);
+    write_line(answer, nonsense::bytes_kept(file), file, out)
 }
 
 // ---- inspect PROFILE LIMITS
@@ -152,15 +143,8 @@ fn inspect_case(line: &[u8], out: &mut [u8]) -> usize {
 
 fn inspect(profile: &[u8], limits: &[u8], out: &mut [u8]) -> usize {
     let mut layout = [nonsense::WORD; 1024];
-    match calls::check_types(profile, limits, &mut layout) {
-        CheckCalled::Made(answer) => check_line(
-            answer,
-            nonsense::words_kept(&layout),
-            &layout,
-            out,
-        ),
-        CheckCalled::Missing => bad_case(out),
-    }
+    let answer = typecheck::call::check_types(profile, limits, &mut layout);
+    check_line(answer, nonsense::words_kept(&layout), &layout, out)
 }
 
 // ---- desk or chair PROFILE LIMITS READINGS BUDGET
@@ -222,7 +206,7 @@ fn run_checked(
 ) -> usize {
     let mut cells = [nonsense::CELL; 1024];
     let mut states = [nonsense::WORD; 32];
-    let called = calls::run_checked(
+    let answer = calls::checked_run::run_checked(
         profile,
         limits,
         variables,
@@ -232,7 +216,7 @@ fn run_checked(
         &mut states,
     );
     let kept = nonsense::cells_kept(&cells) && nonsense::words_kept(&states);
-    run_called(called, kept, &cells, &states, out)
+    run_line(answer, kept, &cells, &states, out)
 }
 
 fn run_erased(
@@ -246,7 +230,7 @@ fn run_erased(
     let mut cells = [nonsense::CELL; 1024];
     let mut states = [nonsense::WORD; 32];
     let mut layout = [nonsense::WORD; 1024];
-    let called = calls::run_erased(
+    let answer = calls::erased_run::run_erased(
         profile,
         limits,
         variables,
@@ -259,18 +243,5 @@ fn run_erased(
     let kept = nonsense::cells_kept(&cells)
         && nonsense::words_kept(&states)
         && nonsense::words_kept(&layout);
-    run_called(called, kept, &cells, &states, out)
-}
-
-fn run_called(
-    called: RunCalled,
-    kept: bool,
-    cells: &[i64],
-    states: &[u16],
-    out: &mut [u8],
-) -> usize {
-    match called {
-        RunCalled::Made(answer) => run_line(answer, kept, cells, states, out),
-        RunCalled::Missing => bad_case(out),
-    }
+    run_line(answer, kept, &cells, &states, out)
 }

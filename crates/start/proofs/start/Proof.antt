@@ -14,9 +14,6 @@ clear-states-requires c κs = search needs
 keep-yokes-requires : tie.Need-keep-yokes-requires
 keep-yokes-requires c κs = search needs
 
-keep-bodies-requires : tie.Need-keep-bodies-requires
-keep-bodies-requires c κs = search needs
-
 keep-limits-requires : tie.Need-keep-limits-requires
 keep-limits-requires c κs = search needs
 
@@ -29,11 +26,8 @@ same-length-2 c = search needs
 same-length-3 : tie.Need-same-length-3
 same-length-3 c = search needs
 
-same-length-4 : tie.Need-same-length-4
-same-length-4 c = search needs
-
 returns : tie.Need-returns
-returns c = begun (now (c .before .before .before .before .before .before .before .before .before .before .before .before .before .before .before .before .before .before .before .before .before .before .before .args .rows)) (now (c .before .before .before .before .before .before .before .before .before .before .before .before .before .before .before .before .before .before .before .before .before .before .before .args .limits)) _ _ _ _ (c .before .before .before .before .before .before .before .before .before .before .before .before .before .before .before .before .before .before .before .before .before .before .before .pre .0) (c .before .before .before .before .before .before .before .before .before .before .before .before .before .before .before .before .clear-cells .ensures) (c .before .before .before .before .before .before .before .before .before .keep-yokes .ensures) (c .before .before .before .before .before .keep-bodies .ensures) (c .before .keep-limits .ensures)
+returns c = begun (now (c .before .before .before .before .before .before .before .before .before .before .before .before .before .before .before .before .before .args .rows)) (now (c .before .before .before .before .before .before .before .before .before .before .before .before .before .before .before .before .before .args .limits)) _ _ _ (c .before .before .before .before .before .before .before .before .before .before .before .before .before .before .before .before .before .pre .0) (c .before .before .before .before .before .before .before .before .before .before .before .before .clear-cells .ensures) (c .before .before .before .before .before .keep-yokes .ensures) (c .before .keep-limits .ensures)
 
 pub start-spec : {M : Type 1} → statement M
 start-spec =
@@ -42,10 +36,8 @@ start-spec =
     clear-cells-requires
     clear-states-requires
     keep-yokes-requires
-    keep-bodies-requires
     keep-limits-requires
     same-length
     same-length-2
     same-length-3
-    same-length-4
     returns)

@@ -5,8 +5,10 @@ use native.Mathlib.Omega.{arith}
 use lib.IntN.{ℤ}
 use lib.ListN.{length}
 use lib.Seq.{length-take-le}
-use Rattle.checked.proofs.Storing.{states-room, cells-room}
-use Rattle.checked.proofs.Assigning.{front-current, keeps, operand-error, not-admitted, stores}
+use Rattle.stores.proofs.Parts.{states-room, cells-room}
+use Rattle.stores.proofs.Settling.{keeps}
+use Rattle.checked.proofs.Storing.{memory-of}
+use Rattle.checked.proofs.Assigning.{front-current, operand-error, not-admitted, stores}
 use borrow.Author.Needs.{needs}
 use Rattle.checked.proofs.assign.assign.Statement.{statement}
 use Rattle.checked.proofs.assign.assign.Tie as tie
@@ -47,9 +49,9 @@ put-requires c κs =
     let r = c .before .before .before .before .before .before .before .before .before .before .before .before .before .before .before .before .before .before .pre .0 in
     let a = r .given .gives .answer (c .before .before .before .before .before .before .before .before .before .before .before .before .before .if1 .left) in
     let long = ap (λ (l : List ℤ). length l) (c .before .before .before .before .before .before .before .before .before .before .before .front .ensures) ∙ length-take-le 64 (c .before .before .before .before .before .before .before .before .before .before .before .before .before .before .before .before .before .before .args .stack .now) (omega (arith, c .before .before .before .before .before .before .before .before .before .before .before .before .before .before .before .before .before .before .pre .1)) in (
-      cells-room _ _ _ (r .store) _ (r .running .world .stored) (r .there),
+      cells-room (memory-of (r .running .world .stored)) _ (r .there),
       (
-        states-room _ _ _ (r .store) _ (r .running .world .stored) (r .there),
+        states-room (memory-of (r .running .world .stored)) _ (r .there),
         (omega (arith, a .cells, a .holds .few-cells), omega (arith, a .cells, a .holds .few-cells, long)),
       ),
     )

@@ -1,6 +1,7 @@
 -- `change_yoke` meets its contract, by `not-changed` and `changed`. Assumes nothing.
 use native.Mathlib.Omega.{arith}
-use Rattle.checked.proofs.Admitting.{word-room}
+use Rattle.stores.proofs.Parts.{word-room}
+use Rattle.checked.proofs.Storing.{memory-of}
 use Rattle.checked.proofs.Changing.{not-changed, changed}
 use borrow.Author.Needs.{needs}
 use Rattle.checked.proofs.change.change_yoke.Statement.{statement}
@@ -30,7 +31,7 @@ mul-states-2 : tie.Need-mul-states-2
 mul-states-2 c = search needs
 
 slice-write-states : tie.Need-slice-write-states
-slice-write-states c = let r = c .before .before .before .before .before .before .before .before .pre .0 in word-room (r .running) _ (r .there)
+slice-write-states c = let r = c .before .before .before .before .before .before .before .before .pre .0 in word-room (memory-of (r .running .world .stored)) _ (r .there)
 
 same-length-3 : tie.Need-same-length-3
 same-length-3 c = search needs

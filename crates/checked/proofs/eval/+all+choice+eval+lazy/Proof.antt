@@ -1,13 +1,13 @@
 -- The cycle of evaluation meets its contracts: eval on a row calls the others at that row, and they call eval on lower rows.
 -- One law of Cycle.antt for each way that a member ends. Assumes nothing.
-use mathlib.Core.Path.{_≡_, refl, sym, ap, _∙_}
+use mathlib.Core.Path.{_≡_, refl}
 use mathlib.Core.List.{List, map}
 use Prim.Native.Nat.{_+_, _-_, _*_, _≤_}
 use native.Mathlib.Omega.{arith}
-use lib.ListN.{length, take, drop, length-take, length-drop}
+use lib.ListN.{length, take, length-take, length-drop}
 use borrow.Author.Needs.{needs}
 use Rattle.lingua.specs.Body.{Body, list-of}
-use Rattle.lingua.specs.Value.{Value, Composite, composite, valueList, asItems, countValues}
+use Rattle.lingua.specs.Value.{Value, composite, valueList, asItems, countValues}
 use Rattle.lingua.specs.Store.{Variable, contents}
 use Rattle.lingua.specs.Trees.{expressionTree}
 use Rattle.lingua.specs.Evaluation.{eval as meaning}
@@ -15,12 +15,15 @@ use Rattle.body.specs.Encode.{Holds}
 use Rattle.cells.specs.Stack.{Lies}
 use Rattle.profile.specs.Facts.{RowFacts, rowTree}
 use Rattle.profile.specs.Accepted.{expression-attributes}
-use Rattle.checked.specs.Meaning.{World, Sees, Ready}
+use Rattle.checked.specs.Meaning.{World, Sees}
 use Rattle.checked.proofs.Giving.{gives-error, gives-as}
-use Rattle.checked.proofs.Stacking.{first-stays, second-lies, both-long}
+use Rattle.profile.specs.Facts.{says-as}
+use Rattle.cells.proofs.Operands.{both-long}
+use Rattle.cells.proofs.Walking.{counted-elements, turn-room, next-place, elementAt}
+use Rattle.checked.proofs.Stacking.{first-stays, second-lies}
 use Rattle.checked.proofs.Seeing.{sees-none}
-use Rattle.checked.proofs.Walking.{counted, no-list, current-list, length-back, counted-elements, element-held, some-cell, walks, turn-room, next-place, elementAt, element-current, sees-more, sees-all, all-is}
-use Rattle.checked.proofs.Cycle.{says-as, in-table, facts, by-row, lazy-error, lazy-settled, lazy-second-error, lazy-second-told, choice-error, choice-yes, choice-no}
+use Rattle.checked.proofs.Walking.{no-list, current-list, element-held, list-cell, list-walks, element-current, sees-more, sees-all, all-is}
+use Rattle.checked.proofs.Cycle.{in-table, facts, by-row, lazy-error, lazy-settled, lazy-second-error, lazy-second-told, choice-error, choice-yes, choice-no}
 use Prim.Native.Nat.{ℕ, _<_}
 use borrow.Fn.Kinds.{In}
 use borrow.Fn.PlainCycle.{Measures, is, falls, and}
@@ -121,11 +124,11 @@ all-measure-body-requires : (t : ℕ) → all-lts.Need-measure-body-requires (al
 all-measure-body-requires t c κs = element-held (c .before .before .before .before .before .pre .1 .0 .has) (c .before .if1 .left) (c .element .ensures)
 
 all-shared-slice-copy-out-n : (t : ℕ) → all-lts.Need-shared-slice-copy-out-n (all-calls t) (all-at t) all.Post all-Inv-loop all-μ-loop
-all-shared-slice-copy-out-n t c = some-cell (c .before .before .before .before .before .before .pre .1 .0 .has) (c .before .before .if1 .left) (c .before .element .ensures)
+all-shared-slice-copy-out-n t c = list-cell (c .before .before .before .before .before .before .pre .1 .0 .has) (c .before .before .if1 .left) (c .before .element .ensures)
 
 all-cast-n : (t : ℕ) → all-lts.Need-cast-n (all-calls t) (all-at t) all.Post all-Inv-loop all-μ-loop
 all-cast-n t c =
-    let k = walks (c .before .before .before .before .before .before .before .pre .1 .0 .has) (c .before .before .before .if1 .left) (c .before .before .element .ensures) (c .before .measure-body .result .cells) (λ b h. c .before .measure-body .ensures b h .is-cells) in
+    let k = list-walks (c .before .before .before .before .before .before .before .pre .1 .0 .has) (c .before .before .before .if1 .left) (c .before .before .element .ensures) (c .before .measure-body .result .cells) (λ b h. c .before .measure-body .ensures b h .is-cells) in
     rw (k .positive) (tt, omega (arith, k .few))
 
 all-loop-holds : (t : ℕ) → all-lts.Need-loop-holds (all-calls t) (all-at t) all.Post all-Inv-loop all-μ-loop
@@ -133,12 +136,12 @@ all-loop-holds t c = (omega arith, refl, omega arith, λ vs b x w h l. sees-none
 
 all-add-eval : (t : ℕ) → all-lts.Need-add-eval (all-calls t) (all-at t) all.Post all-Inv-loop all-μ-loop
 all-add-eval t c =
-    let k = walks (c .before .before .before .before .before .before .before .before .before .pre .1 .0 .has) (c .before .before .before .before .before .if1 .left) (c .before .before .before .before .element .ensures) (c .before .before .before .measure-body .result .cells) (λ b h. c .before .before .before .measure-body .ensures b h .is-cells) in
+    let k = list-walks (c .before .before .before .before .before .before .before .before .before .pre .1 .0 .has) (c .before .before .before .before .before .if1 .left) (c .before .before .before .before .element .ensures) (c .before .before .before .measure-body .result .cells) (λ b h. c .before .before .before .measure-body .ensures b h .is-cells) in
     omega (arith, turn-room _ _ _ _ (c .before .loop .inv .2) (c .loop-test .taken) (k .few), k .room)
 
 all-mul-eval : (t : ℕ) → all-lts.Need-mul-eval (all-calls t) (all-at t) all.Post all-Inv-loop all-μ-loop
 all-mul-eval t c =
-    let k = walks (c .before .before .before .before .before .before .before .before .before .pre .1 .0 .has) (c .before .before .before .before .before .if1 .left) (c .before .before .before .before .element .ensures) (c .before .before .before .measure-body .result .cells) (λ b h. c .before .before .before .measure-body .ensures b h .is-cells) in
+    let k = list-walks (c .before .before .before .before .before .before .before .before .before .pre .1 .0 .has) (c .before .before .before .before .before .if1 .left) (c .before .before .before .before .element .ensures) (c .before .before .before .measure-body .result .cells) (λ b h. c .before .before .before .measure-body .ensures b h .is-cells) in
     omega (arith, turn-room _ _ _ _ (c .before .loop .inv .2) (c .loop-test .taken) (k .few), k .room)
 
 all-sub-eval : (t : ℕ) → all-lts.Need-sub-eval (all-calls t) (all-at t) all.Post all-Inv-loop all-μ-loop
@@ -149,7 +152,7 @@ all-part-eval-start t c = omega arith
 
 all-part-eval-end : (t : ℕ) → all-lts.Need-part-eval-end (all-calls t) (all-at t) all.Post all-Inv-loop all-μ-loop
 all-part-eval-end t c =
-    let k = walks (c .before .before .before .before .before .before .before .before .before .pre .1 .0 .has) (c .before .before .before .before .before .if1 .left) (c .before .before .before .before .element .ensures) (c .before .before .before .measure-body .result .cells) (λ b h. c .before .before .before .measure-body .ensures b h .is-cells) in
+    let k = list-walks (c .before .before .before .before .before .before .before .before .before .pre .1 .0 .has) (c .before .before .before .before .before .if1 .left) (c .before .before .before .before .element .ensures) (c .before .before .before .measure-body .result .cells) (λ b h. c .before .before .before .measure-body .ensures b h .is-cells) in
     omega (arith, turn-room _ _ _ _ (c .before .loop .inv .2) (c .loop-test .taken) (k .few), k .long)
 
 all-eval-requires : (t : ℕ) → all-lts.Need-eval-requires (all-calls t) (all-at t) all.Post all-Inv-loop all-μ-loop
@@ -170,12 +173,12 @@ all-noted-requires t c κs = omega (arith, c .before .before .before .before .be
 
 all-add-at : (t : ℕ) → all-lts.Need-add-at (all-calls t) (all-at t) all.Post all-Inv-loop all-μ-loop
 all-add-at t c =
-    let k = walks (c .before .before .before .before .before .before .before .before .before .before .before .before .before .before .before .pre .1 .0 .has) (c .before .before .before .before .before .before .before .before .before .before .before .if1 .left) (c .before .before .before .before .before .before .before .before .before .before .element .ensures) (c .before .before .before .before .before .before .before .before .before .measure-body .result .cells) (λ b h. c .before .before .before .before .before .before .before .before .before .measure-body .ensures b h .is-cells) in
+    let k = list-walks (c .before .before .before .before .before .before .before .before .before .before .before .before .before .before .before .pre .1 .0 .has) (c .before .before .before .before .before .before .before .before .before .before .before .if1 .left) (c .before .before .before .before .before .before .before .before .before .before .element .ensures) (c .before .before .before .before .before .before .before .before .before .measure-body .result .cells) (λ b h. c .before .before .before .before .before .before .before .before .before .measure-body .ensures b h .is-cells) in
     omega (arith, turn-room _ _ _ _ (c .before .before .before .before .before .before .before .loop .inv .2) (c .before .before .before .before .before .before .loop-test .taken) (k .few), k .room)
 
 all-add-i : (t : ℕ) → all-lts.Need-add-i (all-calls t) (all-at t) all.Post all-Inv-loop all-μ-loop
 all-add-i t c =
-    let k = walks (c .before .before .before .before .before .before .before .before .before .before .before .before .before .before .before .pre .1 .0 .has) (c .before .before .before .before .before .before .before .before .before .before .before .if1 .left) (c .before .before .before .before .before .before .before .before .before .before .element .ensures) (c .before .before .before .before .before .before .before .before .before .measure-body .result .cells) (λ b h. c .before .before .before .before .before .before .before .before .before .measure-body .ensures b h .is-cells) in
+    let k = list-walks (c .before .before .before .before .before .before .before .before .before .before .before .before .before .before .before .pre .1 .0 .has) (c .before .before .before .before .before .before .before .before .before .before .before .if1 .left) (c .before .before .before .before .before .before .before .before .before .before .element .ensures) (c .before .before .before .before .before .before .before .before .before .measure-body .result .cells) (λ b h. c .before .before .before .before .before .before .before .before .before .measure-body .ensures b h .is-cells) in
     omega (arith, c .before .before .before .before .before .before .loop-test .taken, k .few)
 
 all-loop-less : (t : ℕ) → all-lts.Need-loop-less (all-calls t) (all-at t) all.Post all-Inv-loop all-μ-loop

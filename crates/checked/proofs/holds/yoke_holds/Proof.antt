@@ -1,10 +1,8 @@
 -- `yoke_holds` meets its contract: one law of Yoking.antt for each way that it ends. Assumes nothing.
-use mathlib.Core.Path.{sym}
 use native.Mathlib.Omega.{arith}
 use borrow.Author.Tests.{not-true, not-false}
-use Rattle.lingua.specs.Store.{variableAt}
-use Rattle.lingua.specs.Trees.{yokeTree}
-use Rattle.checked.proofs.Storing.{states-room, cells-room}
+use Rattle.stores.proofs.Parts.{states-room, cells-room}
+use Rattle.checked.proofs.Storing.{memory-of}
 use Rattle.checked.proofs.Yoking.{fetched, none-holds, holds-error, holds-not, holds-true}
 use borrow.Author.Needs.{needs}
 use Rattle.checked.proofs.holds.yoke_holds.Statement.{statement}
@@ -17,7 +15,7 @@ mul-if1-2 : tie.Need-mul-if1-2
 mul-if1-2 c = search needs
 
 shared-slice-read-if1 : tie.Need-shared-slice-read-if1
-shared-slice-read-if1 c = let r = c .before .before .before .before .pre .0 in states-room _ _ _ (r .store) _ (r .world .stored) (omega (arith, r .world .count, c .before .before .before .before .pre .1 .0))
+shared-slice-read-if1 c = let r = c .before .before .before .before .pre .0 in states-room (memory-of (r .world .stored)) _ (omega (arith, r .world .count, c .before .before .before .before .pre .1 .0))
 
 returns : tie.Need-returns
 returns c = λ vs w. none-holds _ _ _ vs (c .before .before .before .before .before .args .n) (w .stored) (omega (arith, w .count, c .before .before .before .before .before .pre .1 .0)) _ (c .if1 .taken)
@@ -41,7 +39,7 @@ part-eval-yoke-start : tie.Need-part-eval-yoke-start
 part-eval-yoke-start c = search needs
 
 part-eval-yoke-end : tie.Need-part-eval-yoke-end
-part-eval-yoke-end c = let r = c .before .before .before .before .before .before .pre .0 in cells-room _ _ _ (r .store) _ (r .world .stored) (omega (arith, r .world .count, c .before .before .before .before .before .before .pre .1 .0))
+part-eval-yoke-end c = let r = c .before .before .before .before .before .before .pre .0 in cells-room (memory-of (r .world .stored)) _ (omega (arith, r .world .count, c .before .before .before .before .before .before .pre .1 .0))
 
 eval-yoke-requires : tie.Need-eval-yoke-requires
 eval-yoke-requires c κs =

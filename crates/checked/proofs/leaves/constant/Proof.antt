@@ -1,6 +1,7 @@
 -- `constant` meets its contract, by `gives-constant`. Assumes nothing.
 use mathlib.Core.Path.{refl, sym}
-use Rattle.checked.proofs.Storing.{cell-as, gives-constant}
+use Rattle.profile.specs.Constants.{cell-as}
+use Rattle.checked.proofs.Storing.{gives-constant}
 use Rattle.cells.proofs.Moves.{cell-back}
 use borrow.Author.Needs.{needs}
 use Rattle.checked.proofs.leaves.constant.Statement.{statement}

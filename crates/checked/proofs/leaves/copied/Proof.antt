@@ -1,7 +1,7 @@
 -- `copied` meets its contract, by `gives-current`. Assumes nothing.
 use mathlib.Core.Path.{refl}
 use native.Mathlib.Omega.{arith}
-use Rattle.checked.proofs.Storing.{current-held, current-room, gives-current}
+use Rattle.checked.proofs.Storing.{current-room, gives-current}
 use borrow.Author.Needs.{needs}
 use Rattle.checked.proofs.leaves.copied.Statement.{statement}
 use Rattle.checked.proofs.leaves.copied.Tie as tie

@@ -2,7 +2,8 @@
 use mathlib.Core.Path.{refl}
 use native.Mathlib.Omega.{arith}
 use Rattle.checked.proofs.Giving.{gives-error}
-use Rattle.checked.proofs.Storing.{states-room, bodies-room, cells-room, declared-held, not-filled-is, gives-variable}
+use Rattle.stores.proofs.Parts.{states-room, cells-room}
+use Rattle.checked.proofs.Storing.{memory-of, declared-held, not-filled-is, gives-variable}
 use borrow.Author.Needs.{needs}
 use Rattle.checked.proofs.leaves.fetch.Statement.{statement}
 use Rattle.checked.proofs.leaves.fetch.Tie as tie
@@ -14,13 +15,13 @@ mul-if1-2 : tie.Need-mul-if1-2
 mul-if1-2 c = search needs
 
 shared-slice-read-if1 : tie.Need-shared-slice-read-if1
-shared-slice-read-if1 c = let h = c .before .before .before .pre .0 in states-room _ _ _ (h .store) _ (h .stored) (h .there)
+shared-slice-read-if1 c = let h = c .before .before .before .pre .0 in states-room (memory-of (h .stored)) _ (h .there)
 
 failed-requires : tie.Need-failed-requires
 failed-requires c κs = search needs
 
 returns : tie.Need-returns
-returns c = λ vs h l. gives-error 7 (c .failed .ensures) (λ e. omega arith) (not-filled-is _ _ _ vs _ h l (c .before .if1 .taken))
+returns c = λ vs h l. gives-error 7 (c .failed .ensures) (λ e. omega arith) (not-filled-is h _ l (c .before .if1 .taken))
 
 declared-requires : tie.Need-declared-requires
 declared-requires c κs = search needs
@@ -28,7 +29,7 @@ declared-requires c κs = search needs
 measure-body-requires : tie.Need-measure-body-requires
 measure-body-requires c κs =
     let h = c .before .before .before .before .before .pre .0 in
-    record { body = _; holds = declared-held _ _ _ (h .store) _ (h .stored) (h .there) _ (c .declared .ensures) }
+    record { body = _; holds = declared-held (h .stored) _ (h .there) _ (c .declared .ensures) }
 
 mul-copy : tie.Need-mul-copy
 mul-copy c = search needs
@@ -36,16 +37,16 @@ mul-copy c = search needs
 copy-requires : tie.Need-copy-requires
 copy-requires c κs =
     let h = c .before .before .before .before .before .before .before .pre .0 in
-    let b = declared-held _ _ _ (h .store) _ (h .stored) (h .there) _ (c .before .before .declared .ensures) in
+    let b = declared-held (h .stored) _ (h .there) _ (c .before .before .declared .ensures) in
     let m = c .before .measure-body .ensures _ b .is-cells in
-    (omega (arith, cells-room _ _ _ (h .store) _ (h .stored) (h .there), m, b .few-cells), omega (arith, m, b .few-cells, c .before .before .before .before .before .before .before .pre .1))
+    (omega (arith, cells-room (memory-of (h .stored)) _ (h .there), m, b .few-cells), omega (arith, m, b .few-cells, c .before .before .before .before .before .before .before .pre .1))
 
 same-length : tie.Need-same-length
 same-length c = search needs
 
 returns-2 : tie.Need-returns-2
 returns-2 c = λ vs h l.
-    gives-variable _ _ _ vs _ h l (c .before .before .before .before .before .before .before .before .before .args .stack .now) _ _ _ _ (c .before .before .before .before .before .if1 .left) (c .before .before .before .before .declared .ensures) (c .before .before .before .measure-body .ensures _ (declared-held _ _ _ vs _ h l _ (c .before .before .before .before .declared .ensures)) .is-cells) (c .before .copy .ensures) refl refl refl
+    gives-variable h _ l (c .before .before .before .before .before .before .before .before .before .args .stack .now) _ _ _ _ (c .before .before .before .before .before .if1 .left) (c .before .before .before .before .declared .ensures) (c .before .before .before .measure-body .ensures _ (declared-held h _ l _ (c .before .before .before .before .declared .ensures)) .is-cells) (c .before .copy .ensures) refl refl refl
 
 pub fetch-spec : {M : Type 1} → statement M
 fetch-spec =

@@ -6,8 +6,9 @@ use mir.ValLaws.{toZ-ofZ}
 use borrow.Author.Tests.{not-true, not-false}
 use Rattle.lingua.specs.Numbers.{lowest-number, highest-number}
 use Rattle.stores.proofs.Limiting.{between-as}
-use Rattle.checked.proofs.Assigning.{keeps}
-use Rattle.checked.proofs.Readings.{puts-number, out-of-range, taken-is, assigns-as}
+use Rattle.stores.proofs.Readings.{out-of-range, taken-is}
+use Rattle.stores.proofs.Settling.{keeps, settles-as}
+use Rattle.checked.proofs.Readings.{puts-number}
 use borrow.Author.Needs.{needs}
 use Rattle.checked.proofs.reading.take_reading.Statement.{statement}
 use Rattle.checked.proofs.reading.take_reading.Tie as tie
@@ -39,7 +40,7 @@ same-length-3 : tie.Need-same-length-3
 same-length-3 c = c .before .before .before .before .assign .kept .1 .1 .1 .1 .1 .1 .1 .1 .0 ∙ length-set (c .before .before .before .before .before .before .before .before .before .before .before .before .before .before .args .stack .now) 0 _
 
 returns-2 : tie.Need-returns-2
-returns-2 c = λ vs w l. assigns-as (taken-is vs (c .before .before .before .before .before .before .before .before .before .before .before .before .before .before .args .n) (c .before .before .before .before .before .before .before .before .before .before .before .before .before .before .args .z) _ (c .before .before .before .before .before .before .before .before .before .before .between .ensures ∙ between-as {low = lowest-number} {high = highest-number} {z = c .before .before .before .before .before .before .before .before .before .before .before .before .before .before .args .z} refl refl (toZ-ofZ _ _ (c .before .before .before .before .before .before .before .before .before .before .before .before .before .before .fits .z))) (not-false _ (c .before .before .before .before .before .before .before .before .before .if1 .left))) (c .before .before .before .before .assign .ensures vs _ w l (puts-number (c .before .before .before .before .before .before .before .before .before .before .before .before .before .before .args .stack .now) (c .before .before .before .before .before .before .before .before .before .before .before .before .before .before .args .z) _ _ (toZ-ofZ _ _ (c .before .before .before .before .before .before .before .before .before .before .before .before .before .before .fits .z)) (c .before .before .before .before .before .before .before .before .before .before .between .ensures ∙ between-as {low = lowest-number} {high = highest-number} {z = c .before .before .before .before .before .before .before .before .before .before .before .before .before .before .args .z} refl refl (toZ-ofZ _ _ (c .before .before .before .before .before .before .before .before .before .before .before .before .before .before .fits .z))) (not-false _ (c .before .before .before .before .before .before .before .before .before .if1 .left)) (omega (arith, c .before .before .before .before .before .before .before .before .before .before .before .before .before .before .pre .1)) refl (c .before .before .before .before .before .before .before .before .simple .ensures) refl))
+returns-2 c = λ vs w l. settles-as (taken-is vs (c .before .before .before .before .before .before .before .before .before .before .before .before .before .before .args .n) (c .before .before .before .before .before .before .before .before .before .before .before .before .before .before .args .z) _ (c .before .before .before .before .before .before .before .before .before .before .between .ensures ∙ between-as {low = lowest-number} {high = highest-number} {z = c .before .before .before .before .before .before .before .before .before .before .before .before .before .before .args .z} refl refl (toZ-ofZ _ _ (c .before .before .before .before .before .before .before .before .before .before .before .before .before .before .fits .z))) (not-false _ (c .before .before .before .before .before .before .before .before .before .if1 .left))) (c .before .before .before .before .assign .ensures vs _ w l (puts-number (c .before .before .before .before .before .before .before .before .before .before .before .before .before .before .args .stack .now) (c .before .before .before .before .before .before .before .before .before .before .before .before .before .before .args .z) _ _ (toZ-ofZ _ _ (c .before .before .before .before .before .before .before .before .before .before .before .before .before .before .fits .z)) (c .before .before .before .before .before .before .before .before .before .before .between .ensures ∙ between-as {low = lowest-number} {high = highest-number} {z = c .before .before .before .before .before .before .before .before .before .before .before .before .before .before .args .z} refl refl (toZ-ofZ _ _ (c .before .before .before .before .before .before .before .before .before .before .before .before .before .before .fits .z))) (not-false _ (c .before .before .before .before .before .before .before .before .before .if1 .left)) (omega (arith, c .before .before .before .before .before .before .before .before .before .before .before .before .before .before .pre .1)) refl (c .before .before .before .before .before .before .before .before .simple .ensures) refl))
 
 pub take-reading-spec : {M : Type 1} → statement M
 take-reading-spec =

@@ -1,5 +1,4 @@
 -- `concluded` meets its contract: one law of Seeing.antt for each way that it ends. Assumes nothing.
-use mathlib.Core.Path.{refl}
 use borrow.Author.Tests.{not-true, not-false}
 use native.Mathlib.Omega.{arith}
 use Rattle.checked.proofs.Giving.{gives-error, gives-as}

@@ -13,12 +13,15 @@ use Rattle.lingua.specs.Store.{Variable}
 use Rattle.lingua.specs.Trees.{expressionTree}
 use Rattle.profile.specs.Facts.{RowFacts, rowTree}
 use Rattle.profile.specs.Accepted.{expression-attributes}
-use Rattle.erased.specs.Meaning.{Tells, allTold}
+use Rattle.steps.specs.Reached.{Tells}
+use Rattle.erased.specs.Meaning.{allTold}
 use Rattle.erased.proofs.Telling.{sees-none}
 use Rattle.erased.proofs.Passing.{table-of, layout-room}
-use Rattle.erased.proofs.Stacking.{both-long}
-use Rattle.erased.proofs.Walking.{Listed, ready-listed, some-cell, walks, turn-room, next-place, element-ready, firstResults, sees-more, all-evaluates}
-use Rattle.erased.proofs.Cycle.{says-as, facts, tree-is, ready-as, evaluates-as, constant-evaluates, has-variable, variable-evaluates, has-current, current-evaluates, unary-ready, has-unary, unary-evaluates, binary-first, binary-second, has-binary, binary-evaluates, lazy-first, lazy-next, lazy-error, lazy-settled, lazy-second, choice-test, choice-first, choice-other, choice-error, choice-yes, choice-no}
+use Rattle.profile.specs.Facts.{says-as}
+use Rattle.cells.proofs.Operands.{both-long}
+use Rattle.cells.proofs.Walking.{turn-room, next-place}
+use Rattle.erased.proofs.Walking.{Listed, ready-listed, list-cell, list-walks, element-ready, firstResults, sees-more, all-evaluates}
+use Rattle.erased.proofs.Cycle.{facts, tree-is, ready-as, evaluates-as, constant-evaluates, has-variable, variable-evaluates, has-current, current-evaluates, unary-ready, has-unary, unary-evaluates, binary-first, binary-second, has-binary, binary-evaluates, lazy-first, lazy-next, lazy-error, lazy-settled, lazy-second, choice-test, choice-first, choice-other, choice-error, choice-yes, choice-no}
 use Prim.Native.Nat.{ℕ, _<_}
 use borrow.Fn.Kinds.{In}
 use borrow.Fn.PlainCycle.{Measures, is, falls, and}
@@ -105,11 +108,11 @@ all-second-at-requires : (t : ℕ) → all-lts.Need-second-at-requires (all-call
 all-second-at-requires t c κs = layout-room (c .before .before .before .pre .1 .0 .world) (c .before .before .before .pre .1 .1 .0 .1)
 
 all-shared-slice-copy-out-n : (t : ℕ) → all-lts.Need-shared-slice-copy-out-n (all-calls t) (all-at t) all.Post all-Inv-loop all-μ-loop
-all-shared-slice-copy-out-n t c = some-cell (ready-listed _ (c .second-at .ensures) (c .before .before .before .before .pre .1 .0) .listed)
+all-shared-slice-copy-out-n t c = list-cell (ready-listed _ (c .second-at .ensures) (c .before .before .before .before .pre .1 .0) .listed)
 
 all-cast-n : (t : ℕ) → all-lts.Need-cast-n (all-calls t) (all-at t) all.Post all-Inv-loop all-μ-loop
 all-cast-n t c =
-    let k = walks (ready-listed _ (c .before .second-at .ensures) (c .before .before .before .before .before .pre .1 .0) .listed) in
+    let k = list-walks (ready-listed _ (c .before .second-at .ensures) (c .before .before .before .before .before .pre .1 .0) .listed) in
     rw (k .positive) (tt, omega (arith, k .few))
 
 all-loop-holds : (t : ℕ) → all-lts.Need-loop-holds (all-calls t) (all-at t) all.Post all-Inv-loop all-μ-loop
@@ -117,12 +120,12 @@ all-loop-holds t c = (omega arith, refl, omega arith, λ ds vs d x l. sees-none 
 
 all-add-eval : (t : ℕ) → all-lts.Need-add-eval (all-calls t) (all-at t) all.Post all-Inv-loop all-μ-loop
 all-add-eval t c =
-    let k = walks (ready-listed _ (c .before .before .before .second-at .ensures) (c .before .before .before .before .before .before .before .pre .1 .0) .listed) in
+    let k = list-walks (ready-listed _ (c .before .before .before .second-at .ensures) (c .before .before .before .before .before .before .before .pre .1 .0) .listed) in
     omega (arith, turn-room _ _ _ _ (c .before .loop .inv .2) (c .loop-test .taken) (k .few), k .room, k .long)
 
 all-mul-eval : (t : ℕ) → all-lts.Need-mul-eval (all-calls t) (all-at t) all.Post all-Inv-loop all-μ-loop
 all-mul-eval t c =
-    let k = walks (ready-listed _ (c .before .before .before .second-at .ensures) (c .before .before .before .before .before .before .before .pre .1 .0) .listed) in
+    let k = list-walks (ready-listed _ (c .before .before .before .second-at .ensures) (c .before .before .before .before .before .before .before .pre .1 .0) .listed) in
     omega (arith, turn-room _ _ _ _ (c .before .loop .inv .2) (c .loop-test .taken) (k .few), k .room, k .long)
 
 all-sub-eval : (t : ℕ) → all-lts.Need-sub-eval (all-calls t) (all-at t) all.Post all-Inv-loop all-μ-loop
@@ -133,7 +136,7 @@ all-part-eval-start t c = omega arith
 
 all-part-eval-end : (t : ℕ) → all-lts.Need-part-eval-end (all-calls t) (all-at t) all.Post all-Inv-loop all-μ-loop
 all-part-eval-end t c =
-    let k = walks (ready-listed _ (c .before .before .before .second-at .ensures) (c .before .before .before .before .before .before .before .pre .1 .0) .listed) in
+    let k = list-walks (ready-listed _ (c .before .before .before .second-at .ensures) (c .before .before .before .before .before .before .before .pre .1 .0) .listed) in
     omega (arith, turn-room _ _ _ _ (c .before .loop .inv .2) (c .loop-test .taken) (k .few), k .room, k .long)
 
 all-eval-requires : (t : ℕ) → all-lts.Need-eval-requires (all-calls t) (all-at t) all.Post all-Inv-loop all-μ-loop
@@ -146,12 +149,12 @@ all-noted-requires t c κs = omega (arith, c .before .before .before .before .be
 
 all-add-at : (t : ℕ) → all-lts.Need-add-at (all-calls t) (all-at t) all.Post all-Inv-loop all-μ-loop
 all-add-at t c =
-    let k = walks (ready-listed _ (c .before .before .before .before .before .before .before .before .before .second-at .ensures) (c .before .before .before .before .before .before .before .before .before .before .before .before .before .pre .1 .0) .listed) in
+    let k = list-walks (ready-listed _ (c .before .before .before .before .before .before .before .before .before .second-at .ensures) (c .before .before .before .before .before .before .before .before .before .before .before .before .before .pre .1 .0) .listed) in
     omega (arith, turn-room _ _ _ _ (c .before .before .before .before .before .before .before .loop .inv .2) (c .before .before .before .before .before .before .loop-test .taken) (k .few), k .room, k .long)
 
 all-add-i : (t : ℕ) → all-lts.Need-add-i (all-calls t) (all-at t) all.Post all-Inv-loop all-μ-loop
 all-add-i t c =
-    let k = walks (ready-listed _ (c .before .before .before .before .before .before .before .before .before .second-at .ensures) (c .before .before .before .before .before .before .before .before .before .before .before .before .before .pre .1 .0) .listed) in
+    let k = list-walks (ready-listed _ (c .before .before .before .before .before .before .before .before .before .second-at .ensures) (c .before .before .before .before .before .before .before .before .before .before .before .before .before .pre .1 .0) .listed) in
     omega (arith, c .before .before .before .before .before .before .loop-test .taken, k .few)
 
 all-loop-less : (t : ℕ) → all-lts.Need-loop-less (all-calls t) (all-at t) all.Post all-Inv-loop all-μ-loop

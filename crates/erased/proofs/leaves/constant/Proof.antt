@@ -1,7 +1,8 @@
 -- `constant` meets its contract, by `leaves-constant`. Assumes nothing.
 use mathlib.Core.Path.{sym}
 use Rattle.cells.proofs.Moves.{cell-back}
-use Rattle.erased.proofs.Storing.{cell-as, leaves-constant}
+use Rattle.profile.specs.Constants.{cell-as}
+use Rattle.erased.proofs.Storing.{leaves-constant}
 use borrow.Author.Needs.{needs}
 use Rattle.erased.proofs.leaves.constant.Statement.{statement}
 use Rattle.erased.proofs.leaves.constant.Tie as tie

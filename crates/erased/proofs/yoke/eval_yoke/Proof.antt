@@ -1,6 +1,7 @@
 -- `eval_yoke` meets its contract, by `always-evaluates` and `yoke-evaluates`. Assumes nothing.
 use native.Mathlib.Omega.{arith}
-use Rattle.erased.proofs.Yokes.{always-is, yoke-is, always-evaluates, yoke-ready, yoke-evaluates}
+use Rattle.profile.specs.Yokes.{always-is, yoke-is}
+use Rattle.erased.proofs.Yokes.{always-evaluates, yoke-ready, yoke-evaluates}
 use borrow.Author.Needs.{needs}
 use Rattle.erased.proofs.yoke.eval_yoke.Statement.{statement}
 use Rattle.erased.proofs.yoke.eval_yoke.Tie as tie

@@ -8,7 +8,7 @@ use Rattle.report.proofs.report.report_text.Tie as tie
 use Rattle.report.proofs.report.report_text.Reads as reads
 use Rattle.report.proofs.report.report_text.Lts as lts
 use Rattle.report.proofs.answers.put_answer.Reads as put-answer-reads
-use Rattle.desk.proofs.call.run_checked.Reads as run-checked-reads
+use Rattle.calls.proofs.checked_run.run_checked.Reads as run-checked-reads
 use Rattle.report.proofs.variables.put_variables.Reads as put-variables-reads
 
 -- src/report.rt:25:9

@@ -1,5 +1,5 @@
 -- `in_limits` meets its contract, by `no-limit` and `limit-is`. Assumes nothing.
-use mathlib.Core.Path.{refl, _∙_}
+use mathlib.Core.Path.{_∙_}
 use Prim.Native.Nat.{_+_, _*_}
 use lib.IntN.{pos}
 use lib.ListN.{getD}

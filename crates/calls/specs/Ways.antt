@@ -1,0 +1,49 @@
+-- The run of accepted rows in each way. Assumes nothing: these are definitions.
+use mathlib.Core.Path.{_≡_}
+use mathlib.Core.List.{List}
+use mathlib.Core.Option.{some}
+use Prim.Native.Nat.{ℕ, _<_}
+use lib.IntN.{ℤ}
+use lib.ListN.{length}
+use Rattle.lingua.specs.Numbers.{cells-length, states-length, layout-length, declaration-section, type-section}
+use Rattle.lingua.specs.Errors.{type-error-found}
+use Rattle.lingua.specs.Outcome.{Outcome, ok, fail}
+use Rattle.lingua.specs.Body.{number}
+use Rattle.lingua.specs.Rows.{tableCount, pairCount}
+use Rattle.lingua.specs.Store.{Limit}
+use Rattle.lingua.specs.Run.{Progress, run}
+use Rattle.lingua.specs.Typing.{TypeError, Entry, bodiesOf, checkProfile, layoutOf}
+use Rattle.lingua.specs.Trees.{declarationAt, profileOf}
+use Rattle.lingua.specs.Answers.{refused}
+use Rattle.lingua.specs.Calls.{ErasedCall, readingsOf, ran, withLayout}
+use Rattle.safety.specs.Accepted.{AcceptedRows}
+use Rattle.profile.specs.Types.{BodiesBelow}
+use Rattle.walk.specs.Meaning.{Readable}
+
+-- what a run of accepted rows asks: lent memory of the listed lengths, and readings for number variables
+pub record Startable (rows who : List ℕ) (numbers cells : List ℤ) (states : List ℕ) : Type 0 where
+  pub accepted : AcceptedRows rows
+  pub readable : Readable rows who numbers
+  pub long-cells : length cells ≡ cells-length
+  pub long-states : length states ≡ states-length
+
+-- only number variables have a limit (rules 8 and 15)
+pub record NumbersLimited (rows limits : List ℕ) : Type 0 where
+  pub limited : (n : ℕ) → n < pairCount rows declaration-section → (l : Limit) → declarationAt rows limits n .limit ≡ some l → bodiesOf (profileOf rows limits .declarations) n ≡ number
+
+-- rows that the type check passed, with its layout table
+pub record PassedRows (rows limits layout : List ℕ) : Type 0 where
+  pub entries : List Entry
+  pub passed : checkProfile (profileOf rows limits) ≡ ok entries
+  pub layout-is : layout ≡ layoutOf entries
+  pub long : length layout ≡ layout-length
+
+-- the erased run where the type check passes, and rule 17 where it does not
+unfoldable pub erasedVerdict : Outcome TypeError (List Entry) → ℕ → Progress → List ℤ → List ℕ → List ℕ → ErasedCall
+erasedVerdict (ok es) budget p cells states layout = withLayout (ran budget p) (layoutOf es)
+erasedVerdict (fail e) budget p cells states layout =
+    record { answer = refused type-error-found; cells = cells; states = states; layout = layout }
+
+unfoldable pub erasedRows : List ℕ → List ℕ → List ℕ → List ℤ → ℕ → List ℤ → List ℕ → List ℕ → ErasedCall
+erasedRows rows limits who numbers budget cells states layout =
+    erasedVerdict (checkProfile (profileOf rows limits)) budget (run (profileOf rows limits) (readingsOf who numbers) budget) cells states layout

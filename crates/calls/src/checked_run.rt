@@ -1,0 +1,109 @@
+// The checked run as a public call (document 01: desk run). Any bytes and any buffers may be handed in; a refusal leaves all lent memory as
+// it was.
+use crate::taken::take_run;
+use lingua::RunAnswer;
+use lingua::errors::NO_ERROR;
+use rules::tables::tables_of;
+use start::bodies::keep_bodies;
+use start::start;
+use walk::run::run;
+use walk::way::Way;
+ghost use mathlib.Core.Path.{_≡_};
+ghost use Rattle.lingua.specs.Numbers.{type-section};
+ghost use Rattle.lingua.specs.Rows.{tableCount};
+ghost use Rattle.lingua.specs.Run.{run as meaning};
+ghost use Rattle.lingua.specs.Trees.{profileOf};
+ghost use Rattle.lingua.specs.Calls.{readingsOf, ran, runResult, checkedCall};
+ghost use Rattle.profile.specs.Types.{BodiesBelow};
+ghost use Rattle.calls.specs.Ways.{Startable};
+
+// The run of accepted rows, with the declared bodies and no layout table.
+fn checked_rows(
+    rows: &[u8],
+    limits: &[u8],
+    bodies: &[u8],
+    who: &[u16],
+    numbers: &[i64],
+    budget: u16,
+    cells: &mut [i64],
+    states: &mut [u16],
+) -> RunAnswer
+    requires { ⌜ Startable (now rows) (now who) (now numbers) (now cells) (now states) ⌝ }
+    requires { ⌜ BodiesBelow (now rows) (now bodies) (tableCount (now rows) type-section) ⌝ }
+    ensures { λ r. ⌜ runResult r (now (cells .exit)) (now (states .exit)) ≡ ran budget (meaning (profileOf (now (rows .entry)) (now (limits .entry))) (readingsOf (now (who .entry)) (now (numbers .entry))) budget) ⌝ }
+{
+    let tables = tables_of(rows);
+    let declarations = tables.declarations;
+    let others = tables_of(limits);
+    let named = others.limits;
+    let mut variables = [0u8; 1536];
+    let mut kept = [0i64; 48];
+    let layout = [0u16; 0];
+    keep_bodies(rows, declarations, bodies, &mut variables);
+    start(
+        rows,
+        declarations,
+        limits,
+        named,
+        &mut kept,
+        &mut *cells,
+        &mut *states,
+    );
+    let way = Way::Checked;
+    run(
+        way,
+        rows,
+        tables,
+        &variables,
+        &layout,
+        &kept,
+        who,
+        numbers,
+        budget,
+        cells,
+        states,
+    )
+}
+
+pub fn run_checked(
+    profile: &[u8],
+    limits: &[u8],
+    who: &[u16],
+    numbers: &[i64],
+    budget: u16,
+    cells: &mut [i64],
+    states: &mut [u16],
+) -> RunAnswer
+    ensures { λ r. ⌜ runResult r (now (cells .exit)) (now (states .exit)) ≡ checkedCall (now (profile .entry)) (now (limits .entry)) (now (who .entry)) (now (numbers .entry)) budget (now (cells .entry)) (now (states .entry)) ⌝ }
+{
+    let mut areas = [0u8; 8500];
+    let mut others = [0u8; 8500];
+    let mut bodies = [0u8; 3072];
+    let pair = take_run(
+        profile,
+        limits,
+        who,
+        numbers,
+        cells,
+        states,
+        &mut areas,
+        &mut others,
+        &mut bodies,
+    );
+    let refusal = pair.refusal;
+    if refusal != NO_ERROR {
+        return RunAnswer::Refused(refusal);
+    }
+    let n = pair.rows;
+    let m = pair.limits;
+    checked_rows(
+        &areas[..n],
+        &others[..m],
+        &bodies,
+        who,
+        numbers,
+        budget,
+        cells,
+        states,
+    )
+}

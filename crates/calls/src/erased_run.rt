@@ -1,0 +1,168 @@
+// The erased run as a public call (document 01: chair run). It fills the layout table (sheet) itself, whatever that held; a refusal, 17
+// included, leaves all lent memory as it was.
+use crate::taken::take_run;
+use lingua::RunAnswer;
+use lingua::errors::BAD_BUFFER;
+use lingua::errors::NO_ERROR;
+use lingua::errors::TYPE_ERROR_FOUND;
+use lingua::sizes::LAYOUT_LENGTH;
+use rules::tables::Tables;
+use rules::tables::tables_of;
+use start::start;
+use typecheck::whole::check_profile;
+use walk::run::run;
+use walk::way::Way;
+ghost use mathlib.Core.Path.{_≡_};
+ghost use lib.ListN.{length};
+ghost use Rattle.lingua.specs.Numbers.{layout-length, type-section};
+ghost use Rattle.lingua.specs.Rows.{tableCount};
+ghost use Rattle.lingua.specs.Run.{run as meaning};
+ghost use Rattle.lingua.specs.Trees.{profileOf};
+ghost use Rattle.lingua.specs.Calls.{readingsOf, ran, runResult, erasedCall, erasedResult};
+ghost use Rattle.rules.specs.Tables.{AreTables};
+ghost use Rattle.profile.specs.Types.{BodiesBelow};
+ghost use Rattle.calls.specs.Ways.{Startable, NumbersLimited, PassedRows, erasedRows};
+
+// The run of passed rows, with the layout table and no body.
+fn passed_rows(
+    rows: &[u8],
+    tables: Tables,
+    limits: &[u8],
+    layout: &[u16],
+    who: &[u16],
+    numbers: &[i64],
+    budget: u16,
+    cells: &mut [i64],
+    states: &mut [u16],
+) -> RunAnswer
+    requires { ⌜ Startable (now rows) (now who) (now numbers) (now cells) (now states) ⌝ }
+    requires { ⌜ AreTables (now rows) tables ⌝ }
+    requires { ⌜ PassedRows (now rows) (now limits) (now layout) × NumbersLimited (now rows) (now limits) ⌝ }
+    ensures { λ r. ⌜ runResult r (now (cells .exit)) (now (states .exit)) ≡ ran budget (meaning (profileOf (now (rows .entry)) (now (limits .entry))) (readingsOf (now (who .entry)) (now (numbers .entry))) budget) ⌝ }
+{
+    let declarations = tables.declarations;
+    let others = tables_of(limits);
+    let named = others.limits;
+    let mut kept = [0i64; 48];
+    let bodies = [0u8; 0];
+    start(
+        rows,
+        declarations,
+        limits,
+        named,
+        &mut kept,
+        &mut *cells,
+        &mut *states,
+    );
+    let way = Way::Erased;
+    run(
+        way,
+        rows,
+        tables,
+        &bodies,
+        layout,
+        &kept,
+        who,
+        numbers,
+        budget,
+        cells,
+        states,
+    )
+}
+
+// The type check's table becomes the caller's once no rule applies any more.
+fn copy_table(table: &[u16], layout: &mut [u16])
+    requires { ⌜ (length (now table) ≡ layout-length) × (length (now layout) ≡ layout-length) ⌝ }
+    ensures { λ _. ⌜ now (layout .exit) ≡ now (table .entry) ⌝ }
+{
+    let mut i = 0;
+    while i < 1024 {
+        layout[i] = table[i];
+        i += 1;
+    }
+}
+
+// The type check works on a table of its own: rule 17 leaves the caller's as it was.
+fn erased_rows(
+    rows: &[u8],
+    limits: &[u8],
+    bodies: &[u8],
+    who: &[u16],
+    numbers: &[i64],
+    budget: u16,
+    cells: &mut [i64],
+    states: &mut [u16],
+    layout: &mut [u16],
+) -> RunAnswer
+    requires { ⌜ Startable (now rows) (now who) (now numbers) (now cells) (now states) ⌝ }
+    requires { ⌜ BodiesBelow (now rows) (now bodies) (tableCount (now rows) type-section) ⌝ }
+    requires { ⌜ (length (now layout) ≡ layout-length) × NumbersLimited (now rows) (now limits) ⌝ }
+    ensures { λ r. ⌜ erasedResult r (now (cells .exit)) (now (states .exit)) (now (layout .exit)) ≡ erasedRows (now (rows .entry)) (now (limits .entry)) (now (who .entry)) (now (numbers .entry)) budget (now (cells .entry)) (now (states .entry)) (now (layout .entry)) ⌝ }
+{
+    let tables = tables_of(rows);
+    let mut table = [0u16; 1024];
+    let verdict = check_profile(rows, tables, bodies, &mut table);
+    if verdict.error != NO_ERROR {
+        return RunAnswer::Refused(TYPE_ERROR_FOUND);
+    }
+    copy_table(&table, &mut *layout);
+    passed_rows(
+        rows,
+        tables,
+        limits,
+        layout,
+        who,
+        numbers,
+        budget,
+        cells,
+        states,
+    )
+}
+
+pub fn run_erased(
+    profile: &[u8],
+    limits: &[u8],
+    who: &[u16],
+    numbers: &[i64],
+    budget: u16,
+    cells: &mut [i64],
+    states: &mut [u16],
+    layout: &mut [u16],
+) -> RunAnswer
+    ensures { λ r. ⌜ erasedResult r (now (cells .exit)) (now (states .exit)) (now (layout .exit)) ≡ erasedCall (now (profile .entry)) (now (limits .entry)) (now (who .entry)) (now (numbers .entry)) budget (now (cells .entry)) (now (states .entry)) (now (layout .entry)) ⌝ }
+{
+    if layout.len() != LAYOUT_LENGTH {
+        return RunAnswer::Refused(BAD_BUFFER);
+    }
+    let mut areas = [0u8; 8500];
+    let mut others = [0u8; 8500];
+    let mut bodies = [0u8; 3072];
+    let pair = take_run(
+        profile,
+        limits,
+        who,
+        numbers,
+        cells,
+        states,
+        &mut areas,
+        &mut others,
+        &mut bodies,
+    );
+    let refusal = pair.refusal;
+    if refusal != NO_ERROR {
+        return RunAnswer::Refused(refusal);
+    }
+    let n = pair.rows;
+    let m = pair.limits;
+    erased_rows(
+        &areas[..n],
+        &others[..m],
+        &bodies,
+        who,
+        numbers,
+        budget,
+        cells,
+        states,
+        layout,
+    )
+}

@@ -1,5 +1,0 @@
-pub mod Taking
-pub mod Beginning
-pub mod Finishing
-pub mod Refusing
-pub mod Calling

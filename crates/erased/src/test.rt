@@ -1,0 +1,34 @@
+// A test's value: an expression outside yokes, of which the type check found a Boolean.
+use crate::answer::truth_of;
+use crate::yoke::eval_plain;
+use rules::tables::Table;
+use steps::Truth;
+ghost use mathlib.Core.List.{List};
+ghost use Prim.Native.Nat.{_+_, _*_, _<_, _≤_};
+ghost use lib.IntN.{ℤ};
+ghost use lib.ListN.{length};
+ghost use Rattle.lingua.specs.Numbers.{body-cells};
+ghost use Rattle.lingua.specs.Store.{Variable, contents};
+ghost use Rattle.lingua.specs.Evaluation.{evalTest};
+ghost use Rattle.lingua.specs.Trees.{expressionTree};
+ghost use Rattle.steps.specs.Reached.{lent, Tells};
+ghost use Rattle.erased.specs.Meaning.{Running, HasStore, TestRow};
+
+pub fn test(
+    rows: &[u8],
+    t: Table,
+    layout: &[u16],
+    cells: &[i64],
+    states: &[u16],
+    e: usize,
+    stack: &mut [i64],
+) -> Truth
+    requires { ⌜ HasStore (now rows) t (now layout) (lent (now cells) (now states)) ⌝ }
+    requires { ⌜ (e < t .count) × TestRow (now rows) e ⌝ }
+    requires { ⌜ body-cells * (t .count + 1) ≤ length (now stack) ⌝ }
+    ensures { λ r. ⌜ ((limits : List ℤ) (vs : List Variable) → Running (now (rows .entry)) t (now (layout .entry)) limits (lent (now (cells .entry)) (now (states .entry))) vs
+        → Tells r (evalTest (expressionTree (now (rows .entry)) e) (contents vs))) ⌝ }
+{
+    let x = eval_plain(rows, t, layout, cells, states, e, &mut *stack);
+    truth_of(x, stack)
+}

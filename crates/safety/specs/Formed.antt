@@ -1,0 +1,221 @@
+-- The bodies of an accepted profile are well-formed: those of its type rows and declarations (`type-formed`, `declared-formed`), those of
+-- whatever its expressions give (`eval-formed`, `tree-eval-formed`), and those that a run's filled variables have (`filled-formed`).
+-- Assumes nothing.
+use mathlib.Core.Path.{_≡_, refl, sym, subst}
+use mathlib.Core.Bool.{Bool, true, false, Bool·beq}
+use mathlib.Core.List.{List, map}
+use mathlib.Core.Option.{some}
+use Prim.Native.Nat.{ℕ, zero, suc, _<_}
+use native.Mathlib.Omega.{arith}
+use lib.Dec.{eqb, ltb}
+use Rattle.lingua.specs.Numbers.{declaration-section, type-section, expression-section}
+use Rattle.lingua.specs.Errors.{boolean-expected, yoke-expected, not-filled, record-expected}
+use Rattle.lingua.specs.Outcome.{ok, fail, Result, _>>=_, if_then_else_, allAnswers}
+use Rattle.lingua.specs.Body.{Body, isBoolean}
+use Rattle.lingua.specs.WellFormed.{WellFormed, formed-boolean, formed-number, formed-word}
+use Rattle.lingua.specs.Value.{Composite, allOf}
+use Rattle.lingua.specs.Operation.{make-record, make-list, expand, unaryBody, binaryBody}
+use Rattle.lingua.specs.Compute.{unaryValue, binaryValue}
+use Rattle.lingua.specs.Expression.{settledBy, Expression, constant, variable, current, unary, binary, lazy, choice, all-list}
+use Rattle.lingua.specs.Evaluation.{Variables, applyUnary, applyBinary, truthOr, booleanOf, allTrue, elementsOf, eval}
+use Rattle.lingua.specs.Run.{Declaration, run, lastState}
+use Rattle.lingua.specs.Store.{Reading, contents}
+use Rattle.lingua.specs.Typing.{bodiesOf}
+use Rattle.lingua.specs.Rows.{kindAt, aAt, bAt, cAt, rowIn, tableCount, pairCount, detailRow, TypeRow, simple-type, list-type, record-type, expand-type, typeKind, typeRow, ExpressionRow, constant-row, variable-row, current-row, unary-row, binary-row, lazy-row, choice-row, all-list-row, constantKind, expressionKind, expressionRow}
+use Rattle.lingua.specs.Trees.{no-expression, typeBodyOf, typeBodyIn, typeBody, expressionOf, expressionIn, expressionTree, bodyOr, declaredBody, declarationAt, profileOf}
+use Rattle.lingua.specs.Format.{rowsOf}
+use Rattle.lingua.specs.Rules.{unaryAttribute, binaryAttribute, attributesFit, expressionAttributes, typeAttributes}
+use Rattle.lingua.specs.Refusal.{lowest, pairRules}
+use Rattle.laws.specs.Outcomes.{ok-same, orFail-ok}
+use Rattle.laws.specs.Formed.{formed-as, unary-formed, binary-formed}
+use Rattle.safety.specs.Answers.{same-answer, never-ok, bound, demanded}
+use Rattle.safety.specs.Every.{Every, every-none, every-more, every-tabulate}
+use Rattle.safety.specs.Forest.{ConstantHas, lower-has}
+use Rattle.safety.specs.Accepted.{AcceptedRows, accepted-pair, other-kinds, type-attributes, expression-attributes, declared-type, type-body-is, declared-body-is, accepted-invariant}
+
+-- ---- types
+-- a row of a simple type
+SimpleFormed : TypeRow → Type 0
+SimpleFormed (simple-type b) = WellFormed b
+SimpleFormed (list-type a) = Unit {0}
+SimpleFormed (record-type n b) = Unit {0}
+SimpleFormed (expand-type a n c) = Unit {0}
+
+simple-if : (t : Bool) (a b : TypeRow) → SimpleFormed a → SimpleFormed b → SimpleFormed (if t then a else b)
+simple-if true a b p q = p
+simple-if false a b p q = q
+
+simple-row : (rows : List ℕ) (r : ℕ) → SimpleFormed (typeRow rows r)
+unfolding SimpleFormed typeRow typeKind
+simple-row rows r =
+    let k : ℕ = kindAt rows (rowIn rows type-section r) in
+    simple-if (eqb k 1) _ _ formed-boolean (simple-if (eqb k 2) _ _ formed-number (simple-if (eqb k 3) _ _ formed-word (simple-if (eqb k 4) _ _ tt (simple-if (eqb k 5) _ _ tt tt))))
+
+-- an outcome whose body, if it has one, is well-formed
+abbrev GivesFormed : Result Body → Type 0
+GivesFormed o = (b : Body) → o ≡ ok b → WellFormed b
+
+no-body : {n : ℕ} → GivesFormed (fail n)
+no-body b e = never-ok e
+
+row-formed : (row : TypeRow) (look : ℕ → Result Body) → SimpleFormed row → attributesFit (typeAttributes row) ≡ true → ((a : ℕ) → GivesFormed (look a)) → GivesFormed (typeBodyOf row look)
+unfolding SimpleFormed typeBodyOf typeAttributes allOf unaryAttribute binaryAttribute
+row-formed (simple-type c) look h a f b e = formed-as (ok-same e) h
+row-formed (list-type x) look h a f b e =
+    let p = bound (look x) _ b e in
+    unary-formed make-list refl (f x (p .0) (p .1)) (p .2)
+row-formed (record-type n x) look h a f b e =
+    let p = bound (look x) _ b e in
+    unary-formed (make-record n) a (f x (p .0) (p .1)) (p .2)
+row-formed (expand-type x n y) look h a f b e =
+    let p = bound (look x) _ b e in
+    let q = bound (look y) _ b (p .2) in
+    binary-formed (expand n) a (f x (p .0) (p .1)) (f y (q .0) (q .1)) (q .2)
+
+module _ (rows : List ℕ) (accepted : AcceptedRows rows) where
+  type-formed-in : (n r : ℕ) → r < tableCount rows type-section → GivesFormed (typeBodyIn n rows r)
+  unfolding typeBodyIn
+  type-formed-in zero r l = no-body
+  type-formed-in (suc n) r l =
+      row-formed (typeRow rows r) _ (simple-row rows r) (type-attributes rows accepted r l)
+      (lower-has GivesFormed r (λ a. typeBodyIn n rows a) (fail record-expected) (λ a q. type-formed-in n a (omega arith)) no-body)
+
+  -- each type row has a body, and it is well-formed
+  pub type-formed : (r : ℕ) → r < tableCount rows type-section → (typeBody rows r ≡ ok (bodyOr (typeBody rows r))) × WellFormed (bodyOr (typeBody rows r))
+  unfolding typeBody
+  type-formed r l = let e = type-body-is rows accepted r l in (e, type-formed-in (suc r) r l (bodyOr (typeBody rows r)) e)
+
+  -- ---- declarations
+  pub declared-formed : (lims : List ℕ) (d : ℕ) → d < pairCount rows declaration-section → WellFormed (declarationAt rows lims d .body)
+  unfolding declaredBody typeBody
+  declared-formed lims d l =
+      let r : ℕ = aAt rows (detailRow rows declaration-section d) in
+      type-formed-in (suc r) r (declared-type rows accepted d l) (declarationAt rows lims d .body) (declared-body-is rows accepted lims d l)
+
+  pub bodies-formed : (lims : List ℕ) (n : ℕ) → WellFormed (bodiesOf (profileOf rows lims .declarations) n)
+  unfolding profileOf
+  bodies-formed lims n = by (every-tabulate (pairCount rows declaration-section) (λ d. declarationAt rows lims d) (λ d l. declared-formed lims d l)) n
+    where
+      by : {ds : List Declaration} → Every (λ d. WellFormed (d .body)) ds → (k : ℕ) → WellFormed (bodiesOf ds k)
+      by every-none k = formed-boolean
+      by (every-more h hs) zero = h
+      by (every-more h hs) (suc k) = by hs k
+
+-- ---- what an expression names: its constants' bodies are well-formed, and attributes are numbered below 64
+unfoldable pub NamesFormed : Expression → Type 0
+NamesFormed (constant r c) = WellFormed (c .body)
+NamesFormed (variable r n) = Unit {0}
+NamesFormed (current r) = Unit {0}
+NamesFormed (unary r o e) = (attributesFit (unaryAttribute o) ≡ true) × NamesFormed e
+NamesFormed (binary r o e f) = (attributesFit (binaryAttribute o) ≡ true) × NamesFormed e × NamesFormed f
+NamesFormed (lazy r k e f) = NamesFormed e × NamesFormed f
+NamesFormed (choice r p e f) = NamesFormed p × NamesFormed e × NamesFormed f
+NamesFormed (all-list r e) = NamesFormed e
+
+-- a constant of a row is a Boolean, a number or a word
+formed-if : (t : Bool) (c d : Composite) → WellFormed (c .body) → WellFormed (d .body) → WellFormed ((if t then c else d) .body)
+formed-if true c d p q = p
+formed-if false c d p q = q
+
+constant-formed : (rows : List ℕ) (r : ℕ) → ConstantHas (λ c. WellFormed (c .body)) (expressionRow rows r)
+unfolding expressionRow
+constant-formed rows r = by (ltb k 4)
+  where
+    i : ℕ
+    i = rowIn rows expression-section r
+
+    k : ℕ
+    k = kindAt rows i
+
+    by : (t : Bool) → ConstantHas (λ c. WellFormed (c .body)) (if t then constant-row (constantKind k rows i) else expressionKind k (aAt rows i) (bAt rows i) (cAt rows i))
+    by true = unfold ConstantHas constantKind in formed-if (eqb k 1) _ _ formed-boolean (formed-if (eqb k 2) _ _ formed-number formed-word)
+    by false = other-kinds (λ c. WellFormed (c .body)) k (aAt rows i) (bAt rows i) (cAt rows i)
+
+node-names : (r : ℕ) (row : ExpressionRow) (look : ℕ → Expression) → ConstantHas (λ c. WellFormed (c .body)) row → attributesFit (expressionAttributes row) ≡ true
+    → ((a : ℕ) → NamesFormed (look a)) → NamesFormed (expressionOf r row look)
+unfolding expressionOf ConstantHas expressionAttributes NamesFormed
+node-names r (constant-row c) look h a f = h
+node-names r (variable-row n) look h a f = tt
+node-names r current-row look h a f = tt
+node-names r (unary-row o x) look h a f = (a, f x)
+node-names r (binary-row o x y) look h a f = (a, f x, f y)
+node-names r (lazy-row k x y) look h a f = (f x, f y)
+node-names r (choice-row x y z) look h a f = (f x, f y, f z)
+node-names r (all-list-row x) look h a f = f x
+
+none-names : (r : ℕ) → NamesFormed (no-expression r)
+unfolding NamesFormed
+none-names r = formed-boolean
+
+module _ (rows : List ℕ) (accepted : AcceptedRows rows) where
+  names-in : (n r : ℕ) → r < tableCount rows expression-section → NamesFormed (expressionIn n rows r)
+  unfolding expressionIn
+  names-in zero r l = none-names r
+  names-in (suc n) r l =
+      node-names r (expressionRow rows r) _ (constant-formed rows r) (expression-attributes rows accepted r l)
+      (lower-has NamesFormed r (λ a. expressionIn n rows a) (no-expression r) (λ a q. names-in n a (omega arith)) (none-names r))
+
+  pub tree-names : (r : ℕ) → r < tableCount rows expression-section → NamesFormed (expressionTree rows r)
+  unfolding expressionTree
+  tree-names r l = names-in (suc r) r l
+
+-- ---- evaluation
+-- every filled variable has a well-formed body
+unfoldable pub ContentsFormed : Variables → Type 0
+ContentsFormed vars = (n : ℕ) (x : Composite) → vars n ≡ some x → WellFormed (x .body)
+
+answer-formed : {x y : Composite} → _≡_ {A = Result Composite} (ok x) (ok y) → WellFormed (x .body) → WellFormed (y .body)
+answer-formed e h = subst (λ (z : Composite). WellFormed (z .body)) (same-answer e) h
+
+pub eval-formed : (e : Expression) → NamesFormed e → (vars : Variables) → ContentsFormed vars → (cur : Composite) → WellFormed (cur .body) → (x : Composite) → eval e vars cur ≡ ok x → WellFormed (x .body)
+unfolding eval NamesFormed ContentsFormed applyUnary applyBinary allTrue
+eval-formed (constant r c) h vars v cur k x q = answer-formed q h
+eval-formed (variable r n) h vars v cur k x q = v n x (orFail-ok (vars n) not-filled x q)
+eval-formed (current r) h vars v cur k x q = answer-formed q k
+eval-formed (unary r o e) h vars v cur k x q =
+    let p = bound (eval e vars cur) _ x q in
+    let s = bound (unaryBody o (p .0 .body)) _ x (p .2) in
+    let t = bound (unaryValue o (p .0 .value)) _ x (s .2) in
+    answer-formed (t .2) (unary-formed o (h .0) (eval-formed e (h .1) vars v cur k (p .0) (p .1)) (s .1))
+eval-formed (binary r o e f) h vars v cur k x q =
+    let p = bound (eval e vars cur) _ x q in
+    let y = bound (eval f vars cur) _ x (p .2) in
+    let s = bound (binaryBody o (p .0 .body) (y .0 .body)) _ x (y .2) in
+    let t = bound (binaryValue o (p .0 .value) (y .0 .value)) _ x (s .2) in
+    answer-formed (t .2) (binary-formed o (h .0) (eval-formed e (h .1) vars v cur k (p .0) (p .1)) (eval-formed f (h .2) vars v cur k (y .0) (y .1)) (s .1))
+eval-formed (lazy r c e f) h vars v cur k x q =
+    let p = bound (eval e vars cur) _ x q in
+    let s = bound (truthOr boolean-expected (p .0)) _ x (p .2) in
+    settled (Bool·beq (s .0) (settledBy c)) (s .0) (s .2)
+  where
+    settled : (u t : Bool) → (if u then ok (booleanOf t) else (eval f vars cur >>= λ y. truthOr boolean-expected y >>= λ w. ok (booleanOf w))) ≡ ok x → WellFormed (x .body)
+    settled true t z = answer-formed z formed-boolean
+    settled false t z =
+        let p = bound (eval f vars cur) _ x z in
+        let s = bound (truthOr boolean-expected (p .0)) _ x (p .2) in
+        answer-formed (s .2) formed-boolean
+eval-formed (choice r c e f) h vars v cur k x q =
+    let p = bound (eval c vars cur) _ x q in
+    let s = bound (truthOr boolean-expected (p .0)) _ x (p .2) in
+    chosen (s .0) (s .2) (λ z. eval-formed e (h .1) vars v cur k x z) (λ z. eval-formed f (h .2) vars v cur k x z)
+  where
+    chosen : (t : Bool) → (if t then eval e vars cur else eval f vars cur) ≡ ok x → (eval e vars cur ≡ ok x → WellFormed (x .body)) → (eval f vars cur ≡ ok x → WellFormed (x .body)) → WellFormed (x .body)
+    chosen true z a b = a z
+    chosen false z a b = b z
+eval-formed (all-list r e) h vars v cur k x q =
+    let p = bound (elementsOf cur) _ x q in
+    let s = bound (allAnswers (map (λ y. eval e vars y) (p .0))) _ x (p .2) in
+    let t = demanded (allOf (λ y. isBoolean (y .body)) (s .0)) yoke-expected _ x (s .2) in
+    answer-formed (t .1) formed-boolean
+
+-- an accepted profile's expressions
+pub tree-eval-formed : (rows : List ℕ) → AcceptedRows rows → (r : ℕ) → r < tableCount rows expression-section → (vars : Variables) → ContentsFormed vars → (cur : Composite) → WellFormed (cur .body)
+    → (x : Composite) → eval (expressionTree rows r) vars cur ≡ ok x → WellFormed (x .body)
+tree-eval-formed rows accepted r l vars v cur k x q = eval-formed (expressionTree rows r) (tree-names rows accepted r l) vars v cur k x q
+
+-- ---- runs
+pub filled-formed : (prof lims : List ℕ) → lowest (pairRules prof lims) ≡ 0 → (readings : List Reading) (budget : ℕ)
+    → ContentsFormed (contents (lastState (run (profileOf (rowsOf prof) (rowsOf lims)) readings budget) .store))
+unfolding ContentsFormed
+filled-formed prof lims e readings budget n x q =
+    formed-as (sym (accepted-invariant prof lims e readings budget n x q .declared)) (bodies-formed (rowsOf prof) (accepted-pair prof lims e) (rowsOf lims) n)

@@ -1,0 +1,138 @@
+-- Every yoke that a run of a profile has is the tree of the row that its number names, so that a variable's state word tells which yoke is
+-- its current one: `run-named`. Assumes nothing.
+use mathlib.Core.Path.{_≡_, refl, sym, ap, subst}
+use mathlib.Core.List.{List, map}
+use Prim.Native.Nat.{ℕ, zero, suc, pred}
+use native.Mathlib.Omega.{arith}
+use Rattle.lingua.specs.Numbers.{declaration-section, instruction-section}
+use Rattle.lingua.specs.Errors.{overflow}
+use Rattle.lingua.specs.Outcome.{ok}
+use Rattle.lingua.specs.Body.{number}
+use Rattle.lingua.specs.Value.{whole, inRange, Composite, composite}
+use Rattle.lingua.specs.Expression.{Expression, rowOf, Yoke, yokeNumber, Instruction, skip, assign, set-yoke, sequence, branch, loop, handle}
+use Rattle.lingua.specs.Evaluation.{eval, no-current}
+use Rattle.lingua.specs.Store.{Variable, variableAt, contents, admitted, assigned, yokeHolds, yokeChanged, withContent, withYoke, Reading, readingTaken}
+use Rattle.lingua.specs.Run.{State, Declaration, unfilled, started, takeReadings, run, lastState}
+use Rattle.lingua.specs.Rows.{tableCount, pairCount, ExpressionRow, constant-row, variable-row, current-row, unary-row, binary-row, lazy-row, choice-row, all-list-row, expressionRow, InstructionRow, skip-row, assign-row, set-yoke-row, sequence-row, branch-row, loop-row, handle-row, instructionRow}
+use Rattle.lingua.specs.Trees.{expressionOf, expressionIn, expressionTree, yokeTree, instructionOf, instructionIn, instructionTree, declarationAt, profileOf}
+use Rattle.safety.specs.Answers.{same-answer, bound, demanded, after}
+use Rattle.safety.specs.Every.{Every, every-none, every-more, every-all, every-tabulate}
+use Rattle.safety.specs.Everywhere.{Everywhere, everywhere-implies}
+use Rattle.safety.specs.Runs.{Stable, Keeps, KeepsReading, exec-keeps, readings-keep}
+use Rattle.safety.specs.Stored.{replaced}
+use Rattle.safety.specs.Forest.{tree-everywhere}
+
+-- ---- a yoke's number gives the yoke that has it
+row-of : (r : ℕ) (row : ExpressionRow) (look : ℕ → Expression) → rowOf (expressionOf r row look) ≡ r
+unfolding rowOf expressionOf
+row-of r (constant-row c) look = refl
+row-of r (variable-row n) look = refl
+row-of r current-row look = refl
+row-of r (unary-row o a) look = refl
+row-of r (binary-row o a b) look = refl
+row-of r (lazy-row k a b) look = refl
+row-of r (choice-row a b c) look = refl
+row-of r (all-list-row a) look = refl
+
+pub number-of : (rows : List ℕ) (y : ℕ) → yokeNumber (yokeTree rows y) ≡ y
+unfolding yokeNumber yokeTree expressionTree expressionIn
+number-of rows zero = refl
+number-of rows (suc r) = ap suc (row-of r (expressionRow rows r) _)
+
+-- the yoke is the tree of the row that its number names
+pub record Named (rows : List ℕ) (y : Yoke) : Type 0 where
+  pub is : y ≡ yokeTree rows (yokeNumber y)
+
+tree-named : (rows : List ℕ) (k : ℕ) → Named rows (yokeTree rows k)
+tree-named rows k = record { is = ap (yokeTree rows) (sym (number-of rows k)) }
+
+module _ (rows : List ℕ) where
+  -- ---- stores
+  abbrev AllNamed : List Variable → Type 0
+  AllNamed vs = (n : ℕ) → Named rows (variableAt vs n .current)
+
+  assigned-named : (vs : List Variable) → AllNamed vs → (n : ℕ) (x : Composite) (ws : List Variable) → assigned vs n x ≡ ok ws → AllNamed ws
+  unfolding assigned
+  assigned-named vs h n x ws e =
+      let p = after (admitted vs (variableAt vs n) x) _ ws e in
+      subst AllNamed (same-answer (p .1)) (replaced (λ m v. Named rows (v .current)) vs n (withContent (variableAt vs n) x) (h n) h)
+
+  changed-named : (vs : List Variable) → AllNamed vs → (n : ℕ) (y : Yoke) → Named rows y → (ws : List Variable) → yokeChanged vs n y ≡ ok ws → AllNamed ws
+  unfolding yokeChanged
+  changed-named vs h n y k ws e =
+      let p = after (yokeHolds vs y (variableAt vs n .content)) _ ws e in
+      subst AllNamed (same-answer (p .1)) (replaced (λ m v. Named rows (v .current)) vs n (withYoke (variableAt vs n) y) k h)
+
+  -- ---- states
+  unfoldable StateNamed : State → Type 0
+  StateNamed s = AllNamed (s .store)
+
+  named-stable : Stable StateNamed
+  unfolding StateNamed
+  named-stable = record { marked = λ s n p h. h; stepped = λ s n e h. h }
+
+  -- an instruction's own row sets a named yoke
+  unfoldable SetsNamed : Instruction → Type 0
+  SetsNamed (skip r) = Unit {0}
+  SetsNamed (assign r n e) = Unit {0}
+  SetsNamed (set-yoke r n y) = Named rows y
+  SetsNamed (sequence r i j) = Unit {0}
+  SetsNamed (branch r e i j) = Unit {0}
+  SetsNamed (loop r e i) = Unit {0}
+  SetsNamed (handle r n i) = Unit {0}
+
+  named-keeps : (i : Instruction) → SetsNamed i → Keeps StateNamed i
+  unfolding SetsNamed Keeps StateNamed
+  named-keeps (skip r) h = tt
+  named-keeps (assign r n e) h = λ s k ws q.
+      let p = bound (eval e (contents (s .store)) no-current) _ ws q in
+      assigned-named (s .store) k n (p .0) ws (p .2)
+  named-keeps (set-yoke r n y) h = λ s k ws q. changed-named (s .store) k n y h ws q
+  named-keeps (sequence r i j) h = tt
+  named-keeps (branch r e i j) h = tt
+  named-keeps (loop r e i) h = tt
+  named-keeps (handle r n i) h = tt
+
+  named-reading : (r : Reading) → KeepsReading StateNamed r
+  unfolding KeepsReading StateNamed readingTaken
+  named-reading r s h ws e =
+      let p = demanded (inRange (r .number)) overflow _ ws e in
+      assigned-named (s .store) h (r .variable) (composite number (whole (r .number))) ws (p .1)
+
+  -- ---- the profile's yokes: those that its rows set, and those that it declares
+  node-named : (r : ℕ) (row : InstructionRow) (look : ℕ → Instruction) → SetsNamed (instructionOf rows r row look)
+  unfolding instructionOf SetsNamed
+  node-named r skip-row look = tt
+  node-named r (assign-row n e) look = tt
+  node-named r (set-yoke-row n y) look = tree-named rows y
+  node-named r (sequence-row i j) look = tt
+  node-named r (branch-row e i j) look = tt
+  node-named r (loop-row e i) look = tt
+  node-named r (handle-row n i) look = tt
+
+  row-named : (r : ℕ) → SetsNamed (instructionTree rows r)
+  unfolding instructionTree instructionIn
+  row-named r = node-named r (instructionRow rows r) _
+
+  program-named : (r : ℕ) → Everywhere SetsNamed (instructionTree rows r)
+  program-named r = tree-everywhere SetsNamed (λ k. unfold SetsNamed in tt) rows (suc r) (λ k l. row-named k) r (omega arith)
+
+  declared-named : (lims : List ℕ) → Every (λ d. Named rows (d .declared)) (profileOf rows lims .declarations)
+  unfolding profileOf declarationAt
+  declared-named lims = every-tabulate (pairCount rows declaration-section) (λ d. declarationAt rows lims d) (λ d l. tree-named rows _)
+
+  start-named : {ds : List Declaration} → Every (λ d. Named rows (d .declared)) ds → AllNamed (map unfilled ds)
+  unfolding yokeTree yokeNumber
+  start-named every-none n = record { is = refl }
+  start-named (every-more h hs) zero = h
+  start-named (every-more h hs) (suc n) = start-named hs n
+
+  -- ---- whole runs
+  pub run-named : (lims : List ℕ) (readings : List Reading) (budget n : ℕ) → Named rows (variableAt (lastState (run (profileOf rows lims) readings budget) .store) n .current)
+  unfolding run StateNamed started
+  run-named lims readings budget n =
+      let p = profileOf rows lims in
+      exec-keeps StateNamed named-stable (p .program)
+      (everywhere-implies named-keeps (unfold profileOf in program-named (pred (tableCount rows instruction-section))))
+      (takeReadings 0 readings (started p budget))
+      (readings-keep StateNamed named-stable 0 readings (every-all named-reading readings) (started p budget) (start-named (declared-named lims))) n

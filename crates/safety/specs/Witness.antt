@@ -1,0 +1,126 @@
+-- A pair of files that passes and that both runs carry out, computed: no clause of the claim about two runs (TwoRuns) is empty. A variable is
+-- filled under a yoke of its own and under a limit, an error is met, and a handler clears it. Assumes nothing.
+use mathlib.Core.Path.{_≡_, refl, sym, ap}
+use mathlib.Core.List.{List, [], _∷_, _++_}
+use mathlib.Core.Option.{some}
+use Prim.Native.Nat.{ℕ}
+use native.Mathlib.Omega.{arith}
+use lib.ListN.{length, replicate, length-replicate}
+use lib.IntN.{ℤ, pos}
+use Rattle.lingua.specs.Numbers.{cells-length, states-length, layout-length, declaration-section}
+use Rattle.lingua.specs.Errors.{yoke-not-satisfied}
+use Rattle.lingua.specs.Outcome.{Outcome, ok, fail}
+use Rattle.lingua.specs.Body.{number}
+use Rattle.lingua.specs.Value.{whole, composite}
+use Rattle.lingua.specs.Operation.{less}
+use Rattle.lingua.specs.Expression.{constant, current, binary, yoke}
+use Rattle.lingua.specs.Typing.{TypeError, Entry, checkProfile}
+use Rattle.lingua.specs.Meets.{runMet}
+use Rattle.lingua.specs.Trees.{yokeTree, limitOf, nameAt, profileOf}
+use Rattle.lingua.specs.Format.{profile, rowsOf, fileOf}
+use Rattle.lingua.specs.Answers.{answered, ending, runMeaning}
+use Rattle.lingua.specs.Calls.{RunCall, readingsOf, checkedCall, erasedCall, runResult, erasedResult}
+use Rattle.lingua.specs.Examples.{row, example-limits, example-limits-file}
+use Rattle.lingua.specs.Computing.{computing}
+use Rattle.lingua.specs.declared.RunAnswer.the-variants as run-answer
+use Rattle.safety.specs.Memory.{HoldsValue}
+use Rattle.safety.specs.TwoRuns.{Passes, TwoRuns, both-refused, both-ran, two-runs}
+
+-- ---- the files
+-- SPEED, a number with the own yoke value < 300, and TURN; SPEED := 120; SPEED := 700; on error 3 do skip
+unfoldable pub witness-rows : List ℕ
+witness-rows =
+    row 1 0 (83 ∷ 80 ∷ 69 ∷ 69 ∷ 68 ∷ [])
+    ++ (row 1 1 (0 ∷ 0 ∷ 3 ∷ [])
+    ++ (row 1 0 (84 ∷ 85 ∷ 82 ∷ 78 ∷ [])
+    ++ (row 1 1 []
+    ++ (row 2 2 []
+    -- value, 300, value < 300, 120, 700
+    ++ (row 3 24 []
+    ++ (row 3 2 (44 ∷ 1 ∷ [])
+    ++ (row 3 9 (0 ∷ 0 ∷ 1 ∷ [])
+    ++ (row 3 2 (120 ∷ [])
+    ++ (row 3 2 (188 ∷ 2 ∷ [])
+    -- both assignments, skip, the handler, and their sequence
+    ++ (row 4 2 (0 ∷ 0 ∷ 3 ∷ [])
+    ++ (row 4 2 (0 ∷ 0 ∷ 4 ∷ [])
+    ++ (row 4 1 []
+    ++ (row 4 7 (3 ∷ 0 ∷ 2 ∷ [])
+    ++ (row 4 4 (0 ∷ 0 ∷ 1 ∷ [])
+    ++ row 4 4 (4 ∷ 0 ∷ 3 ∷ [])))))))))))))))
+
+unfoldable pub witness-file : List ℕ
+witness-file = fileOf profile 7 witness-rows
+
+-- ---- the pair passes
+abbrev entriesIn : Outcome TypeError (List Entry) → List Entry
+entriesIn (ok es) = es
+entriesIn (fail e) = []
+
+pub witness-passes : Passes witness-file example-limits-file
+unfolding computing witness-file witness-rows example-limits-file example-limits
+witness-passes =
+    record { accepted = refl; entries = entriesIn (checkProfile (profileOf (rowsOf witness-file) (rowsOf example-limits-file))); checked = refl }
+
+-- ---- both calls, with one reading, SPEED 100, are carried out, whatever their memory of the listed lengths held
+-- SPEED is filled under the yoke of row 2 and holds 120; TURN is not filled
+abbrev pub speed-cells : List ℤ
+speed-cells = pos 120 ∷ replicate 1023 (pos 0)
+
+abbrev pub speed-states : List ℕ
+speed-states = 1 ∷ 3 ∷ replicate 30 0
+
+-- each row's result takes one cell
+abbrev pub witness-layout : List ℕ
+witness-layout = 1 ∷ 0 ∷ 1 ∷ 0 ∷ 1 ∷ 0 ∷ 1 ∷ 0 ∷ 1 ∷ 0 ∷ replicate 1014 0
+
+pub checked-gives : checkedCall witness-file example-limits-file (0 ∷ []) (pos 100 ∷ []) 9 (replicate cells-length (pos 5)) (replicate states-length 5)
+    ≡ record { answer = answered (ending 0 0 0 4); cells = speed-cells; states = speed-states }
+unfolding computing witness-file witness-rows example-limits-file example-limits
+checked-gives = refl
+
+pub erased-gives : erasedCall witness-file example-limits-file (0 ∷ []) (pos 100 ∷ []) 9 (replicate cells-length (pos 6)) (replicate states-length 7) (replicate layout-length 8)
+    ≡ record { answer = answered (ending 0 0 0 4); cells = speed-cells; states = speed-states; layout = witness-layout }
+unfolding computing witness-file witness-rows example-limits-file example-limits
+erased-gives = refl
+
+-- 700 is too much for the yoke and for the limits, and the handler clears the error
+pub witness-meets : runMet (profileOf (rowsOf witness-file) (rowsOf example-limits-file)) (readingsOf (0 ∷ []) (pos 100 ∷ [])) 9 ≡ yoke-not-satisfied ∷ yoke-not-satisfied ∷ []
+unfolding computing witness-file witness-rows example-limits-file example-limits
+witness-meets = refl
+
+-- the yoke that SPEED's state word names, and its limit
+pub speed-yoke : yokeTree (rowsOf witness-file) 3 ≡ yoke (binary 2 less (current 0) (constant 1 (composite number (whole (pos 300)))))
+unfolding computing witness-file witness-rows
+speed-yoke = refl
+
+pub speed-limit : limitOf (rowsOf example-limits-file) (nameAt (rowsOf witness-file) declaration-section 0) ≡ some (record { low = pos 0; high = pos 600 })
+unfolding computing witness-file witness-rows example-limits-file example-limits
+speed-limit = refl
+
+-- ---- so the claim holds of calls of the code that give this, and says of SPEED what it says of a filled variable
+unfoldable pub WitnessRuns : Type 0
+WitnessRuns =
+    TwoRuns witness-file example-limits-file (0 ∷ []) (pos 100 ∷ []) 9
+    (replicate cells-length (pos 5)) (replicate states-length 5) (runResult (run-answer.Finished 4) speed-cells speed-states)
+    (replicate cells-length (pos 6)) (replicate states-length 7) (replicate layout-length 8) (erasedResult (run-answer.Finished 4) speed-cells speed-states witness-layout)
+
+pub witness-two-runs : WitnessRuns
+unfolding WitnessRuns
+witness-two-runs =
+    two-runs witness-file example-limits-file (0 ∷ []) (pos 100 ∷ []) 9 (replicate cells-length (pos 5)) (replicate states-length 5) (replicate cells-length (pos 6)) (replicate states-length 7) (replicate layout-length 8)
+    (run-answer.Finished 4) (run-answer.Finished 4) speed-cells speed-states speed-cells speed-states witness-layout
+    (unfold runResult runMeaning in sym checked-gives) (unfold erasedResult runMeaning in sym erased-gives) witness-passes
+    (record { cells-are = length-replicate cells-length (pos 5); states-are = length-replicate {A = ℕ} states-length 5; cells′-are = length-replicate cells-length (pos 6); states′-are = length-replicate {A = ℕ} states-length 7; layout-is = length-replicate {A = ℕ} layout-length 8 })
+
+two-variables : length (profileOf (rowsOf witness-file) (rowsOf example-limits-file) .declarations) ≡ 2
+unfolding computing witness-file witness-rows example-limits-file example-limits
+two-variables = refl
+
+pub speed-holds : HoldsValue (rowsOf witness-file) (rowsOf example-limits-file) speed-cells speed-states 0
+unfolding WitnessRuns runResult runMeaning
+speed-holds = by witness-two-runs
+  where
+    by : WitnessRuns → HoldsValue (rowsOf witness-file) (rowsOf example-limits-file) speed-cells speed-states 0
+    by (both-refused b) = let same = ap (λ (c : RunCall). c .answer) (b .checked) in absurd (let z : _≡_ {A = ℕ} 0 1 = cc in let y : ⊥ = omega arith in y)
+    by (both-ran b) = b .checked-filled .holds 0 (omega (arith, two-variables)) refl

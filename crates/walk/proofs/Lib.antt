@@ -1,0 +1,4 @@
+pub mod Ways
+pub mod Rows
+pub mod Taking
+pub mod Ending

@@ -1,0 +1,76 @@
+-- What one way's code gives, as what the walk asks of either way. Assumes nothing.
+use mathlib.Core.Path.{_≡_, sym, subst}
+use mathlib.Core.List.{List}
+use Prim.Native.Nat.{ℕ}
+use lib.IntN.{ℤ}
+use Rattle.lingua.specs.Outcome.{Result}
+use Rattle.lingua.specs.Store.{Variable, contents, readingTaken}
+use Rattle.lingua.specs.Evaluation.{evalTest}
+use Rattle.lingua.specs.Trees.{expressionTree}
+use Rattle.steps.specs.declared.Truth.{Truth}
+use Rattle.steps.specs.Reached.{Lent, Holding, Settles, Tells}
+use Rattle.stores.specs.Memory.{reading}
+use Rattle.checked.specs.Meaning.{Running as CheckedRunning}
+use Rattle.erased.specs.Meaning.{Running as ErasedRunning, HasRunning as ErasedHas, HasStore}
+use Rattle.walk.specs.declared.way.Way.{Way}
+use Rattle.walk.specs.declared.way.Way.the-variants as way
+use Rattle.walk.specs.Meaning.{Context, CheckedIn, ErasedIn, HoldsBy, Holds, Standing, Stores, TellsTest}
+
+-- what is asked of the memory may be exchanged for what follows from it
+settles-as : {r : ℕ} {M N : Holding} {l after : Lent} {p : Result (List Variable)} → ((vs : List Variable) → M after vs → N after vs) → Settles r M l after p → Settles r N l after p
+settles-as f h =
+    record { answer = λ e. let a = h .answer e in record { store = a .store; is = a .is; running = f (a .store) (a .running) }; error = h .error }
+
+module _ {w : Way} {c : Context} where
+  -- ---- the checked way
+  module _ (e : w ≡ way.Checked) where
+    checked-in : {l : Lent} {vs : List Variable} → Holds w c l vs → CheckedIn c l vs
+    unfolding HoldsBy
+    checked-in {l} {vs} h = subst (λ (k : Way). HoldsBy k c l vs) e (h .by)
+
+    in-checked : {l : Lent} {vs : List Variable} → CheckedIn c l vs → Holds w c l vs
+    unfolding HoldsBy
+    in-checked {l} {vs} h = record { by = subst (λ (k : Way). HoldsBy k c l vs) (sym e) h }
+
+    pub checked-standing : {l : Lent} {room : ℕ} (s : Standing w c l room) → CheckedRunning (c .rows) (c .expressions) (c .bodies) (c .limits) l (s .store)
+    checked-standing s = checked-in (s .holds) .running
+
+    pub checked-stores : {l after : Lent} {r : ℕ} (f : List Variable → Result (List Variable))
+        → ((vs : List Variable) → CheckedRunning (c .rows) (c .expressions) (c .bodies) (c .limits) l vs → Settles r (CheckedRunning (c .rows) (c .expressions) (c .bodies) (c .limits)) l after (f vs))
+        → Stores w c l after r f
+    checked-stores f h =
+        record { settles = λ vs k. let q = checked-in k in settles-as (λ us g. in-checked (record { no-layout = q .no-layout; running = g })) (h vs (q .running)) }
+
+    pub checked-tells : {l : Lent} {n : ℕ} {r : Truth} → ((vs : List Variable) → CheckedRunning (c .rows) (c .expressions) (c .bodies) (c .limits) l vs → Tells r (evalTest (expressionTree (c .rows) n) (contents vs)))
+        → TellsTest w c l n r
+    checked-tells h = record { tells = λ vs k. h vs (checked-in k .running) }
+
+  -- ---- the erased way
+  module _ (e : w ≡ way.Erased) where
+    erased-in : {l : Lent} {vs : List Variable} → Holds w c l vs → ErasedIn c l vs
+    unfolding HoldsBy
+    erased-in {l} {vs} h = subst (λ (k : Way). HoldsBy k c l vs) e (h .by)
+
+    in-erased : {l : Lent} {vs : List Variable} → ErasedIn c l vs → Holds w c l vs
+    unfolding HoldsBy
+    in-erased {l} {vs} h = record { by = subst (λ (k : Way). HoldsBy k c l vs) (sym e) h }
+
+    pub erased-standing : {l : Lent} {room : ℕ} → Standing w c l room → ErasedHas (c .rows) (c .expressions) (c .layout) (c .limits) l
+    erased-standing s = record { store = s .store; running = erased-in (s .holds) .running }
+
+    pub under-standing : {l : Lent} {room : ℕ} → Standing w c l room → HasStore (c .rows) (c .expressions) (c .layout) l
+    under-standing s = record { limits = c .limits; has = erased-standing s }
+
+    pub erased-stores : {l after : Lent} {r : ℕ} (f : List Variable → Result (List Variable))
+        → ((vs : List Variable) → ErasedRunning (c .rows) (c .expressions) (c .layout) (c .limits) l vs → Settles r (ErasedRunning (c .rows) (c .expressions) (c .layout) (c .limits)) l after (f vs))
+        → Stores w c l after r f
+    erased-stores f h =
+        record { settles = λ vs k. let q = erased-in k in settles-as (λ us g. in-erased (record { no-bodies = q .no-bodies; running = g })) (h vs (q .running)) }
+
+    pub erased-tells : {l : Lent} {n : ℕ} {r : Truth} → ((vs : List Variable) → ErasedRunning (c .rows) (c .expressions) (c .layout) (c .limits) l vs → Tells r (evalTest (expressionTree (c .rows) n) (contents vs)))
+        → TellsTest w c l n r
+    erased-tells h = record { tells = λ vs k. h vs (erased-in k .running) }
+
+-- ---- a reading, whose number comes back from the machine's bits
+pub stores-number : {w : Way} {c : Context} {l after : Lent} {r : ℕ} (n : ℕ) {y z : ℤ} → y ≡ z → Stores w c l after r (λ vs. readingTaken vs (reading n y)) → Stores w c l after r (λ vs. readingTaken vs (reading n z))
+stores-number {w} {c} {l} {after} {r} n e h = subst (λ (x : ℤ). Stores w c l after r (λ vs. readingTaken vs (reading n x))) e h

@@ -1,0 +1,138 @@
+-- What the one walk of instructions asks of its memory and gives, in each of the two ways to run. Assumes nothing: these are definitions.
+use mathlib.Core.Path.{_≡_}
+use mathlib.Core.Bool.{false}
+use mathlib.Core.List.{List, []}
+use Prim.Native.Nat.{ℕ, _+_, _*_, _≤_, _<_}
+use lib.IntN.{ℤ}
+use lib.ListN.{length}
+use Rattle.lingua.specs.Numbers.{body-cells, instruction-section}
+use Rattle.lingua.specs.Outcome.{Result}
+use Rattle.lingua.specs.Rows.{instructionRow}
+use Rattle.lingua.specs.Store.{Reading, Variable, contents, readingTaken}
+use Rattle.lingua.specs.Evaluation.{evalTest}
+use Rattle.lingua.specs.Run.{exec, going, settled, takeReadings, run}
+use Rattle.lingua.specs.Trees.{expressionTree, instructionTree, profileOf}
+use Rattle.lingua.specs.Refusal.{readingWrong}
+use Rattle.lingua.specs.declared.RunAnswer.{RunAnswer}
+use Rattle.lingua.specs.Calls.{ran, runResult}
+use Rattle.safety.specs.Invariant.{declaredStore}
+use Rattle.rules.specs.Tables.{IsTable}
+use Rattle.rules.specs.declared.tables.Table.{Table}
+use Rattle.profile.specs.declared.row.InstructionRow.{InstructionRow}
+use Rattle.profile.specs.declared.row.InstructionRow.the-variants as does
+use Rattle.profile.specs.Row.{instructionMeaning}
+use Rattle.steps.specs.declared.Moment.{Moment}
+use Rattle.steps.specs.declared.Truth.{Truth}
+use Rattle.steps.specs.Moments.{stateOf}
+use Rattle.steps.specs.Reached.{Lent, Holding, Going, Reached, Settles, Tells}
+use Rattle.checked.specs.Meaning.{Running as CheckedRunning}
+use Rattle.erased.specs.Meaning.{Running as ErasedRunning}
+use Rattle.walk.specs.declared.way.Way.{Way}
+use Rattle.walk.specs.declared.way.Way.the-variants as way
+
+-- ---- what is given
+-- what a run reads and does not change: the profile's rows with the table of its expressions, the declared bodies, the layout table, the limits
+pub record Context : Type 0 where
+  pub rows : List ℕ
+  pub expressions : Table
+  pub bodies : List ℕ
+  pub layout : List ℕ
+  pub limits : List ℤ
+
+abbrev pub context : List ℕ → Table → List ℕ → List ℕ → List ℤ → Context
+context rows t bodies layout limits = record { rows = rows; expressions = t; bodies = bodies; layout = layout; limits = limits }
+
+-- the checked run has the declared bodies, and no layout table
+pub record CheckedIn (c : Context) (l : Lent) (vs : List Variable) : Type 0 where
+  pub no-layout : c .layout ≡ []
+  pub running : CheckedRunning (c .rows) (c .expressions) (c .bodies) (c .limits) l vs
+
+-- the erased run has the layout table, and no body
+pub record ErasedIn (c : Context) (l : Lent) (vs : List Variable) : Type 0 where
+  pub no-bodies : c .bodies ≡ []
+  pub running : ErasedRunning (c .rows) (c .expressions) (c .layout) (c .limits) l vs
+
+unfoldable pub HoldsBy : Way → Context → Holding
+HoldsBy way.Checked c l vs = CheckedIn c l vs
+HoldsBy way.Erased c l vs = ErasedIn c l vs
+
+-- what a run asks of lent memory that holds a store
+pub record Holds (w : Way) (c : Context) (l : Lent) (vs : List Variable) : Type 0 where
+  pub by : HoldsBy w c l vs
+
+-- some such store, and room on the operand stack
+pub record Standing (w : Way) (c : Context) (l : Lent) (room : ℕ) : Type 0 where
+  pub store : List Variable
+  pub holds : Holds w c l store
+  pub enough : body-cells * (c .expressions .count + 1) ≤ room
+
+-- the same under some limits, where they are not asked
+pub record StandsUnder (w : Way) (rows : List ℕ) (t : Table) (bodies layout : List ℕ) (l : Lent) (room : ℕ) : Type 0 where
+  pub limits : List ℤ
+  pub standing : Standing w (context rows t bodies layout limits) l room
+
+-- ---- instructions
+-- what an instruction asks
+pub record Asked (row : ℕ) (w : Way) (c : Context) (u : Table) (l : Lent) (m : Moment) (room : ℕ) : Type 0 where
+  pub standing : Standing w c l room
+  pub instructions : IsTable (c .rows) instruction-section u
+  pub there : row < u .count
+  pub going : Going m
+
+-- what the code read of its row
+pub record Means (rows : List ℕ) (row : ℕ) (d : InstructionRow) : Type 0 where
+  pub is : instructionMeaning d ≡ instructionRow rows row
+
+abbrev pub AssignAt : List ℕ → ℕ → ℕ → ℕ → Type 0
+AssignAt rows row n e = Means rows row (does.Assign n e)
+
+abbrev pub SetYokeAt : List ℕ → ℕ → ℕ → ℕ → Type 0
+SetYokeAt rows row n y = Means rows row (does.SetYoke n y)
+
+abbrev pub BranchAt : List ℕ → ℕ → ℕ → ℕ → ℕ → Type 0
+BranchAt rows row e i j = Means rows row (does.Branch e i j)
+
+abbrev pub LoopAt : List ℕ → ℕ → ℕ → ℕ → Type 0
+LoopAt rows row e i = Means rows row (does.Loop e i)
+
+abbrev pub HandleAt : List ℕ → ℕ → ℕ → ℕ → Type 0
+HandleAt rows row n i = Means rows row (does.Handle n i)
+
+-- what it gives: the run stands where the definition does, at every store that the memory may hold
+pub record Executes (row : ℕ) (w : Way) (c : Context) (l after : Lent) (m r : Moment) : Type 0 where
+  pub reaches : (vs : List Variable) → Holds w c l vs → Reached (Holds w c) after r (exec (instructionTree (c .rows) row) (stateOf m vs))
+
+-- ---- what differs between the ways
+-- a store: the new one in memory, or the error and the memory as it was
+pub record Stores (w : Way) (c : Context) (l after : Lent) (r : ℕ) (f : List Variable → Result (List Variable)) : Type 0 where
+  pub settles : (vs : List Variable) → Holds w c l vs → Settles r (Holds w c) l after (f vs)
+
+-- a test's answer
+pub record TellsTest (w : Way) (c : Context) (l : Lent) (e : ℕ) (r : Truth) : Type 0 where
+  pub tells : (vs : List Variable) → Holds w c l vs → Tells r (evalTest (expressionTree (c .rows) e) (contents vs))
+
+-- ---- readings
+-- two slices of one length, each of whose variables is a number variable (document 01: rule 16)
+pub record Readable (rows who : List ℕ) (numbers : List ℤ) : Type 0 where
+  pub same-length : length who ≡ length numbers
+  pub right : readingWrong rows who ≡ false
+
+-- one reading: taken, or its error recorded with its place
+pub record Takes (w : Way) (c : Context) (l after : Lent) (m r : Moment) (place n : ℕ) (z : ℤ) : Type 0 where
+  pub goes : Going r
+  pub reaches : (vs : List Variable) → Holds w c l vs → Reached (Holds w c) after r (going (settled (stateOf m vs) place (readingTaken vs (record { variable = n; number = z }))))
+
+-- all of them, in order
+pub record TakesAll (w : Way) (c : Context) (l after : Lent) (m r : Moment) (rs : List Reading) : Type 0 where
+  pub goes : Going r
+  pub reaches : (vs : List Variable) → Holds w c l vs → Reached (Holds w c) after r (going (takeReadings 0 rs (stateOf m vs)))
+
+-- ---- a whole run
+-- memory as it is at a run's start, under the limits of some file
+pub record Begins (w : Way) (c : Context) (l : Lent) : Type 0 where
+  pub limits : List ℕ
+  pub holds : Holds w c l (declaredStore (profileOf (c .rows) limits))
+
+-- the answer, and the memory where the run ended, are the definition's
+pub record Runs (w : Way) (c : Context) (l after : Lent) (rs : List Reading) (budget : ℕ) (r : RunAnswer) : Type 0 where
+  pub is : (limits : List ℕ) → Holds w c l (declaredStore (profileOf (c .rows) limits)) → runResult r (after .cells) (after .states) ≡ ran budget (run (profileOf (c .rows) limits) rs budget)

@@ -1,0 +1,145 @@
+// What differs between the two ways to run: how a value is stored, a yoke changed, a test asked and a reading taken.
+use crate::way::Way;
+use rules::tables::Table;
+use steps::Truth;
+ghost use mathlib.Core.Path.{_≡_};
+ghost use mathlib.Core.Bool.{true};
+ghost use mathlib.Core.List.{List};
+ghost use Prim.Native.Nat.{_<_, _≤_};
+ghost use lib.IntN.{ℤ};
+ghost use lib.ListN.{length};
+ghost use Rattle.lingua.specs.Numbers.{declaration-section};
+ghost use Rattle.lingua.specs.Outcome.{_>>=_ as bind};
+ghost use Rattle.lingua.specs.Rows.{pairCount};
+ghost use Rattle.lingua.specs.Refusal.{isNumberVariable};
+ghost use Rattle.lingua.specs.Evaluation.{eval as meaning, no-current};
+ghost use Rattle.lingua.specs.Store.{contents, assigned, yokeChanged, readingTaken};
+ghost use Rattle.lingua.specs.Trees.{expressionTree, yokeTree};
+ghost use Rattle.steps.specs.Reached.{lent};
+ghost use Rattle.stores.specs.Memory.{reading};
+ghost use Rattle.erased.specs.Meaning.{AssignRow, YokeRow, TestRow};
+ghost use Rattle.walk.specs.Meaning.{context, Standing, StandsUnder, Stores, TellsTest};
+
+// Variable n takes what expression row e gives.
+pub fn assign(
+    way: Way,
+    rows: &[u8],
+    t: Table,
+    bodies: &[u8],
+    layout: &[u16],
+    limits: &[i64],
+    cells: &mut [i64],
+    states: &mut [u16],
+    n: usize,
+    e: usize,
+    stack: &mut [i64],
+) -> u8
+    requires { ⌜ Standing way (context (now rows) t (now bodies) (now layout) (now limits)) (lent (now cells) (now states)) (length (now stack)) ⌝ }
+    requires { ⌜ (n < pairCount (now rows) declaration-section) × (e < t .count) × AssignRow (now rows) n e ⌝ }
+    ensures { λ r. ⌜ Stores way (context (now (rows .entry)) t (now (bodies .entry)) (now (layout .entry)) (now (limits .entry))) (lent (now (cells .entry)) (now (states .entry))) (lent (now (cells .exit)) (now (states .exit))) r
+        (λ vs. bind (meaning (expressionTree (now (rows .entry)) e) (contents vs) no-current) (assigned vs n)) ⌝ }
+{
+    match way {
+        Way::Checked => {
+            let x = checked::yoke::eval_plain(rows, t, bodies, cells, states, e, &mut *stack);
+            checked::assign::assign(rows, t, bodies, limits, cells, states, n, x, stack)
+        }
+        Way::Erased => erased::assign::assign(rows, t, layout, limits, cells, states, n, e, stack),
+    }
+}
+
+// Variable n's yoke becomes y, where the value that it has satisfies it.
+pub fn change_yoke(
+    way: Way,
+    rows: &[u8],
+    t: Table,
+    bodies: &[u8],
+    layout: &[u16],
+    limits: &[i64],
+    cells: &[i64],
+    states: &mut [u16],
+    n: usize,
+    y: u16,
+    stack: &mut [i64],
+) -> u8
+    requires { ⌜ Standing way (context (now rows) t (now bodies) (now layout) (now limits)) (lent (now cells) (now states)) (length (now stack)) ⌝ }
+    requires { ⌜ (n < pairCount (now rows) declaration-section) × (y ≤ t .count) × YokeRow (now rows) n y ⌝ }
+    ensures { λ r. ⌜ Stores way (context (now (rows .entry)) t (now (bodies .entry)) (now (layout .entry)) (now (limits .entry))) (lent (now (cells .entry)) (now (states .entry))) (lent (now (cells .entry)) (now (states .exit))) r
+        (λ vs. yokeChanged vs n (yokeTree (now (rows .entry)) y)) ⌝ }
+{
+    match way {
+        Way::Checked => {
+            checked::change::change_yoke(rows, t, bodies, limits, cells, states, n, y, stack)
+        }
+        Way::Erased => erased::change::change_yoke(
+            rows,
+            t,
+            layout,
+            limits,
+            cells,
+            states,
+            n,
+            y,
+            stack,
+        ),
+    }
+}
+
+// Whether the test of expression row e holds.
+pub fn test(
+    way: Way,
+    rows: &[u8],
+    t: Table,
+    bodies: &[u8],
+    layout: &[u16],
+    cells: &[i64],
+    states: &[u16],
+    e: usize,
+    stack: &mut [i64],
+) -> Truth
+    requires { ⌜ StandsUnder way (now rows) t (now bodies) (now layout) (lent (now cells) (now states)) (length (now stack)) ⌝ }
+    requires { ⌜ (e < t .count) × TestRow (now rows) e ⌝ }
+    ensures { λ r. ⌜ ((limits : List ℤ) → TellsTest way (context (now (rows .entry)) t (now (bodies .entry)) (now (layout .entry)) limits) (lent (now (cells .entry)) (now (states .entry))) e r) ⌝ }
+{
+    match way {
+        Way::Checked => checked::yoke::eval_test(rows, t, bodies, cells, states, e, stack),
+        Way::Erased => erased::test::test(rows, t, layout, cells, states, e, stack),
+    }
+}
+
+// Number variable n takes a number from outside.
+pub fn take_reading(
+    way: Way,
+    rows: &[u8],
+    t: Table,
+    bodies: &[u8],
+    layout: &[u16],
+    limits: &[i64],
+    cells: &mut [i64],
+    states: &mut [u16],
+    n: usize,
+    z: i64,
+    stack: &mut [i64],
+) -> u8
+    requires { ⌜ Standing way (context (now rows) t (now bodies) (now layout) (now limits)) (lent (now cells) (now states)) (length (now stack)) ⌝ }
+    requires { ⌜ (n < pairCount (now rows) declaration-section) × (isNumberVariable (now rows) n ≡ true) ⌝ }
+    ensures { λ r. ⌜ Stores way (context (now (rows .entry)) t (now (bodies .entry)) (now (layout .entry)) (now (limits .entry))) (lent (now (cells .entry)) (now (states .entry))) (lent (now (cells .exit)) (now (states .exit))) r
+        (λ vs. readingTaken vs (reading n z)) ⌝ }
+{
+    match way {
+        Way::Checked => {
+            checked::reading::take_reading(rows, t, bodies, limits, cells, states, n, z, stack)
+        }
+        Way::Erased => erased::reading::take_reading(
+            rows,
+            t,
+            layout,
+            limits,
+            cells,
+            states,
+            n,
+            z,
+            stack,
+        ),
+    }
+}
