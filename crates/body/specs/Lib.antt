@@ -2,3 +2,4 @@ pub mod Encode
 pub mod Walk
 pub mod Find
 pub mod Typed
+pub mod Half

@@ -2,6 +2,7 @@
 pub mod binary;
 pub mod find;
 pub mod make;
+pub mod operation;
 pub mod parts;
 pub mod typed;
 pub mod types;

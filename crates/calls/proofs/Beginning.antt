@@ -29,11 +29,11 @@ use Rattle.rules.specs.Tables.{IsTable}
 use Rattle.rules.specs.declared.tables.Table.{Table}
 use Rattle.profile.specs.Accepted.{counts}
 use Rattle.profile.specs.Yokes.{YokeOf, every-yoke}
-use Rattle.start.specs.Begun.{startStore, Begun}
-use Rattle.start.specs.Kept.{BodiesKept}
-use Rattle.start.proofs.Keeping.{start-bodies}
-use Rattle.start.proofs.Unfilled.{start-at}
-use Rattle.steps.specs.Reached.{lent}
+use Rattle.run.specs.Begun.{startStore, Begun}
+use Rattle.run.specs.Kept.{BodiesKept}
+use Rattle.run.proofs.Keeping.{start-bodies}
+use Rattle.run.proofs.Unfilled.{start-at}
+use Rattle.run.specs.Reached.{lent}
 use Rattle.checked.specs.Meaning.{Running as CheckedRunning}
 use Rattle.erased.specs.Meaning.{Running as ErasedRunning}
 use Rattle.walk.specs.declared.way.Way.the-variants as way

@@ -1,3 +1,5 @@
+pub mod Range
+pub mod Results
 pub mod Moves
 pub mod Windows
 pub mod Fields
@@ -8,3 +10,4 @@ pub mod Operands
 pub mod Unary
 pub mod Binary
 pub mod Walking
+pub mod Numbers

@@ -1,3 +1,5 @@
+pub mod Image
 pub mod Stack
 pub mod Operands
 pub mod Word
+pub mod Numeric

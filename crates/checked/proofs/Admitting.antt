@@ -21,11 +21,11 @@ use Rattle.cells.specs.Stack.{Lies}
 use Rattle.cells.proofs.Operands.{lies-long}
 use Rattle.cells.proofs.Singles.{number-cell}
 use Rattle.checked.specs.declared.answer.Evaluated.{Evaluated}
-use Rattle.steps.specs.declared.Truth.{Truth}
-use Rattle.steps.specs.Reached.{lent, Tells}
-use Rattle.stores.specs.Memory.{Admits}
-use Rattle.stores.proofs.Parts
-use Rattle.stores.proofs.Admitting.{admits-error}
+use Rattle.run.specs.declared.steps.Truth.{Truth}
+use Rattle.run.specs.Reached.{lent, Tells}
+use Rattle.run.specs.Memory.{Admits}
+use Rattle.run.proofs.Parts
+use Rattle.run.proofs.Admitting.{admits-error}
 use Rattle.checked.specs.Meaning.{Running, Current, Gives}
 use Rattle.checked.proofs.Storing.{memory-of}
 

@@ -13,10 +13,10 @@ use Rattle.lingua.specs.Store.{Variable, variableAt, withContent, admitted, ass
 use Rattle.safety.specs.Stored.{admitted-shows}
 use Rattle.rules.specs.declared.tables.Table.{Table}
 use Rattle.checked.specs.declared.answer.Evaluated.{Evaluated}
-use Rattle.steps.specs.Reached.{lent}
-use Rattle.stores.specs.Memory.{Admits}
-use Rattle.stores.proofs.Storing.{cells-stored, states-stored}
-use Rattle.stores.proofs.Settling.{stores-as}
+use Rattle.run.specs.Reached.{lent}
+use Rattle.run.specs.Memory.{Admits}
+use Rattle.run.proofs.Storing.{cells-stored, states-stored}
+use Rattle.run.proofs.Settling.{stores-as}
 use Rattle.checked.specs.Meaning.{Running, Current, Answers, Gives, Assigns}
 use Rattle.checked.proofs.Storing.{memory-of}
 use Rattle.checked.proofs.Keeping.{content-running}

@@ -9,10 +9,10 @@ use Rattle.lingua.specs.Outcome.{ok, Result, _>>_}
 use Rattle.lingua.specs.Store.{Variable, variableAt, withYoke, yokeHolds, yokeChanged}
 use Rattle.lingua.specs.Trees.{yokeTree}
 use Rattle.rules.specs.declared.tables.Table.{Table}
-use Rattle.steps.specs.Reached.{lent}
-use Rattle.stores.specs.Memory.{Admits}
-use Rattle.stores.proofs.Storing.{cells-kept, words-changed}
-use Rattle.stores.proofs.Settling.{keeps, stores-as}
+use Rattle.run.specs.Reached.{lent}
+use Rattle.run.specs.Memory.{Admits}
+use Rattle.run.proofs.Storing.{cells-kept, words-changed}
+use Rattle.run.proofs.Settling.{keeps, stores-as}
 use Rattle.checked.specs.Meaning.{Running, Assigns}
 use Rattle.checked.proofs.Keeping.{yoke-running}
 

@@ -19,8 +19,8 @@ use Rattle.profile.specs.Row.{connective, RowSays}
 use Rattle.profile.specs.Facts.{RowFacts, row-facts, rowTree, row-tree, settled-by}
 use Rattle.rules.specs.declared.tables.Table.{Table}
 use Rattle.checked.specs.declared.answer.Evaluated.{Evaluated}
-use Rattle.steps.specs.declared.Truth.{Truth}
-use Rattle.steps.specs.Reached.{Tells}
+use Rattle.run.specs.declared.steps.Truth.{Truth}
+use Rattle.run.specs.Reached.{Tells}
 use Rattle.checked.specs.Meaning.{World, Gives}
 use Rattle.checked.proofs.Giving.{gives-as, told-boolean}
 

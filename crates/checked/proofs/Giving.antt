@@ -21,8 +21,8 @@ use Rattle.cells.proofs.Operands.{lies-as}
 use Rattle.cells.proofs.Singles
 use Rattle.cells.proofs.Singles.{put-truth}
 use Rattle.checked.specs.declared.answer.Evaluated.{Evaluated}
-use Rattle.steps.specs.declared.Truth.{Truth}
-use Rattle.steps.specs.Reached.{Tells}
+use Rattle.run.specs.declared.steps.Truth.{Truth}
+use Rattle.run.specs.Reached.{Tells}
 use Rattle.checked.specs.Meaning.{Answers, Gives}
 
 -- ---- errors

@@ -15,8 +15,8 @@ use Rattle.safety.specs.Stored.{replaced}
 use Rattle.rules.specs.declared.tables.Table.{Table}
 use Rattle.body.specs.Encode.{Holds, body-bytes}
 use Rattle.profile.specs.Yokes.{YokeOf}
-use Rattle.steps.specs.Reached.{lent}
-use Rattle.stores.proofs.Storing.{limits-kept, yokes-kept}
+use Rattle.run.specs.Reached.{lent}
+use Rattle.run.proofs.Storing.{limits-kept, yokes-kept}
 use Rattle.checked.specs.Meaning.{Filled, Running}
 
 module _ {rows : List ℕ} {t : Table} {variables : List ℕ} {limits cells : List ℤ} {states : List ℕ} {vs : List Variable} (h : Running rows t variables limits (lent cells states) vs) (n : ℕ) (lt : n < length vs) where

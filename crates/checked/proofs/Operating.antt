@@ -18,7 +18,7 @@ use Rattle.body.specs.declared.typed.Typed.{Typed}
 use Rattle.cells.specs.Stack.{Leaves}
 use Rattle.cells.proofs.Operands.{lies-above}
 use Rattle.cells.specs.Operands.{Operand, HasOperand, Operands, HasOperands}
-use Rattle.halves.specs.Half.{Half, Half-passes}
+use Rattle.body.specs.Half.{Half, Half-passes}
 use Rattle.checked.specs.declared.answer.Evaluated.{Evaluated}
 use Rattle.checked.specs.Meaning.{Answers, Gives, Given}
 use Rattle.checked.proofs.Giving.{gives-answer, gives-error}

@@ -14,7 +14,7 @@ use Rattle.lingua.specs.Value.{whole, pad, composite}
 use Rattle.body.specs.Encode.{bytes, encoded, Holds, body-bytes}
 use Rattle.cells.proofs.Singles.{put-number}
 use Rattle.checked.specs.declared.answer.Evaluated.{Evaluated}
-use Rattle.stores.proofs.Readings.{in-range}
+use Rattle.run.proofs.Readings.{in-range}
 use Rattle.checked.specs.Meaning.{Gives}
 use Rattle.checked.proofs.Giving.{gives-answer}
 

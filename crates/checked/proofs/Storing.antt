@@ -21,9 +21,9 @@ use Rattle.profile.specs.Row.{constantOf}
 use Rattle.body.specs.Encode.{Holds}
 use Rattle.cells.proofs.Operands.{lies-long}
 use Rattle.cells.proofs.Singles.{put-cell}
-use Rattle.stores.specs.Memory.{Memory}
-use Rattle.stores.proofs.Copying.{copied-lies}
-use Rattle.stores.proofs.Parts.{cells-room, unfilled-is, filled-is, content-at}
+use Rattle.run.specs.Memory.{Memory}
+use Rattle.run.proofs.Copying.{copied-lies}
+use Rattle.run.proofs.Parts.{cells-room, unfilled-is, filled-is, content-at}
 use Rattle.checked.specs.declared.answer.Evaluated.{Evaluated}
 use Rattle.checked.specs.Meaning.{Stored, Current, Gives}
 use Rattle.checked.proofs.Giving.{gives-answer}

@@ -16,11 +16,11 @@ use Rattle.lingua.specs.Expression.{Yoke}
 use Rattle.lingua.specs.Evaluation.{truthOr, evalYoke}
 use Rattle.lingua.specs.Store.{Variable, variableAt, contents, yokeHolds}
 use Rattle.body.specs.Encode.{Holds}
-use Rattle.steps.specs.declared.Truth.{Truth}
-use Rattle.steps.specs.Reached.{Tells}
-use Rattle.stores.specs.Memory.{Admits}
-use Rattle.stores.proofs.Parts.{unfilled-is, filled-is, part-lies}
-use Rattle.stores.proofs.Admitting.{admits-error}
+use Rattle.run.specs.declared.steps.Truth.{Truth}
+use Rattle.run.specs.Reached.{Tells}
+use Rattle.run.specs.Memory.{Admits}
+use Rattle.run.proofs.Parts.{unfilled-is, filled-is, part-lies}
+use Rattle.run.proofs.Admitting.{admits-error}
 use Rattle.checked.specs.Meaning.{Stored, Current}
 use Rattle.checked.proofs.Storing.{memory-of, declared-held}
 

@@ -21,7 +21,7 @@ use Rattle.profile.specs.Yokes.{YokeOf}
 use Rattle.rules.specs.declared.tables.Table.{Table}
 use Rattle.body.specs.Encode.{Holds, body-bytes}
 use Rattle.cells.specs.Stack.{Lies, first-place}
-use Rattle.steps.specs.Reached.{Lent, Settles}
+use Rattle.run.specs.Reached.{Lent, Settles}
 use Rattle.checked.specs.declared.answer.Evaluated.{Evaluated}
 use Rattle.checked.specs.declared.seen.Seen.{Seen}
 

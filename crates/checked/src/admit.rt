@@ -9,7 +9,7 @@ use lingua::errors::NO_ERROR;
 use lingua::errors::YOKE_EXPECTED;
 use lingua::errors::YOKE_NOT_SATISFIED;
 use rules::tables::Table;
-use stores::limits::in_limits;
+use run::limits::in_limits;
 ghost use mathlib.Core.Path.{_≡_};
 ghost use mathlib.Core.List.{List};
 ghost use Prim.Native.Nat.{_+_, _*_, _<_, _≤_};
@@ -17,8 +17,8 @@ ghost use lib.ListN.{length};
 ghost use Rattle.lingua.specs.Numbers.{body-cells};
 ghost use Rattle.lingua.specs.Value.{Composite, asWhole};
 ghost use Rattle.lingua.specs.Store.{Variable, variableAt, admitted as checks};
-ghost use Rattle.steps.specs.Reached.{lent};
-ghost use Rattle.stores.specs.Memory.{Admits};
+ghost use Rattle.run.specs.Reached.{lent};
+ghost use Rattle.run.specs.Memory.{Admits};
 ghost use Rattle.checked.specs.Meaning.{Current, HasCurrent, Running, Checkable};
 
 // A number's cell; for a value of another body 0 stands.

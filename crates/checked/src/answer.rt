@@ -3,14 +3,14 @@ use body::make::simple;
 use body::unary::is_boolean;
 use body::walk::BOOLEAN;
 use lingua::errors::NO_ERROR;
-use steps::Truth;
+use run::steps::Truth;
 ghost use mathlib.Core.Path.{_≡_};
 ghost use Prim.Native.Nat.{_<_};
 ghost use lib.ListN.{length};
 ghost use Rattle.lingua.specs.Outcome.{ok, Result, _>>=_ as bind};
 ghost use Rattle.lingua.specs.Value.{Composite};
 ghost use Rattle.lingua.specs.Evaluation.{booleanOf, truthOr};
-ghost use Rattle.steps.specs.Reached.{Tells};
+ghost use Rattle.run.specs.Reached.{Tells};
 ghost use Rattle.checked.specs.Meaning.{Gives};
 
 // An error, or a value on the stack with its body and the number of its cells.

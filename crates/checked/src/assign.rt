@@ -3,8 +3,8 @@ use crate::admit::admitted;
 use crate::answer::Evaluated;
 use lingua::errors::NO_ERROR;
 use rules::tables::Table;
-use stores::copies::front;
-use stores::part::put;
+use run::copies::front;
+use run::part::put;
 ghost use mathlib.Core.List.{List};
 ghost use Prim.Native.Nat.{_+_, _*_, _<_, _≤_};
 ghost use lib.ListN.{length};
@@ -12,7 +12,7 @@ ghost use Rattle.lingua.specs.Numbers.{body-cells};
 ghost use Rattle.lingua.specs.Outcome.{Result, _>>=_ as bind};
 ghost use Rattle.lingua.specs.Value.{Composite};
 ghost use Rattle.lingua.specs.Store.{Variable, assigned};
-ghost use Rattle.steps.specs.Reached.{lent};
+ghost use Rattle.run.specs.Reached.{lent};
 ghost use Rattle.checked.specs.Meaning.{Gives, Running, Assignable, Assigns};
 
 // Variable n takes an evaluated value, which lies on the stack, once it is admitted; an error leaves the store as it was.

@@ -8,7 +8,7 @@ ghost use lib.ListN.{length};
 ghost use Rattle.lingua.specs.Numbers.{body-cells};
 ghost use Rattle.lingua.specs.Store.{Variable, yokeChanged};
 ghost use Rattle.lingua.specs.Trees.{yokeTree};
-ghost use Rattle.steps.specs.Reached.{lent};
+ghost use Rattle.run.specs.Reached.{lent};
 ghost use Rattle.checked.specs.Meaning.{Running, HasRunning, Assigns};
 
 pub fn change_yoke(

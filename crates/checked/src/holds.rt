@@ -14,7 +14,7 @@ ghost use Rattle.lingua.specs.Numbers.{body-cells, declaration-section};
 ghost use Rattle.lingua.specs.Rows.{pairCount};
 ghost use Rattle.lingua.specs.Store.{Variable, variableAt, yokeHolds};
 ghost use Rattle.lingua.specs.Trees.{yokeTree};
-ghost use Rattle.stores.specs.Memory.{Admits};
+ghost use Rattle.run.specs.Memory.{Admits};
 ghost use Rattle.checked.specs.Meaning.{World, HasWorld};
 
 // The variable's own cells are the current value, where they lie.

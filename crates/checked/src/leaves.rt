@@ -8,7 +8,7 @@ use lingua::sizes::BODY_CELLS;
 use profile::constants::constant_body;
 use profile::constants::constant_cell;
 use rules::tables::Table;
-use stores::copies::copy;
+use run::copies::copy;
 ghost use mathlib.Core.Path.{_≡_};
 ghost use mathlib.Core.List.{List};
 ghost use Prim.Native.Nat.{_+_, _*_, _<_, _≤_};

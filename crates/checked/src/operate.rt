@@ -1,8 +1,8 @@
 // An operation on evaluated operands: the first error, then the bodies' half, then the values' half.
 use crate::answer::Evaluated;
 use crate::answer::failed;
-use halves::binary_half;
-use halves::unary_half;
+use body::operation::binary_half;
+use body::operation::unary_half;
 use lingua::errors::NO_ERROR;
 use lingua::operations::BinaryOperation;
 use lingua::operations::UnaryOperation;
@@ -60,7 +60,7 @@ pub fn binary(o: BinaryOperation, x: Evaluated, y: Evaluated, stack: &mut [i64])
     if half.error != NO_ERROR {
         return failed(half.error);
     }
-    let error = values::binary(o, stack, x.cells, y.cells, half.offset);
+    let error = cells::apply::binary(o, stack, x.cells, y.cells, half.offset);
     if error != NO_ERROR {
         return failed(error);
     }

@@ -8,14 +8,14 @@ use lingua::errors::OVERFLOW;
 use lingua::sizes::HIGHEST_NUMBER;
 use lingua::sizes::LOWEST_NUMBER;
 use rules::tables::Table;
-use stores::limits::between;
+use run::limits::between;
 ghost use mathlib.Core.List.{List};
 ghost use Prim.Native.Nat.{_+_, _*_, _<_, _≤_};
 ghost use lib.ListN.{length};
 ghost use Rattle.lingua.specs.Numbers.{body-cells};
 ghost use Rattle.lingua.specs.Store.{Variable, readingTaken};
-ghost use Rattle.steps.specs.Reached.{lent};
-ghost use Rattle.stores.specs.Memory.{reading};
+ghost use Rattle.run.specs.Reached.{lent};
+ghost use Rattle.run.specs.Memory.{reading};
 ghost use Rattle.checked.specs.Meaning.{Running, HasRunning, Assigns};
 
 pub fn take_reading(

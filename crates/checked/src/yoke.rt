@@ -7,7 +7,7 @@ use body::make::simple;
 use body::walk::BOOLEAN;
 use lingua::errors::BOOLEAN_EXPECTED;
 use rules::tables::Table;
-use steps::Truth;
+use run::steps::Truth;
 ghost use mathlib.Core.List.{List};
 ghost use Prim.Native.Nat.{_+_, _*_, _<_, _≤_};
 ghost use lib.ListN.{length};
@@ -16,7 +16,7 @@ ghost use Rattle.lingua.specs.Value.{Composite};
 ghost use Rattle.lingua.specs.Store.{Variable, contents};
 ghost use Rattle.lingua.specs.Trees.{expressionTree, yokeTree};
 ghost use Rattle.lingua.specs.Evaluation.{eval as meaning, evalYoke, evalTest, no-current};
-ghost use Rattle.steps.specs.Reached.{Tells};
+ghost use Rattle.run.specs.Reached.{Tells};
 ghost use Rattle.checked.specs.Meaning.{World, HasWorld, Current, Ready, Gives};
 
 // What yoke y gives on a value: 0 is the yoke that is always true, another is the expression of row y - 1.

@@ -28,12 +28,12 @@ use Rattle.profile.specs.Yokes.{always-is}
 use Rattle.rules.specs.declared.tables.Table.{Table}
 use Rattle.cells.proofs.Operands.{lies-as, lies-long}
 use Rattle.cells.proofs.Singles.{number-cell}
-use Rattle.steps.specs.Reached.{lent, Settles}
-use Rattle.stores.specs.Memory.{Admits}
-use Rattle.stores.proofs.Copying.{copied-lies}
-use Rattle.stores.proofs.Parts
-use Rattle.stores.proofs.Settling.{keeps, stores-as}
-use Rattle.stores.proofs.Storing.{cells-stored, states-stored}
+use Rattle.run.specs.Reached.{lent, Settles}
+use Rattle.run.specs.Memory.{Admits}
+use Rattle.run.proofs.Copying.{copied-lies}
+use Rattle.run.proofs.Parts
+use Rattle.run.proofs.Settling.{keeps, stores-as}
+use Rattle.run.proofs.Storing.{cells-stored, states-stored}
 use Rattle.erased.specs.Meaning.{Current, ReadyYoke, Running, ValueFor, StoreRoom, Satisfies, AdmitsValue}
 use Rattle.erased.proofs.Cycle.{memory-of}
 use Rattle.erased.proofs.Keeping.{content-running}

@@ -26,9 +26,9 @@ use Rattle.profile.specs.Facts.{RowFacts, row-facts, rowTree, row-tree, settled
 use Rattle.rules.specs.declared.tables.Table.{Table}
 use Rattle.cells.specs.Stack.{Leaves}
 use Rattle.cells.proofs.Operands.{leaves-as}
-use Rattle.steps.specs.declared.Truth.{Truth}
-use Rattle.steps.specs.Reached.{Tells}
-use Rattle.stores.specs.Memory.{Memory}
+use Rattle.run.specs.declared.steps.Truth.{Truth}
+use Rattle.run.specs.Reached.{Tells}
+use Rattle.run.specs.Memory.{Memory}
 use Rattle.erased.specs.Meaning.{World, Current, Passed, Ready, Evaluates, HasVariable, HasCurrent, UnaryRow, HasUnary, BinaryRow, HasBinary}
 use Rattle.erased.proofs.Leaving.{leaves-ok, leaves-fail, leaves-from}
 use Rattle.erased.proofs.Telling.{told, truth-is}

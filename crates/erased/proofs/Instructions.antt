@@ -28,12 +28,12 @@ use Rattle.safety.specs.Layout.{HoldsIn}
 use Rattle.rules.specs.declared.tables.Table.{Table}
 use Rattle.cells.specs.Stack.{Leaves}
 use Rattle.cells.proofs.Singles.{put-number}
-use Rattle.steps.specs.declared.Truth.{Truth}
-use Rattle.steps.specs.Reached.{Lent, lent, Settles, Tells}
-use Rattle.stores.specs.Memory.{Admits}
-use Rattle.stores.proofs.Readings.{in-range}
-use Rattle.stores.proofs.Settling.{keeps, stores-as, settles-as}
-use Rattle.stores.proofs.Storing.{cells-kept, words-changed}
+use Rattle.run.specs.declared.steps.Truth.{Truth}
+use Rattle.run.specs.Reached.{Lent, lent, Settles, Tells}
+use Rattle.run.specs.Memory.{Admits}
+use Rattle.run.proofs.Readings.{in-range}
+use Rattle.run.proofs.Settling.{keeps, stores-as, settles-as}
+use Rattle.run.proofs.Storing.{cells-kept, words-changed}
 use Rattle.erased.specs.Meaning.{Passed, PassedYoke, ReadyPlain, EvaluatesPlain, Running, AssignRow, YokeRow, Tests, TestRow, HasChange, AdmitsYoke, ValueFor}
 use Rattle.erased.proofs.Keeping.{yoke-running}
 use Rattle.erased.proofs.Passing.{sizes}

@@ -20,8 +20,8 @@ use Rattle.safety.specs.Programs.{YokesDerived, variables-fit, assigned-yokes, 
 use Rattle.safety.specs.Stored.{StoreKept, replaced, assigned-kept, changed-kept}
 use Rattle.profile.specs.Yokes.{YokeOf}
 use Rattle.rules.specs.declared.tables.Table.{Table}
-use Rattle.steps.specs.Reached.{lent}
-use Rattle.stores.proofs.Storing.{limits-kept, yokes-kept}
+use Rattle.run.specs.Reached.{lent}
+use Rattle.run.proofs.Storing.{limits-kept, yokes-kept}
 use Rattle.erased.specs.Meaning.{Running}
 
 module _ {rows : List ℕ} {t : Table} {layout : List ℕ} {limits cells : List ℤ} {states : List ℕ} {vs : List Variable} (h : Running rows t layout limits (lent cells states) vs) (n : ℕ) (lt : n < length vs) where

@@ -21,11 +21,11 @@ use Rattle.safety.specs.ErasedSteps.{yokeErased, yokeHoldsErased}
 use Rattle.rules.specs.declared.tables.Table.{Table}
 use Rattle.cells.specs.Stack.{Leaves}
 use Rattle.cells.proofs.Operands.{lies-as}
-use Rattle.steps.specs.declared.Truth.{Truth}
-use Rattle.steps.specs.Reached.{Tells}
-use Rattle.stores.specs.Memory.{Admits}
-use Rattle.stores.proofs.Admitting.{admits-error, admits-ok}
-use Rattle.stores.proofs.Parts.{unfilled-is, filled-is, filled, part-lies}
+use Rattle.run.specs.declared.steps.Truth.{Truth}
+use Rattle.run.specs.Reached.{Tells}
+use Rattle.run.specs.Memory.{Admits}
+use Rattle.run.proofs.Admitting.{admits-error, admits-ok}
+use Rattle.run.proofs.Parts.{unfilled-is, filled-is, filled, part-lies}
 use Rattle.erased.specs.Meaning.{World, Current, ReadyYoke, EvaluatesYoke, AdmitsValue, HasChange, AdmitsYoke}
 use Rattle.erased.proofs.Cycle.{memory-of}
 use Rattle.erased.proofs.Telling.{told}

@@ -21,9 +21,9 @@ use Rattle.profile.specs.Row.{constantOf}
 use Rattle.cells.specs.Stack.{Lies, Leaves}
 use Rattle.cells.proofs.Operands.{lies-long}
 use Rattle.cells.proofs.Singles.{put-cell}
-use Rattle.stores.specs.Memory.{Memory}
-use Rattle.stores.proofs.Copying.{copied-lies}
-use Rattle.stores.proofs.Parts.{cells-room, unfilled-is, filled-is, filled, content-at}
+use Rattle.run.specs.Memory.{Memory}
+use Rattle.run.proofs.Copying.{copied-lies}
+use Rattle.run.proofs.Parts.{cells-room, unfilled-is, filled-is, filled, content-at}
 use Rattle.erased.specs.Meaning.{Current}
 use Rattle.erased.proofs.Leaving.{leaves-ok, leaves-fail}
 

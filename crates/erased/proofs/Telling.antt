@@ -13,8 +13,8 @@ use Rattle.lingua.specs.Value.{Value, Fits, fit-truth, truth, asTruth, allOf}
 use Rattle.cells.specs.Stack.{Lies, Leaves}
 use Rattle.cells.proofs.Singles.{truth-zero, truth-other}
 use Rattle.cells.proofs.Walking.{more, answers-snoc, all-snoc}
-use Rattle.steps.specs.declared.Truth.{Truth}
-use Rattle.steps.specs.Reached.{Tells}
+use Rattle.run.specs.declared.steps.Truth.{Truth}
+use Rattle.run.specs.Reached.{Tells}
 use Rattle.erased.specs.Meaning.{allTold}
 use Rattle.erased.proofs.Leaving.{leaves-ok, leaves-fail}
 

@@ -19,8 +19,8 @@ use Rattle.cells.specs.Stack.{Lies, Leaves}
 use Rattle.cells.proofs.Elements.{list-size}
 use Rattle.cells.proofs.Operands.{leaves-as}
 use Rattle.cells.proofs.Walking.{counted, Walked, counted-elements, some-cell, walks, elementAt, element-lies, gathered-more, gathered-all}
-use Rattle.steps.specs.declared.Truth.{Truth}
-use Rattle.steps.specs.Reached.{Tells}
+use Rattle.run.specs.declared.steps.Truth.{Truth}
+use Rattle.run.specs.Reached.{Tells}
 use Rattle.erased.specs.Meaning.{World, Current, Passed, Ready, Evaluates, allTold}
 use Rattle.erased.proofs.Leaving.{leaves-from}
 use Rattle.erased.proofs.Passing.{all-passed}

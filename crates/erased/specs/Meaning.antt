@@ -33,8 +33,8 @@ use Rattle.profile.specs.Yokes.{YokeOf}
 use Rattle.rules.specs.Tables.{IsTable}
 use Rattle.rules.specs.declared.tables.Table.{Table}
 use Rattle.cells.specs.Stack.{Lies, Leaves, first-place}
-use Rattle.stores.specs.Memory.{Memory, Admits}
-use Rattle.steps.specs.Reached.{Lent}
+use Rattle.run.specs.Memory.{Memory, Admits}
+use Rattle.run.specs.Reached.{Lent}
 
 -- accepted rows with their table, a layout table, and the caller's memory, which holds a store of the declared variables
 pub record World (rows : List ℕ) (t : Table) (layout : List ℕ) (cells : List ℤ) (states : List ℕ) (ds : List Declaration) (vs : List Variable) : Type 0 where

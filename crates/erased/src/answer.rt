@@ -1,13 +1,13 @@
 // Booleans on the stack. What evaluation gives is an error number, and a value at the stack's front where it is 0.
 use lingua::errors::NO_ERROR;
-use steps::Truth;
+use run::steps::Truth;
 ghost use Prim.Native.Nat.{_<_};
 ghost use lib.ListN.{length};
 ghost use Rattle.lingua.specs.Outcome.{ok, Result, _>>=_ as bind};
 ghost use Rattle.lingua.specs.Body.{boolean};
 ghost use Rattle.lingua.specs.Value.{Value, truth, asTruth};
 ghost use Rattle.cells.specs.Stack.{Lies, Leaves, first-place};
-ghost use Rattle.steps.specs.Reached.{Tells};
+ghost use Rattle.run.specs.Reached.{Tells};
 
 // A Boolean, put on the stack.
 pub fn put_truth(holds: bool, stack: &mut [i64])

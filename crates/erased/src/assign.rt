@@ -13,7 +13,7 @@ ghost use Rattle.lingua.specs.Rows.{pairCount};
 ghost use Rattle.lingua.specs.Evaluation.{eval as meaning, no-current};
 ghost use Rattle.lingua.specs.Store.{Variable, contents, assigned};
 ghost use Rattle.lingua.specs.Trees.{expressionTree};
-ghost use Rattle.steps.specs.Reached.{lent, Settles};
+ghost use Rattle.run.specs.Reached.{lent, Settles};
 ghost use Rattle.erased.specs.Meaning.{Running, HasRunning, AssignRow};
 
 pub fn assign(

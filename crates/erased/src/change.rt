@@ -9,7 +9,7 @@ ghost use Rattle.lingua.specs.Numbers.{body-cells, declaration-section};
 ghost use Rattle.lingua.specs.Rows.{pairCount};
 ghost use Rattle.lingua.specs.Store.{Variable, yokeChanged};
 ghost use Rattle.lingua.specs.Trees.{yokeTree};
-ghost use Rattle.steps.specs.Reached.{lent, Settles};
+ghost use Rattle.run.specs.Reached.{lent, Settles};
 ghost use Rattle.erased.specs.Meaning.{Running, HasRunning, YokeRow};
 
 pub fn change_yoke(

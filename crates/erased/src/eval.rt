@@ -14,7 +14,7 @@ use lingua::sizes::BODY_CELLS;
 use profile::row::ExpressionRow;
 use profile::row::expression_row;
 use rules::tables::Table;
-use steps::Truth;
+use run::steps::Truth;
 ghost use Prim.Native.Nat.{_+_, _*_, _<_, _≤_};
 ghost use lib.ListN.{length};
 ghost use Rattle.lingua.specs.Numbers.{body-cells};

@@ -5,7 +5,7 @@ use lingua::errors::NOT_FILLED;
 use lingua::sizes::BODY_CELLS;
 use profile::constants::constant_cell;
 use rules::tables::Table;
-use stores::copies::copy;
+use run::copies::copy;
 ghost use mathlib.Core.Path.{_≡_};
 ghost use mathlib.Core.List.{List};
 ghost use Prim.Native.Nat.{_+_, _*_, _<_, _≤_};
@@ -22,7 +22,7 @@ ghost use Rattle.rules.specs.Tables.{IsTable};
 ghost use Rattle.profile.specs.Row.{constantOf};
 ghost use Rattle.profile.specs.Constants.{ConstantRow};
 ghost use Rattle.cells.specs.Stack.{Leaves};
-ghost use Rattle.stores.specs.Memory.{Memory};
+ghost use Rattle.run.specs.Memory.{Memory};
 ghost use Rattle.erased.specs.Meaning.{Current, HasCurrent, HasVariable};
 
 // A constant takes one cell.

@@ -65,5 +65,5 @@ pub fn binary(
     let size = size_at(layout, a);
     let others = size_at(layout, b);
     let place = second_at(layout, row);
-    values::binary(o, stack, size, others, place)
+    cells::apply::binary(o, stack, size, others, place)
 }

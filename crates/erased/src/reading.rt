@@ -4,7 +4,7 @@ use lingua::errors::OVERFLOW;
 use lingua::sizes::HIGHEST_NUMBER;
 use lingua::sizes::LOWEST_NUMBER;
 use rules::tables::Table;
-use stores::limits::between;
+use run::limits::between;
 ghost use mathlib.Core.Path.{_≡_};
 ghost use mathlib.Core.Bool.{true};
 ghost use mathlib.Core.List.{List};
@@ -14,8 +14,8 @@ ghost use Rattle.lingua.specs.Numbers.{body-cells, declaration-section};
 ghost use Rattle.lingua.specs.Rows.{pairCount};
 ghost use Rattle.lingua.specs.Refusal.{isNumberVariable};
 ghost use Rattle.lingua.specs.Store.{Variable, readingTaken};
-ghost use Rattle.steps.specs.Reached.{lent, Settles};
-ghost use Rattle.stores.specs.Memory.{reading};
+ghost use Rattle.run.specs.Reached.{lent, Settles};
+ghost use Rattle.run.specs.Memory.{reading};
 ghost use Rattle.erased.specs.Meaning.{Running, HasRunning};
 
 pub fn take_reading(

@@ -3,7 +3,7 @@
 use crate::answer::put_truth;
 use crate::answer::truth_of;
 use lingua::errors::NO_ERROR;
-use steps::Truth;
+use run::steps::Truth;
 ghost use mathlib.Core.List.{List, [], _∷_, _++_};
 ghost use Prim.Native.Nat.{_<_};
 ghost use lib.ListN.{length};
@@ -11,7 +11,7 @@ ghost use Rattle.lingua.specs.Outcome.{ok, Result, _>>=_ as bind};
 ghost use Rattle.lingua.specs.Body.{boolean};
 ghost use Rattle.lingua.specs.Value.{Value, truth};
 ghost use Rattle.cells.specs.Stack.{Leaves};
-ghost use Rattle.steps.specs.Reached.{Tells};
+ghost use Rattle.run.specs.Reached.{Tells};
 ghost use Rattle.erased.specs.Meaning.{allTold};
 
 // One result more.

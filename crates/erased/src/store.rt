@@ -3,9 +3,9 @@ use crate::holds::satisfies;
 use lingua::errors::NO_ERROR;
 use lingua::errors::YOKE_NOT_SATISFIED;
 use rules::tables::Table;
-use stores::copies::copy;
-use stores::limits::in_limits;
-use stores::part::put;
+use run::copies::copy;
+use run::limits::in_limits;
+use run::part::put;
 ghost use mathlib.Core.List.{List};
 ghost use Prim.Native.Nat.{ℕ, _+_, _*_, _<_, _≤_};
 ghost use lib.ListN.{length};
@@ -13,7 +13,7 @@ ghost use Rattle.lingua.specs.Numbers.{body-cells};
 ghost use Rattle.lingua.specs.Value.{Composite};
 ghost use Rattle.lingua.specs.Store.{Variable, assigned};
 ghost use Rattle.rules.specs.declared.tables.Table.{Table};
-ghost use Rattle.steps.specs.Reached.{lent, Settles};
+ghost use Rattle.run.specs.Reached.{lent, Settles};
 ghost use Rattle.erased.specs.Meaning.{Running, ValueFor, Storable, StoreRoom, Satisfies};
 
 // A value that satisfies its yoke. Only numbers have limits, so its first cell is asked.

@@ -2,7 +2,7 @@
 use crate::answer::truth_of;
 use crate::yoke::eval_plain;
 use rules::tables::Table;
-use steps::Truth;
+use run::steps::Truth;
 ghost use mathlib.Core.List.{List};
 ghost use Prim.Native.Nat.{_+_, _*_, _<_, _≤_};
 ghost use lib.IntN.{ℤ};
@@ -11,7 +11,7 @@ ghost use Rattle.lingua.specs.Numbers.{body-cells};
 ghost use Rattle.lingua.specs.Store.{Variable, contents};
 ghost use Rattle.lingua.specs.Evaluation.{evalTest};
 ghost use Rattle.lingua.specs.Trees.{expressionTree};
-ghost use Rattle.steps.specs.Reached.{lent, Tells};
+ghost use Rattle.run.specs.Reached.{lent, Tells};
 ghost use Rattle.erased.specs.Meaning.{Running, HasStore, TestRow};
 
 pub fn test(

@@ -18,7 +18,7 @@ use Rattle.laws.specs.Outcomes.{is-boolean}
 use Rattle.body.specs.Encode.{Holds, Held}
 use Rattle.typecheck.specs.declared.leaves.Checked.{Checked}
 use Rattle.body.specs.declared.typed.Typed.{Typed as Half-typed}
-use Rattle.halves.specs.Half.{Half-passes, Half-fails, Half}
+use Rattle.body.specs.Half.{Half-passes, Half-fails, Half}
 use Rattle.typecheck.specs.Check.{Noted, Passes, Gives}
 
 -- ---- outcomes

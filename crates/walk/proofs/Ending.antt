@@ -18,9 +18,9 @@ use Rattle.safety.specs.Steps.{run-left}
 use Rattle.profile.specs.Accepted.{counts}
 use Rattle.rules.specs.declared.tables.Table.{Table}
 use Rattle.rules.specs.Tables.{IsTable}
-use Rattle.steps.specs.Moments.{stateOf, progressOf}
-use Rattle.steps.specs.declared.Moment.{Moment}
-use Rattle.steps.specs.Reached.{Lent, Going, Reached}
+use Rattle.run.specs.Moments.{stateOf, progressOf}
+use Rattle.run.specs.declared.steps.Moment.{Moment}
+use Rattle.run.specs.Reached.{Lent, Going, Reached}
 use Rattle.walk.specs.declared.way.Way.{Way}
 use Rattle.walk.specs.declared.way.Way.the-variants as way
 use Rattle.walk.specs.Meaning.{Context, HoldsBy, Holds, Standing, Asked, Executes, TakesAll, Begins, Runs}

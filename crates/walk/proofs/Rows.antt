@@ -21,10 +21,10 @@ use Rattle.profile.specs.declared.row.InstructionRow.{InstructionRow}
 use Rattle.profile.specs.declared.row.InstructionRow.the-variants as does
 use Rattle.profile.specs.Row.{instructionMeaning}
 use Rattle.profile.specs.Facts.{InstructionFacts, instruction-facts, instructionRowTree, instruction-row-tree}
-use Rattle.steps.specs.declared.Moment.{Moment}
-use Rattle.steps.specs.Moments.{stateOf}
-use Rattle.steps.specs.Reached.{Lent, Going, Reached}
-use Rattle.steps.specs.Acting.{reaches-as}
+use Rattle.run.specs.declared.steps.Moment.{Moment}
+use Rattle.run.specs.Moments.{stateOf}
+use Rattle.run.specs.Reached.{Lent, Going, Reached}
+use Rattle.run.specs.Acting.{reaches-as}
 use Rattle.erased.specs.Meaning.{AssignRow, YokeRow, Tests, TestRow}
 use Rattle.walk.specs.declared.way.Way.{Way}
 use Rattle.walk.specs.declared.way.Way.the-variants as way

@@ -17,11 +17,11 @@ use Rattle.lingua.specs.Run.{State, going, lastState, settled, takenUnless, tak
 use Rattle.lingua.specs.Refusal.{isNumberVariable, readingWrong}
 use Rattle.lingua.specs.Calls.{readingsOf}
 use Rattle.laws.specs.Outcomes.{false-is-true, and-left, and-right}
-use Rattle.steps.specs.Moments.{stateOf, progressOf, recorded}
-use Rattle.steps.specs.declared.Moment.{Moment}
-use Rattle.steps.specs.Reached.{Lent, Going, Reached}
-use Rattle.steps.specs.Acting.{settles}
-use Rattle.stores.specs.Memory.{reading}
+use Rattle.run.specs.Moments.{stateOf, progressOf, recorded}
+use Rattle.run.specs.declared.steps.Moment.{Moment}
+use Rattle.run.specs.Reached.{Lent, Going, Reached}
+use Rattle.run.specs.Acting.{settles}
+use Rattle.run.specs.Memory.{reading}
 use Rattle.walk.specs.declared.way.Way.{Way}
 use Rattle.walk.specs.Meaning.{Context, Holds, Standing, Stores, Readable, Takes, TakesAll}
 

@@ -7,9 +7,9 @@ use Rattle.lingua.specs.Outcome.{Result}
 use Rattle.lingua.specs.Store.{Variable, contents, readingTaken}
 use Rattle.lingua.specs.Evaluation.{evalTest}
 use Rattle.lingua.specs.Trees.{expressionTree}
-use Rattle.steps.specs.declared.Truth.{Truth}
-use Rattle.steps.specs.Reached.{Lent, Holding, Settles, Tells}
-use Rattle.stores.specs.Memory.{reading}
+use Rattle.run.specs.declared.steps.Truth.{Truth}
+use Rattle.run.specs.Reached.{Lent, Holding, Settles, Tells}
+use Rattle.run.specs.Memory.{reading}
 use Rattle.checked.specs.Meaning.{Running as CheckedRunning}
 use Rattle.erased.specs.Meaning.{Running as ErasedRunning, HasRunning as ErasedHas, HasStore}
 use Rattle.walk.specs.declared.way.Way.{Way}

@@ -21,10 +21,10 @@ use Rattle.rules.specs.declared.tables.Table.{Table}
 use Rattle.profile.specs.declared.row.InstructionRow.{InstructionRow}
 use Rattle.profile.specs.declared.row.InstructionRow.the-variants as does
 use Rattle.profile.specs.Row.{instructionMeaning}
-use Rattle.steps.specs.declared.Moment.{Moment}
-use Rattle.steps.specs.declared.Truth.{Truth}
-use Rattle.steps.specs.Moments.{stateOf}
-use Rattle.steps.specs.Reached.{Lent, Holding, Going, Reached, Settles, Tells}
+use Rattle.run.specs.declared.steps.Moment.{Moment}
+use Rattle.run.specs.declared.steps.Truth.{Truth}
+use Rattle.run.specs.Moments.{stateOf}
+use Rattle.run.specs.Reached.{Lent, Holding, Going, Reached, Settles, Tells}
 use Rattle.checked.specs.Meaning.{Running as CheckedRunning}
 use Rattle.erased.specs.Meaning.{Running as ErasedRunning}
 use Rattle.walk.specs.declared.way.Way.{Way}

@@ -8,14 +8,14 @@ use lingua::errors::NO_ERROR;
 use profile::row::InstructionRow;
 use profile::row::instruction_row;
 use rules::tables::Table;
-use steps::Moment;
-use steps::cleared;
-use steps::settled;
-use steps::stepped;
+use run::steps::Moment;
+use run::steps::cleared;
+use run::steps::settled;
+use run::steps::stepped;
 ghost use Prim.Native.Nat.{ℕ};
 ghost use lib.ListN.{length};
 ghost use Rattle.lingua.specs.Expression.{skip as skipTree};
-ghost use Rattle.steps.specs.Reached.{lent, Going, Passes};
+ghost use Rattle.run.specs.Reached.{lent, Going, Passes};
 ghost use Rattle.walk.specs.Meaning.{context, Asked, AssignAt, SetYokeAt, BranchAt, LoopAt, HandleAt, Executes};
 
 fn skip(m: Moment) -> Moment

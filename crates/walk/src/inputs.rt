@@ -4,8 +4,8 @@ use crate::way::Way;
 use lingua::errors::NO_ERROR;
 use lingua::sizes::READING_PLACE;
 use rules::tables::Table;
-use steps::Moment;
-use steps::settled;
+use run::steps::Moment;
+use run::steps::settled;
 ghost use mathlib.Core.Path.{_≡_};
 ghost use mathlib.Core.Bool.{true};
 ghost use Prim.Native.Nat.{_<_};
@@ -14,7 +14,7 @@ ghost use Rattle.lingua.specs.Numbers.{declaration-section};
 ghost use Rattle.lingua.specs.Rows.{pairCount};
 ghost use Rattle.lingua.specs.Refusal.{isNumberVariable};
 ghost use Rattle.lingua.specs.Calls.{readingsOf};
-ghost use Rattle.steps.specs.Reached.{lent, Going};
+ghost use Rattle.run.specs.Reached.{lent, Going};
 ghost use Rattle.walk.specs.Meaning.{context, Standing, Readable, Takes, TakesAll};
 
 // One input: its error is recorded with its place.

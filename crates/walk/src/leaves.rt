@@ -1,7 +1,7 @@
 // What differs between the two ways to run: how a value is stored, a yoke changed, a test asked and a reading taken.
 use crate::way::Way;
 use rules::tables::Table;
-use steps::Truth;
+use run::steps::Truth;
 ghost use mathlib.Core.Path.{_≡_};
 ghost use mathlib.Core.Bool.{true};
 ghost use mathlib.Core.List.{List};
@@ -15,8 +15,8 @@ ghost use Rattle.lingua.specs.Refusal.{isNumberVariable};
 ghost use Rattle.lingua.specs.Evaluation.{eval as meaning, no-current};
 ghost use Rattle.lingua.specs.Store.{contents, assigned, yokeChanged, readingTaken};
 ghost use Rattle.lingua.specs.Trees.{expressionTree, yokeTree};
-ghost use Rattle.steps.specs.Reached.{lent};
-ghost use Rattle.stores.specs.Memory.{reading};
+ghost use Rattle.run.specs.Reached.{lent};
+ghost use Rattle.run.specs.Memory.{reading};
 ghost use Rattle.erased.specs.Meaning.{AssignRow, YokeRow, TestRow};
 ghost use Rattle.walk.specs.Meaning.{context, Standing, StandsUnder, Stores, TellsTest};
 

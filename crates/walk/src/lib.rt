@@ -2,5 +2,5 @@
 mod exec; // exec.rt: instructions, by their rows
 mod inputs; // inputs.rt: the readings, before the program's first step
 mod leaves; // leaves.rt: what differs between the two ways to run
-pub mod run; // run.rt: a whole run on begun memory
+pub mod whole; // whole.rt: a whole run on begun memory
 pub mod way; // way.rt: the two ways

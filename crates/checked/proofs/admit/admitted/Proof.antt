@@ -7,7 +7,7 @@ use borrow.Author.Tests.{not-true, not-false}
 use Rattle.cells.proofs.Moves.{cell-back}
 use Rattle.lingua.specs.Store.{variableAt, within}
 use Rattle.checked.proofs.Giving.{gives-as}
-use Rattle.stores.proofs.Parts.{word-room}
+use Rattle.run.proofs.Parts.{word-room}
 use Rattle.checked.proofs.Storing.{memory-of, declared-held}
 use Rattle.checked.proofs.Admitting.{yoke-there, own-yoke, yoke-error, other-body, no-truth, not-satisfied, out-of-limits, passes}
 use borrow.Author.Needs.{needs}

@@ -5,8 +5,8 @@ use native.Mathlib.Omega.{arith}
 use lib.IntN.{ℤ}
 use lib.ListN.{length}
 use lib.Seq.{length-take-le}
-use Rattle.stores.proofs.Parts.{states-room, cells-room}
-use Rattle.stores.proofs.Settling.{keeps}
+use Rattle.run.proofs.Parts.{states-room, cells-room}
+use Rattle.run.proofs.Settling.{keeps}
 use Rattle.checked.proofs.Storing.{memory-of}
 use Rattle.checked.proofs.Assigning.{front-current, operand-error, not-admitted, stores}
 use borrow.Author.Needs.{needs}

@@ -1,6 +1,6 @@
 -- `change_yoke` meets its contract, by `not-changed` and `changed`. Assumes nothing.
 use native.Mathlib.Omega.{arith}
-use Rattle.stores.proofs.Parts.{word-room}
+use Rattle.run.proofs.Parts.{word-room}
 use Rattle.checked.proofs.Storing.{memory-of}
 use Rattle.checked.proofs.Changing.{not-changed, changed}
 use borrow.Author.Needs.{needs}

@@ -1,7 +1,7 @@
 -- `yoke_holds` meets its contract: one law of Yoking.antt for each way that it ends. Assumes nothing.
 use native.Mathlib.Omega.{arith}
 use borrow.Author.Tests.{not-true, not-false}
-use Rattle.stores.proofs.Parts.{states-room, cells-room}
+use Rattle.run.proofs.Parts.{states-room, cells-room}
 use Rattle.checked.proofs.Storing.{memory-of}
 use Rattle.checked.proofs.Yoking.{fetched, none-holds, holds-error, holds-not, holds-true}
 use borrow.Author.Needs.{needs}

@@ -2,7 +2,7 @@
 use mathlib.Core.Path.{refl}
 use native.Mathlib.Omega.{arith}
 use Rattle.checked.proofs.Giving.{gives-error}
-use Rattle.stores.proofs.Parts.{states-room, cells-room}
+use Rattle.run.proofs.Parts.{states-room, cells-room}
 use Rattle.checked.proofs.Storing.{memory-of, declared-held, not-filled-is, gives-variable}
 use borrow.Author.Needs.{needs}
 use Rattle.checked.proofs.leaves.fetch.Statement.{statement}

@@ -5,9 +5,9 @@ use lib.ListN.{length-set}
 use mir.ValLaws.{toZ-ofZ}
 use borrow.Author.Tests.{not-true, not-false}
 use Rattle.lingua.specs.Numbers.{lowest-number, highest-number}
-use Rattle.stores.proofs.Limiting.{between-as}
-use Rattle.stores.proofs.Readings.{out-of-range, taken-is}
-use Rattle.stores.proofs.Settling.{keeps, settles-as}
+use Rattle.run.proofs.Limiting.{between-as}
+use Rattle.run.proofs.Readings.{out-of-range, taken-is}
+use Rattle.run.proofs.Settling.{keeps, settles-as}
 use Rattle.checked.proofs.Readings.{puts-number}
 use borrow.Author.Needs.{needs}
 use Rattle.checked.proofs.reading.take_reading.Statement.{statement}

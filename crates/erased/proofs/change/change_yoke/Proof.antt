@@ -1,6 +1,6 @@
 -- `change_yoke` meets its contract, by `not-changed` and `changed`. Assumes nothing.
 use native.Mathlib.Omega.{arith}
-use Rattle.stores.proofs.Parts.{word-room}
+use Rattle.run.proofs.Parts.{word-room}
 use Rattle.erased.proofs.Cycle.{memory-of}
 use Rattle.erased.proofs.Instructions.{change-ready, not-changed, changed}
 use borrow.Author.Needs.{needs}

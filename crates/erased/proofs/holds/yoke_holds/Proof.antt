@@ -1,5 +1,5 @@
 -- `yoke_holds` meets its contract, by `none-admits` and `part-admits`. Assumes nothing.
-use Rattle.stores.proofs.Parts.{states-room, cells-room}
+use Rattle.run.proofs.Parts.{states-room, cells-room}
 use Rattle.erased.proofs.Cycle.{memory-of}
 use Rattle.erased.proofs.Satisfying.{none-admits, part-ready, part-admits}
 use borrow.Author.Needs.{needs}

@@ -1,7 +1,7 @@
 -- `fetch` meets its contract, by `leaves-empty` and `leaves-filled`. Assumes nothing.
 use mathlib.Core.Path.{_∙_}
 use native.Mathlib.Omega.{arith}
-use Rattle.stores.proofs.Parts.{states-room, cells-room}
+use Rattle.run.proofs.Parts.{states-room, cells-room}
 use Rattle.erased.proofs.Storing.{leaves-empty, leaves-filled}
 use borrow.Author.Needs.{needs}
 use Rattle.erased.proofs.leaves.fetch.Statement.{statement}

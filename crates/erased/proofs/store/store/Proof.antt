@@ -1,8 +1,8 @@
 -- `store` meets its contract: by that of `store_within`, on the stack or on the copy, or with the yoke's error. Assumes nothing.
 use Prim.Native.Nat.{_+_, _*_}
 use native.Mathlib.Omega.{arith}
-use Rattle.stores.proofs.Parts.{word-room}
-use Rattle.stores.proofs.Settling.{keeps}
+use Rattle.run.proofs.Parts.{word-room}
+use Rattle.run.proofs.Settling.{keeps}
 use Rattle.erased.proofs.Cycle.{memory-of}
 use Rattle.erased.proofs.Assigning.{yoke-there, always-satisfied, value-narrow, value-ready, value-copied, own-admits, yoke-fails, room}
 use borrow.Author.Needs.{needs}

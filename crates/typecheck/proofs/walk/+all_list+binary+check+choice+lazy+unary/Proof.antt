@@ -40,8 +40,8 @@ use Rattle.profile.proofs.constants.constant_body.Reads as constant-body-reads
 use Rattle.typecheck.proofs.leaves.fault.Reads as fault-reads
 use Rattle.body.proofs.unary.is_boolean.Reads as is-boolean-reads
 use Rattle.typecheck.proofs.leaves.noted.Reads as noted-reads
-use Rattle.halves.proofs.binary_half.Reads as binary-half-reads
-use Rattle.halves.proofs.unary_half.Reads as unary-half-reads
+use Rattle.body.proofs.operation.binary_half.Reads as binary-half-reads
+use Rattle.body.proofs.operation.unary_half.Reads as unary-half-reads
 use Rattle.typecheck.proofs.leaves.variable_body.Reads as variable-body-reads
 use Rattle.typecheck.proofs.walk.+all_list+binary+check+choice+lazy+unary.{statement}
 use Rattle.typecheck.proofs.walk.+all_list+binary+check+choice+lazy+unary.Tie.{close}

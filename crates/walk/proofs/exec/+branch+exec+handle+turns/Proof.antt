@@ -12,10 +12,10 @@ use Rattle.lingua.specs.Expression.{loop}
 use Rattle.lingua.specs.Trees.{expressionTree, instructionTree}
 use Rattle.lingua.specs.Run.{exec as meaning}
 use Rattle.profile.specs.Facts.{InstructionFacts, instructionRowTree}
-use Rattle.steps.specs.Moments.{stateOf}
-use Rattle.steps.specs.Reached.{lent}
-use Rattle.steps.specs.Acting.{going-after, stays, reaches-as}
-use Rattle.steps.specs.Instructing.{sequence-out, sequence-on, branch-passed, branch-out, branch-failed, branch-yes, branch-no, handle-out, handle-other, handle-own, cleared-going, Turning, first-turn, turns-over, turn-out, turn-failed, turn-last, body-out, fewer-left, next-turn}
+use Rattle.run.specs.Moments.{stateOf}
+use Rattle.run.specs.Reached.{lent}
+use Rattle.run.specs.Acting.{going-after, stays, reaches-as}
+use Rattle.run.specs.Instructing.{sequence-out, sequence-on, branch-passed, branch-out, branch-failed, branch-yes, branch-no, handle-out, handle-other, handle-own, cleared-going, Turning, first-turn, turns-over, turn-out, turn-failed, turn-last, body-out, fewer-left, next-turn}
 use Rattle.walk.specs.Meaning.{context, Holds}
 use Rattle.walk.proofs.Rows.{meant-as, narrow, facts, executes, branch-test, loop-test, part, onward-asked}
 use Prim.Native.Nat.{ℕ, _<_}
@@ -34,9 +34,9 @@ use Rattle.walk.proofs.exec.turns.Reads as turns
 use Rattle.walk.proofs.exec.turns.Kinds as turns-kinds
 use Rattle.walk.proofs.exec.+branch+exec+handle+turns.Lts-turns as turns-lts
 use Rattle.profile.proofs.row.instruction_row.Reads as instruction-row-reads
-use Rattle.steps.proofs.cleared.Reads as cleared-reads
-use Rattle.steps.proofs.settled.Reads as settled-reads
-use Rattle.steps.proofs.stepped.Reads as stepped-reads
+use Rattle.run.proofs.steps.cleared.Reads as cleared-reads
+use Rattle.run.proofs.steps.settled.Reads as settled-reads
+use Rattle.run.proofs.steps.stepped.Reads as stepped-reads
 use Rattle.walk.proofs.exec.assignment.Reads as assignment-reads
 use Rattle.walk.proofs.exec.skip.Reads as skip-reads
 use Rattle.walk.proofs.exec.yoke_change.Reads as yoke-change-reads

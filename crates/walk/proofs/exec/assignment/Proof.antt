@@ -1,6 +1,6 @@
 -- `walk::exec::assignment` meets its contract: passed over, out, or settled. Assumes nothing.
 use Rattle.profile.specs.Facts.{instructionRowTree}
-use Rattle.steps.specs.Instructing.{assign-passed, assign-out, assign-settled}
+use Rattle.run.specs.Instructing.{assign-passed, assign-out, assign-settled}
 use Rattle.walk.proofs.Rows.{narrow, executes, assign-row}
 use borrow.Author.Needs.{needs}
 use Rattle.walk.proofs.exec.assignment.Statement.{statement}

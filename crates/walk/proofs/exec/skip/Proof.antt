@@ -1,5 +1,5 @@
 -- `walk::skip` takes its step, unless an error is recorded. Assumes nothing.
-use Rattle.steps.specs.Acting.{skip-passed, skip-stepped}
+use Rattle.run.specs.Acting.{skip-passed, skip-stepped}
 use borrow.Author.Needs.{needs}
 use Rattle.walk.proofs.exec.skip.Statement.{statement}
 use Rattle.walk.proofs.exec.skip.Tie as tie

@@ -1,7 +1,7 @@
 -- `walk::exec::yoke_change` meets its contract: passed over, out, or settled. Assumes nothing.
 use native.Mathlib.Omega.{arith}
 use Rattle.profile.specs.Facts.{instructionRowTree}
-use Rattle.steps.specs.Instructing.{change-passed, change-out, change-settled}
+use Rattle.run.specs.Instructing.{change-passed, change-out, change-settled}
 use Rattle.walk.proofs.Rows.{narrow, executes, yoke-row, few-yokes}
 use borrow.Author.Needs.{needs}
 use Rattle.walk.proofs.exec.yoke_change.Statement.{statement}

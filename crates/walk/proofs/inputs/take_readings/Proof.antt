@@ -6,7 +6,7 @@ use native.Mathlib.Omega.{arith}
 use borrow.Author.Needs.{needs}
 use lib.ListN.{length}
 use Rattle.cells.proofs.Moves.{cell-back}
-use Rattle.steps.specs.Reached.{lent}
+use Rattle.run.specs.Reached.{lent}
 use Rattle.walk.specs.Meaning.{context}
 use Rattle.walk.proofs.Taking.{few-readings, reads-variable, Taking, taking-first, taking-standing, taking-stops, taking-ends, taking-more}
 use Rattle.walk.proofs.inputs.take_readings.Statement.{statement}

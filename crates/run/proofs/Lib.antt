@@ -1,0 +1,11 @@
+pub mod Ending
+pub mod Filling
+pub mod Unfilled
+pub mod Keeping
+pub mod Copying
+pub mod Limiting
+pub mod Parts
+pub mod Storing
+pub mod Admitting
+pub mod Settling
+pub mod Readings

@@ -1,0 +1,127 @@
+-- A variable's part of the caller's memory: its cells, its filled flag and its yoke's number are where the definitions put them. Assumes
+-- nothing.
+use mathlib.Core.Path.{_≡_, refl, sym, ap, _∙_}
+use mathlib.Core.List.{List, [], _∷_}
+use mathlib.Core.Option.{Option, some, none}
+use Prim.Native.Nat.{ℕ, suc, _+_, _-_, _*_, _≤_, _<_}
+use native.Mathlib.Omega.{arith}
+use lib.IntN.{ℤ, pos}
+use lib.ListN.{length, take, drop, getD, replicate, length-append, length-replicate}
+use lib.Seq.{take-at, take-take, getD-take, getD-drop}
+use Rattle.lingua.specs.Numbers.{body-cells, cells-length, states-length, expression-section}
+use Rattle.lingua.specs.Body.{size}
+use Rattle.lingua.specs.Value.{pad, cellsOf, Composite}
+use Rattle.lingua.specs.Expression.{yokeNumber}
+use Rattle.lingua.specs.Rows.{tableCount}
+use Rattle.lingua.specs.Store.{Variable, variableAt, contentCells, filledFlag, storeCells, storeStates, cellsIn, statesIn}
+use Rattle.lingua.specs.Trees.{yokeTree}
+use Rattle.lingua.specs.Typing.{Bodies}
+use Rattle.laws.specs.Lengths.{length-cells}
+use Rattle.laws.specs.Stores.{Small, small-none, small-more, cells-at, states-at}
+use Rattle.safety.specs.Constants.{Fitting}
+use Rattle.safety.specs.TypeSound.{VariablesFit}
+use Rattle.safety.specs.Named.{number-of}
+use Rattle.profile.specs.Yokes.{YokeOf}
+use Rattle.cells.specs.Stack.{Lies}
+use Rattle.run.specs.Memory.{Memory}
+
+pad-long : {A : Type 0} (n : ℕ) (z : A) (xs : List A) → n ≤ length (pad n z xs)
+unfolding pad
+pad-long n z xs = omega (arith, length-append xs (replicate (n - length xs) z), length-replicate (n - length xs) z)
+
+small-by : (vs : List Variable) → ((n : ℕ) → n < length vs → length (contentCells (variableAt vs n .content)) ≤ body-cells) → Small vs
+small-by [] f = small-none
+small-by (v ∷ vs) f = small-more (f 0 (omega arith)) (small-by vs (λ n l. f (suc n) (let k : suc n < length (v ∷ vs) = omega arith in k)))
+
+module _ {cells : List ℤ} {states : List ℕ} {vs : List Variable} {vars : Bodies} (h : Memory cells states vs vars) where
+  -- a filled variable's value has its body and fits
+  pub filled : (n : ℕ) (x : Composite) → variableAt vs n .content ≡ some x → (x .body ≡ vars n) × Fitting x
+  unfolding VariablesFit
+  filled n x q = h .fit n x q
+
+  content-small : (n : ℕ) → n < length vs → length (contentCells (variableAt vs n .content)) ≤ body-cells
+  unfolding contentCells
+  content-small n l = by (variableAt vs n .content) (filled n)
+    where
+      by : (c : Option Composite) → ((x : Composite) → c ≡ some x → (x .body ≡ vars n) × Fitting x) → length (contentCells c) ≤ body-cells
+      by none g = omega arith
+      by (some x) g =
+          let q = g x refl in
+          omega (arith, length-cells (q .1), ap size (q .0), h .small n l)
+
+  pub contents-small : Small vs
+  contents-small = small-by vs content-small
+
+  module _ (n : ℕ) (lt : n < length vs) where
+    -- ---- its room
+    pub cells-room : body-cells * n + body-cells ≤ length cells
+    unfolding cellsIn
+    cells-room = omega (arith, ap (λ (l : List ℤ). length l) (h .cells-are), pad-long cells-length (pos 0) (storeCells vs), h .few, lt)
+
+    pub word-room : 2 * n + 1 < length states
+    unfolding statesIn
+    word-room = omega (arith, ap (λ (l : List ℕ). length l) (h .states-are), pad-long states-length 0 (storeStates vs), h .few, lt)
+
+    pub states-room : 2 * n < length states
+    states-room = omega (arith, word-room)
+
+    -- ---- its two state words
+    flag-is : getD states (2 * n) 0 ≡ filledFlag (variableAt vs n .content)
+    flag-is =
+        ap (λ (l : List ℕ). getD l (2 * n) 0) (h .states-are)
+        ∙ ap (λ (k : ℕ). getD (statesIn vs) k 0) (let e : 2 * n ≡ 2 * n + 0 = omega arith in e)
+        ∙ sym (getD-drop (2 * n) (statesIn vs) 0 0)
+        ∙ sym (getD-take 2 (drop (2 * n) (statesIn vs)) 0 0 (omega arith))
+        ∙ ap (λ (l : List ℕ). getD l 0 0) (states-at vs n lt)
+
+    pub unfilled-is : getD states (2 * n) 0 ≡ 0 → variableAt vs n .content ≡ none
+    unfilled-is e = by (variableAt vs n .content) (sym flag-is ∙ e)
+      where
+        by : (c : Option Composite) → filledFlag c ≡ 0 → c ≡ none
+        by none q = refl
+        by (some x) q = absurd (let k : ⊥ = omega arith in k)
+
+    pub filled-is : (getD states (2 * n) 0 ≡ 0 → ⊥) → (x : Composite) × (variableAt vs n .content ≡ some x)
+    filled-is f = by (variableAt vs n .content) (λ q. f (flag-is ∙ q))
+      where
+        by : (c : Option Composite) → (filledFlag c ≡ 0 → ⊥) → (x : Composite) × (c ≡ some x)
+        by none g = absurd (g refl)
+        by (some x) g = (x, refl)
+
+    word-is : getD states (2 * n + 1) 0 ≡ yokeNumber (variableAt vs n .current)
+    word-is =
+        ap (λ (l : List ℕ). getD l (2 * n + 1) 0) (h .states-are)
+        ∙ sym (getD-drop (2 * n) (statesIn vs) 1 0)
+        ∙ sym (getD-take 2 (drop (2 * n) (statesIn vs)) 1 0 (omega arith))
+        ∙ ap (λ (l : List ℕ). getD l 1 0) (states-at vs n lt)
+
+    module _ {rows : List ℕ} (y : YokeOf rows (variableAt vs n .current)) where
+      yoke-number : getD states (2 * n + 1) 0 ≡ y .number
+      yoke-number = word-is ∙ ap yokeNumber (y .is) ∙ number-of rows (y .number)
+
+      pub yoke-there : getD states (2 * n + 1) 0 ≤ tableCount rows expression-section
+      yoke-there = omega (arith, yoke-number, y .there)
+
+      pub own-yoke : yokeTree rows (getD states (2 * n + 1) 0) ≡ variableAt vs n .current
+      own-yoke = ap (λ (k : ℕ). yokeTree rows k) yoke-number ∙ sym (y .is)
+
+    -- ---- its value
+    pub content-at : (x : Composite) → variableAt vs n .content ≡ some x → take (size (x .body)) (drop (body-cells * n) cells) ≡ cellsOf (x .body) (x .value)
+    unfolding contentCells pad
+    content-at x q =
+        let f = filled n x q in
+        let sm : size (x .body) ≤ body-cells = omega (arith, ap size (f .0), h .small n lt) in
+        ap (λ (l : List ℤ). take (size (x .body)) (drop (body-cells * n) l)) (h .cells-are)
+        ∙ sym (take-take (size (x .body)) body-cells (drop (body-cells * n) (cellsIn vs)) sm)
+        ∙ ap (λ (l : List ℤ). take (size (x .body)) l) (cells-at vs n lt contents-small)
+        ∙ ap (λ (c : Option Composite). take (size (x .body)) (pad body-cells (pos 0) (contentCells c))) q
+        ∙ take-at (cellsOf (x .body) (x .value)) _ (size (x .body)) (length-cells (f .1))
+
+    -- its 64 cells by themselves, as the code takes them
+    pub part-lies : (x : Composite) → variableAt vs n .content ≡ some x → Lies (take (body-cells * n + body-cells - body-cells * n) (drop (body-cells * n) cells)) 0 (x .body) (x .value)
+    part-lies x q = let f = filled n x q in record {
+      cells =
+          take-take (size (x .body)) (body-cells * n + body-cells - body-cells * n) (drop (body-cells * n) cells) (omega (arith, ap size (f .0), h .small n lt))
+          ∙ content-at x q;
+      fit = f .1;
+    }

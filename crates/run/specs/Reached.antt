@@ -1,0 +1,65 @@
+-- Where a run stands in the lent memory, whatever is asked of that memory: `M l vs` says that what is lent, l, holds the store vs. Both runs
+-- have an M of their own. Assumes nothing: these are definitions.
+use mathlib.Core.Path.{_≡_}
+use mathlib.Core.Bool.{Bool, false}
+use mathlib.Core.List.{List}
+use Prim.Native.Nat.{ℕ}
+use lib.IntN.{ℤ}
+use Rattle.lingua.specs.Errors.{no-error}
+use Rattle.lingua.specs.Outcome.{ok, fail, Result}
+use Rattle.lingua.specs.Store.{Variable}
+use Rattle.lingua.specs.Expression.{Instruction}
+use Rattle.lingua.specs.Run.{Progress, exec}
+use Rattle.run.specs.declared.steps.Moment.{Moment}
+use Rattle.run.specs.declared.steps.Truth.{Truth}
+use Rattle.run.specs.Moments.{stateOf, progressOf}
+
+-- everything that a caller lends a run for its registers, as one bundle: the cells and the state words (document 01: marks)
+pub record Lent : Type 0 where
+  pub cells : List ℤ
+  pub states : List ℕ
+
+abbrev pub lent : List ℤ → List ℕ → Lent
+lent cells states = record { cells = cells; states = states }
+
+-- what a run asks of lent memory that holds a store
+abbrev pub Holding : Type 1
+Holding = Lent → List Variable → Type 0
+
+-- a run that goes on; a place is recorded only with an error
+pub record Going (m : Moment) : Type 0 where
+  pub not-out : m .out ≡ false
+  pub clean : m .error ≡ no-error → m .place ≡ 0
+
+-- the run stands where the definition does: the store in memory, and the moment beside it
+pub record Reached (M : Holding) (l : Lent) (m : Moment) (q : Progress) : Type 0 where
+  pub store : List Variable
+  pub is : q ≡ progressOf (m .out) (stateOf m store)
+  pub running : M l store
+  pub clean : m .error ≡ no-error → m .place ≡ 0
+
+-- an instruction that leaves the store as it is
+pub record Passes (m r : Moment) (i : Instruction) : Type 0 where
+  pub is : (vs : List Variable) → exec i (stateOf m vs) ≡ progressOf (r .out) (stateOf r vs)
+  pub clean : r .error ≡ no-error → r .place ≡ 0
+
+-- ---- a store
+-- the new store is the one in memory
+pub record StoredAs (M : Holding) (l : Lent) (p : Result (List Variable)) : Type 0 where
+  pub store : List Variable
+  pub is : p ≡ ok store
+  pub running : M l store
+
+-- the error, and the memory as it was
+pub record Kept (r : ℕ) (l after : Lent) (p : Result (List Variable)) : Type 0 where
+  pub is : p ≡ fail r
+  pub same : after ≡ l
+
+pub record Settles (r : ℕ) (M : Holding) (l after : Lent) (p : Result (List Variable)) : Type 0 where
+  pub answer : r ≡ no-error → StoredAs M after p
+  pub error : (r ≡ no-error → ⊥) → Kept r l after p
+
+-- ---- a test: its value, or its error
+pub record Tells (r : Truth) (o : Result Bool) : Type 0 where
+  pub answer : r .error ≡ no-error → o ≡ ok (r .holds)
+  pub error : (r .error ≡ no-error → ⊥) → o ≡ fail (r .error)

@@ -1,5 +1,0 @@
-pub mod Moments
-pub mod Steps
-pub mod Reached
-pub mod Acting
-pub mod Instructing

@@ -1,0 +1,67 @@
+// A whole run on begun memory: the inputs, then the program, which is the last instruction row.
+use crate::exec::exec;
+use crate::inputs::take_readings;
+use crate::way::Way;
+use lingua::RunAnswer;
+use rules::tables::Tables;
+use run::steps::ended;
+use run::steps::fresh;
+ghost use Rattle.lingua.specs.Calls.{readingsOf};
+ghost use Rattle.rules.specs.Tables.{AreTables};
+ghost use Rattle.run.specs.Reached.{lent};
+ghost use Rattle.walk.specs.Meaning.{context, Begins, Readable, Runs};
+
+// Each level of an expression's tree has 64 cells of the operand stack.
+pub fn run(
+    way: Way,
+    rows: &[u8],
+    tables: Tables,
+    bodies: &[u8],
+    layout: &[u16],
+    limits: &[i64],
+    who: &[u16],
+    numbers: &[i64],
+    budget: u16,
+    cells: &mut [i64],
+    states: &mut [u16],
+) -> RunAnswer
+    requires { ⌜ AreTables (now rows) tables ⌝ }
+    requires { ⌜ Begins way (context (now rows) (tables .expressions) (now bodies) (now layout) (now limits)) (lent (now cells) (now states)) ⌝ }
+    requires { ⌜ Readable (now rows) (now who) (now numbers) ⌝ }
+    ensures { λ r. ⌜ Runs way (context (now (rows .entry)) (tables .expressions) (now (bodies .entry)) (now (layout .entry)) (now (limits .entry))) (lent (now (cells .entry)) (now (states .entry))) (lent (now (cells .exit)) (now (states .exit))) (readingsOf (now (who .entry)) (now (numbers .entry))) budget r ⌝ }
+{
+    let t = tables.expressions;
+    let u = tables.instructions;
+    let mut stack = [0i64; 32832];
+    let first = fresh(budget);
+    let taken = take_readings(
+        way,
+        rows,
+        t,
+        bodies,
+        layout,
+        limits,
+        &mut *cells,
+        &mut *states,
+        who,
+        numbers,
+        first,
+        &mut stack,
+    );
+    let row = u.count - 1;
+    let last = exec(
+        row,
+        way,
+        rows,
+        t,
+        u,
+        bodies,
+        layout,
+        limits,
+        &mut *cells,
+        &mut *states,
+        taken,
+        &mut stack,
+    );
+    ended(last, budget)
+}
