@@ -14,54 +14,43 @@ use Rattle.blocks.proofs.rows.copy_rows.Reads as copy-rows-reads
 use Rattle.blocks.proofs.words.word16_at.Reads as word16-at-reads
 use Rattle.format.proofs.take.Reads as take-reads
 
--- src/lib.rt:46:9
 returns : tie.Need-returns
 returns c =
     read-short (fileMeaning (c .before .before .before .args .kind)) _ _ (c .if1 .taken)
 
--- src/lib.rt:49:34
 slice-aggregate-take : tie.Need-slice-aggregate-take
 slice-aggregate-take c = search needs
 
--- src/lib.rt:49:9
 take-requires : tie.Need-take-requires
 take-requires c κs = search needs
 
--- src/lib.rt:52:9
 returns-2 : tie.Need-returns-2
 returns-2 c =
     read-refused (fileMeaning (c .before .before .before .before .before .before .before .args .kind)) _ _ _ (c .before .before .before .before .if1 .left) (c .before .before .take .ensures .refusal) (c .if2 .taken)
 
--- src/lib.rt:55:15
 array-share-prefix-areas : tie.Need-array-share-prefix-areas
 array-share-prefix-areas c =
     c .before .before .take .ensures .within (c .if2 .left)
 
--- src/lib.rt:55:15
 slice-aggregate-copy-rows : tie.Need-slice-aggregate-copy-rows
 slice-aggregate-copy-rows c =
     sym (length-take-le _ _ (c .before .before .before .take .ensures .within (c .before .if2 .left)))
 
--- src/lib.rt:55:5
 copy-rows-requires : tie.Need-copy-rows-requires
 copy-rows-requires c κs =
     omega (arith, length-take-le (c .before .before .before .before .take .result .length) (c .before .before .before .before .take .last .1 .1 .0) (c .before .before .before .before .take .ensures .within (c .before .before .if2 .left)), taken-length _ _ _ _ (c .before .before .before .before .take .ensures) (c .before .before .if2 .left) .1, c .before .before .before .before .before .before .if1 .left)
 
--- src/lib.rt:57:16
 word16-at-requires : tie.Need-word16-at-requires
 word16-at-requires c κs =
     header-there (fileMeaning (c .before .before .before .before .before .before .before .before .before .before .before .before .args .kind)) _ (none-of-either (fileMeaning (c .before .before .before .before .before .before .before .before .before .before .before .before .args .kind)) _ (sym (c .before .before .before .before .before .if2 .left) ∙ c .before .before .before .before .before .before .before .take .ensures .refusal) .0)
 
--- src/lib.rt:58:16
 cast-t18 : tie.Need-cast-t18
 cast-t18 c =
     record { fits = omega (arith, taken-length _ _ _ _ (c .before .before .before .before .before .before .before .before .take .ensures) (c .before .before .before .before .before .before .if2 .left) .1) }
 
--- src/lib.rt:42:1
 same-length : tie.Need-same-length
 same-length c = search needs
 
--- src/lib.rt:42:1
 returns-3 : tie.Need-returns-3
 unfolding modelOf
 returns-3 c =

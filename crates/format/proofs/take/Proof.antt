@@ -12,35 +12,27 @@ use Rattle.blocks.proofs.rows.gather_rows.Reads as gather-rows-reads
 use Rattle.blocks.proofs.rules.file_refusal.Reads as file-refusal-reads
 use Rattle.rules.proofs.refusal.rows_refusal.Reads as rows-refusal-reads
 
--- src/lib.rt:27:9
 file-refusal-requires : tie.Need-file-refusal-requires
 file-refusal-requires c κs = search needs
 
--- src/lib.rt:29:9
 returns : tie.Need-returns
 returns c = taken-by-file (fileMeaning (c .before .before .before .before .args .kind)) _ _ (c .before .file-refusal .result) (c .before .file-refusal .ensures) (c .if1 .taken)
 
--- src/lib.rt:34:9
 gather-rows-requires : tie.Need-gather-rows-requires
 gather-rows-requires c κs = room-enough (fileMeaning (c .before .before .before .before .before .args .kind)) _ _ (sym (c .before .before .file-refusal .ensures) ∙ c .before .if1 .left) (c .before .before .before .before .before .pre)
 
--- src/lib.rt:36:37
 slice-reshare-prefix-rows-refusal : tie.Need-slice-reshare-prefix-rows-refusal
 slice-reshare-prefix-rows-refusal c = search needs
 
--- src/lib.rt:36:37
 slice-aggregate-rows-refusal : tie.Need-slice-aggregate-rows-refusal
 slice-aggregate-rows-refusal c = sym (length-take-le _ _ (c .before .before .before .gather-rows .ensures .inside))
 
--- src/lib.rt:36:18
 rows-refusal-requires : tie.Need-rows-refusal-requires
 rows-refusal-requires c κs = search needs
 
--- src/lib.rt:23:1
 same-length : tie.Need-same-length
 same-length c = search needs
 
--- src/lib.rt:23:1
 returns-2 : tie.Need-returns-2
 returns-2 c =
     taken-by-rows (fileMeaning (c .before .before .before .before .before .before .before .before .before .before .args .kind)) _ _ (c .rows-refusal .result) (c .before .before .before .before .gather-rows .result) (sym (c .before .before .before .before .before .before .before .file-refusal .ensures) ∙ c .before .before .before .before .before .before .if1 .left) (c .before .before .before .before .gather-rows .ensures) (c .rows-refusal .ensures)

@@ -12,40 +12,32 @@ use Rattle.blocks.proofs.writer.file_length.Reads as file-length-reads
 use Rattle.blocks.proofs.writer.write_file.Reads as write-file-reads
 use Rattle.rules.proofs.refusal.rows_refusal.Reads as rows-refusal-reads
 
--- src/lib.rt:67:9
 returns : tie.Need-returns
 returns c =
     write-odd (fileMeaning (c .before .before .before .args .kind)) _ _ _ (c .if1 .taken)
 
--- src/lib.rt:69:22
 file-length-requires : tie.Need-file-length-requires
 file-length-requires c κs = search needs
 
--- src/lib.rt:70:9
 returns-2 : tie.Need-returns-2
 returns-2 c =
     write-other (fileMeaning (c .before .before .before .before .before .args .kind)) _ _ _ (λ e. c .if2 .taken (e ∙ sym (c .before .file-length .ensures)))
 
--- src/lib.rt:72:9
 rows-refusal-requires : tie.Need-rows-refusal-requires
 rows-refusal-requires c κs = search needs
 
--- src/lib.rt:74:9
 returns-3 : tie.Need-returns-3
 returns-3 c =
     write-refused (fileMeaning (c .before .before .before .before .before .before .before .args .kind)) _ _ _ (c .before .before .before .before .if1 .left) (c .before .before .if2 .left ∙ c .before .before .before .file-length .ensures) _ (c .before .rows-refusal .ensures) (c .if3 .taken)
 
--- src/lib.rt:76:5
 write-file-requires : tie.Need-write-file-requires
 write-file-requires c κs =
     let room = c .before .before .before .if2 .left ∙ c .before .before .before .before .file-length .ensures in
     (room, omega (arith, file-short (fileMeaning (c .before .before .before .before .before .before .before .before .args .kind)) _ (sym (c .before .before .rows-refusal .ensures) ∙ c .before .if3 .left)))
 
--- src/lib.rt:63:1
 same-length : tie.Need-same-length
 same-length c = search needs
 
--- src/lib.rt:63:1
 returns-4 : tie.Need-returns-4
 returns-4 c =
     write-done (fileMeaning (c .before .before .before .before .before .before .before .before .before .before .before .args .kind)) _ _ _ (c .before .before .before .before .before .before .before .before .if1 .left) (c .before .before .before .before .before .before .if2 .left ∙ c .before .before .before .before .before .before .before .file-length .ensures) _ (sym (c .before .before .before .before .if3 .left) ∙ c .before .before .before .before .before .rows-refusal .ensures) (c .before .before .write-file .ensures)

@@ -11,31 +11,24 @@ use Rattle.profile.proofs.declarations.is_number_variable.Reads as is-n
 use Rattle.rules.proofs.fields.bytes_at.Reads as bytes-at-reads
 use Rattle.rules.proofs.names.same_bytes.Reads as same-bytes-reads
 
--- src/agreement.rt:49:42
 mul-bytes-at : tie.Need-mul-bytes-at
 mul-bytes-at c = search needs
 
--- src/agreement.rt:49:34
 add-bytes-at : tie.Need-add-bytes-at
 add-bytes-at c = search needs
 
--- src/agreement.rt:49:19
 bytes-at-requires : tie.Need-bytes-at-requires
 bytes-at-requires c κs = search needs
 
--- src/agreement.rt:49:8
 same-bytes-requires : tie.Need-same-bytes-requires
 same-bytes-requires c κs = search needs
 
--- src/agreement.rt:50:9
 is-number-variable-requires : tie.Need-is-number-variable-requires
 is-number-variable-requires c κs = search needs
 
--- src/agreement.rt:50:9
 returns : tie.Need-returns
 returns c = both-so _ _ _ _ (same-name (c .before .before .before .before .before .before .before .args .rows .now) declaration-section (c .before .before .before .before .before .before .before .args .t) (c .before .before .before .before .before .before .before .pre .0) (c .before .before .before .before .before .before .before .args .d) (c .before .before .before .before .before .before .before .args .name .now) (c .before .before .before .bytes-at .result .now) (c .before .before .same-bytes .result) (c .before .before .before .bytes-at .ensures .0) (c .before .before .same-bytes .ensures)) (c .before .if1 .taken) (c .is-number-variable .ensures)
 
--- src/agreement.rt:40:1
 returns-2 : tie.Need-returns-2
 returns-2 c = first-not _ _ _ (same-name (c .before .before .before .before .before .before .args .rows .now) declaration-section (c .before .before .before .before .before .before .args .t) (c .before .before .before .before .before .before .pre .0) (c .before .before .before .before .before .before .args .d) (c .before .before .before .before .before .before .args .name .now) (c .before .before .bytes-at .result .now) (c .before .same-bytes .result) (c .before .before .bytes-at .ensures .0) (c .before .same-bytes .ensures)) (c .if1 .left)
 

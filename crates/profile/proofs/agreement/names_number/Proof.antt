@@ -20,31 +20,24 @@ Inv-loop rows t bodies name count d₀ d = (d ≤ count) × (everyBelow d (name-
 abbrev μ-loop : tie.MeasureT-loop
 μ-loop rows t bodies name count d₀ d = count - d
 
--- src/agreement.rt:65:5
 loop-holds : tie.Need-loop-holds Inv-loop μ-loop
 loop-holds c = (omega arith, every-begins (name-test (c .before .before .before .before .args .rows .now) (c .before .before .before .before .args .name .now)))
 
--- src/agreement.rt:66:12
 names-it-requires : tie.Need-names-it-requires Inv-loop μ-loop
 names-it-requires c κs = (c .before .before .before .before .before .before .pre .0, (omega arith, (c .before .before .before .before .before .before .pre .1 .0, (c .before .before .before .before .before .before .pre .1 .1 .0, c .before .before .before .before .before .before .pre .1 .1 .1))))
 
--- src/agreement.rt:67:13
 returns : tie.Need-returns Inv-loop μ-loop
 returns c = name-found (c .before .before .before .before .before .before .before .before .args .rows .now) (c .before .before .before .before .before .before .before .before .args .name .now) (c .before .before .before .before .before .before .before .before .args .t .count / 2) (c .before .before .before .loop .d) (pairs (c .before .before .before .before .before .before .before .before .args .rows .now) declaration-section (c .before .before .before .before .before .before .before .before .args .t) (c .before .before .before .before .before .before .before .before .pre .0)) (test-fails (c .before .before .before .before .before .before .before .before .args .rows .now) (c .before .before .before .before .before .before .before .before .args .name .now) (c .before .before .before .loop .d) (c .before .names-it .result) (c .before .names-it .ensures) (c .if1 .taken)) (omega arith)
 
--- src/agreement.rt:69:9
 add-d : tie.Need-add-d Inv-loop μ-loop
 add-d c = omega arith
 
--- src/agreement.rt:65:5
 loop-less : tie.Need-loop-less Inv-loop μ-loop
 loop-less c = omega arith
 
--- src/agreement.rt:65:5
 loop-again : tie.Need-loop-again Inv-loop μ-loop
 loop-again c = (omega arith, every-more (c .before .before .before .loop .d) (name-test (c .before .before .before .before .before .before .before .before .args .rows .now) (c .before .before .before .before .before .before .before .before .args .name .now)) (c .before .before .before .loop .inv .1) (test-passes (c .before .before .before .before .before .before .before .before .args .rows .now) (c .before .before .before .before .before .before .before .before .args .name .now) (c .before .before .before .loop .d) (c .before .names-it .result) (c .before .names-it .ensures) (c .if1 .left)))
 
--- src/agreement.rt:56:1
 returns-2 : tie.Need-returns-2 Inv-loop μ-loop
 returns-2 c = name-missing (c .before .before .before .before .before .before .args .rows .now) (c .before .before .before .before .before .before .args .name .now) (c .before .before .before .before .before .before .args .t .count / 2) (c .before .loop .d) (pairs (c .before .before .before .before .before .before .args .rows .now) declaration-section (c .before .before .before .before .before .before .args .t) (c .before .before .before .before .before .before .pre .0)) (c .before .loop .inv .1) (omega arith)
 

@@ -14,47 +14,36 @@ use Rattle.rules.proofs.fields.bytes_at.Reads as bytes-at-reads
 use Rattle.rules.proofs.fields.kind_at.Reads as kind-at-reads
 use Rattle.rules.proofs.fields.wide_at.Reads as wide-at-reads
 
--- src/constants.rt:88:13
 add-i : tie.Need-add-i
 add-i c = search needs
 
--- src/constants.rt:89:9
 kind-at-requires : tie.Need-kind-at-requires
 kind-at-requires c κs = search needs
 
--- src/constants.rt:91:12
 wide-at-requires : tie.Need-wide-at-requires
 wide-at-requires c κs = search needs
 
--- src/constants.rt:92:13
 returns : tie.Need-returns
 returns c = cell-false (c .before .before .before .before .before .args .rows .now) (c .before .before .before .before .before .args .t .start) (c .before .before .before .before .before .args .r) (c .before .before .before .before .before .pre .0 .start) (c .before .before .before .kind-at .result) (c .before .before .before .kind-at .ensures) (c .before .wide-at .result) (c .before .before .if1 .taken) (c .before .wide-at .ensures) (c .if2 .taken)
 
--- src/constants.rt:94:9
 returns-2 : tie.Need-returns-2
 returns-2 c = cell-true (c .before .before .before .before .before .args .rows .now) (c .before .before .before .before .before .args .t .start) (c .before .before .before .before .before .args .r) (c .before .before .before .before .before .pre .0 .start) (c .before .before .before .kind-at .result) (c .before .before .before .kind-at .ensures) (c .before .wide-at .result) (c .before .before .if1 .taken) (c .before .wide-at .ensures) (c .if2 .left)
 
--- src/constants.rt:97:25
 wide-at-requires-2 : tie.Need-wide-at-requires-2
 wide-at-requires-2 c κs = search needs
 
--- src/constants.rt:97:9
 signed64-requires : tie.Need-signed64-requires
 signed64-requires c κs = search needs
 
--- src/constants.rt:97:9
 returns-3 : tie.Need-returns-3
 returns-3 c = cell-number (c .before .before .before .before .before .before .args .rows .now) (c .before .before .before .before .before .before .args .t .start) (c .before .before .before .before .before .before .args .r) (c .before .before .before .before .before .before .pre .0 .start) (c .before .before .before .before .kind-at .result) (c .before .before .before .before .kind-at .ensures) (c .before .wide-at2 .result) _ (c .before .before .if3 .taken) (c .before .wide-at2 .ensures) (toZ-ofZ w64 (c .signed64 .result) (record { sfits = c .signed64 .ok }) ∙ c .signed64 .ensures)
 
--- src/constants.rt:99:15
 bytes-at-requires : tie.Need-bytes-at-requires
 bytes-at-requires c κs = search needs
 
--- src/constants.rt:99:5
 word-cell-requires : tie.Need-word-cell-requires
 word-cell-requires c κs = (c .bytes-at .ensures .1, (word-padded (c .before .before .before .before .before .args .rows .now) (c .before .before .before .before .before .args .t .start) (c .before .before .before .before .before .args .r) (c .before .before .before .before .before .pre .0 .start) (c .before .before .before .kind-at .result) (c .before .before .before .kind-at .ensures) (c .bytes-at .result .now) (c .before .before .if1 .left) (c .before .if3 .left) (c .bytes-at .ensures .0) (c .before .before .before .before .before .pre .1 .1), word-text (c .before .before .before .before .before .args .rows .now) (c .before .before .before .before .before .args .t .start) (c .before .before .before .before .before .args .r) (c .before .before .before .before .before .pre .0 .start) (c .before .before .before .kind-at .result) (c .before .before .before .kind-at .ensures) (c .bytes-at .result .now) (c .before .before .if1 .left) (c .before .if3 .left) (c .bytes-at .ensures .0) (c .before .before .before .before .before .pre .1 .1)))
 
--- src/constants.rt:81:1
 returns-4 : tie.Need-returns-4
 returns-4 c = cell-word (c .before .before .before .before .before .before .args .rows .now) (c .before .before .before .before .before .before .args .t .start) (c .before .before .before .before .before .before .args .r) (c .before .before .before .before .before .before .pre .0 .start) (c .before .before .before .before .kind-at .result) (c .before .before .before .before .kind-at .ensures) (c .before .bytes-at .result .now) _ (c .before .before .before .if1 .left) (c .before .before .if3 .left) (c .before .bytes-at .ensures .0) (toZ-ofZ w64 (c .word-cell .result) (record { sfits = c .word-cell .ok }) ∙ c .word-cell .ensures)
 

@@ -22,51 +22,39 @@ Inv-loop limits t name start count l₀ l = (l ≤ count) × (limitOf limits nam
 abbrev μ-loop : tie.MeasureT-loop
 μ-loop limits t name start count l₀ l = count - l
 
--- src/limits.rt:53:5
 loop-holds : tie.Need-loop-holds Inv-loop μ-loop
 loop-holds c = (omega arith, search-begins (c .before .before .before .args .limits .now) (c .before .before .before .args .name .now) (c .before .before .before .args .t .count / 2) (pairs (c .before .before .before .args .limits .now) limit-section (c .before .before .before .args .t) (c .before .before .before .pre .0)))
 
--- src/limits.rt:54:48
 mul-bytes-at : tie.Need-mul-bytes-at Inv-loop μ-loop
 mul-bytes-at c = omega arith
 
--- src/limits.rt:54:40
 add-bytes-at : tie.Need-add-bytes-at Inv-loop μ-loop
 add-bytes-at c = omega arith
 
--- src/limits.rt:54:23
 bytes-at-requires : tie.Need-bytes-at-requires Inv-loop μ-loop
 bytes-at-requires c κs = omega arith
 
--- src/limits.rt:54:12
 same-bytes-requires : tie.Need-same-bytes-requires Inv-loop μ-loop
 same-bytes-requires c κs = c .bytes-at .ensures .1 ∙ sym (c .before .before .before .before .before .before .pre .1)
 
--- src/limits.rt:55:34
 limit-low-requires : tie.Need-limit-low-requires Inv-loop μ-loop
 limit-low-requires c κs = (c .before .before .before .before .before .before .before .before .pre .0, omega arith)
 
--- src/limits.rt:55:59
 limit-high-requires : tie.Need-limit-high-requires Inv-loop μ-loop
 limit-high-requires c κs = (c .before .before .before .before .before .before .before .before .before .pre .0, omega arith)
 
--- src/limits.rt:55:13
 returns : tie.Need-returns Inv-loop μ-loop
 returns c = search-found (c .before .before .before .before .before .before .before .before .before .before .args .limits .now) (c .before .before .before .before .before .before .before .before .before .before .args .name .now) (c .before .before .before .before .before .before .loop .l) (c .before .before .before .before .before .before .before .before .before .before .args .t .count / 2) _ _ (omega arith) (sym (c .before .before .if1 .taken) ∙ same-name (c .before .before .before .before .before .before .before .before .before .before .args .limits .now) limit-section (c .before .before .before .before .before .before .before .before .before .before .args .t) (c .before .before .before .before .before .before .before .before .before .before .pre .0) (c .before .before .before .before .before .before .loop .l) (c .before .before .before .before .before .before .before .before .before .before .args .name .now) (c .before .before .before .before .bytes-at .result .now) (c .before .before .before .same-bytes .result) (c .before .before .before .before .bytes-at .ensures .0) (c .before .before .before .same-bytes .ensures)) (toZ-ofZ w64 (c .before .limit-low .result) (record { sfits = c .before .limit-low .ok }) ∙ c .before .limit-low .ensures) (toZ-ofZ w64 (c .limit-high .result) (record { sfits = c .limit-high .ok }) ∙ c .limit-high .ensures) (c .before .before .before .before .before .before .loop .inv .1)
 
--- src/limits.rt:57:9
 add-l : tie.Need-add-l Inv-loop μ-loop
 add-l c = omega arith
 
--- src/limits.rt:53:5
 loop-less : tie.Need-loop-less Inv-loop μ-loop
 loop-less c = omega arith
 
--- src/limits.rt:53:5
 loop-again : tie.Need-loop-again Inv-loop μ-loop
 loop-again c = (omega arith, search-goes-on (c .before .before .before .before .before .before .before .before .args .limits .now) (c .before .before .before .before .before .before .before .before .args .name .now) (c .before .before .before .before .loop .l) (c .before .before .before .before .before .before .before .before .args .t .count / 2) (omega arith) (sym (c .if1 .left) ∙ same-name (c .before .before .before .before .before .before .before .before .args .limits .now) limit-section (c .before .before .before .before .before .before .before .before .args .t) (c .before .before .before .before .before .before .before .before .pre .0) (c .before .before .before .before .loop .l) (c .before .before .before .before .before .before .before .before .args .name .now) (c .before .before .bytes-at .result .now) (c .before .same-bytes .result) (c .before .before .bytes-at .ensures .0) (c .before .same-bytes .ensures)) (c .before .before .before .before .loop .inv .1))
 
--- src/limits.rt:45:1
 returns-2 : tie.Need-returns-2 Inv-loop μ-loop
 returns-2 c = search-ends (c .before .before .before .before .before .args .limits .now) (c .before .before .before .before .before .args .name .now) (c .before .loop .l) (c .before .before .before .before .before .args .t .count / 2) (c .loop-test .left) (c .before .loop .inv .1)
 

@@ -14,23 +14,18 @@ use Rattle.profile.proofs.limits.variable_limit.Lts as lts
 use Rattle.profile.proofs.limits.limit_of.Reads as limit-of-reads
 use Rattle.rules.proofs.fields.bytes_at.Reads as bytes-at-reads
 
--- src/limits.rt:70:48
 mul-bytes-at : tie.Need-mul-bytes-at
 mul-bytes-at c = search needs
 
--- src/limits.rt:70:40
 add-bytes-at : tie.Need-add-bytes-at
 add-bytes-at c = search needs
 
--- src/limits.rt:70:25
 bytes-at-requires : tie.Need-bytes-at-requires
 bytes-at-requires c κs = search needs
 
--- src/limits.rt:70:5
 limit-of-requires : tie.Need-limit-of-requires
 limit-of-requires c κs = search needs
 
--- src/limits.rt:63:1
 returns : tie.Need-returns
 unfolding nameAt
 returns c = c .limit-of .ensures ∙ ap (λ (n : List ℕ). limitOf (c .before .before .before .before .args .limits .now) n) (c .before .bytes-at .ensures .0 ∙ ap (bytesAt (c .before .before .before .before .args .rows .now)) (name-place (c .before .before .before .before .args .rows .now) declaration-section (c .before .before .before .before .args .t) (c .before .before .before .before .pre .0) (c .before .before .before .before .args .d)))

@@ -16,43 +16,33 @@ use Rattle.rules.proofs.fields.b_at.Reads as b-at-reads
 use Rattle.rules.proofs.fields.c_at.Reads as c-at-reads
 use Rattle.rules.proofs.fields.kind_at.Reads as kind-at-reads
 
--- src/row.rt:90:13
 add-i : tie.Need-add-i
 add-i c = search needs
 
--- src/row.rt:91:9
 kind-at-requires : tie.Need-kind-at-requires
 kind-at-requires c κs = search needs
 
--- src/row.rt:93:9
 returns : tie.Need-returns
 returns c = row-constant (c .before .before .before .args .rows .now) (c .before .before .before .args .t .start) (c .before .before .before .args .r) (c .before .before .before .pre .0 .start) (omega arith)
 
--- src/row.rt:95:9
 a-at-requires : tie.Need-a-at-requires
 a-at-requires c κs = search needs
 
--- src/row.rt:96:9
 b-at-requires : tie.Need-b-at-requires
 b-at-requires c κs = search needs
 
--- src/row.rt:98:9
 simple-kind-requires : tie.Need-simple-kind-requires
 simple-kind-requires c κs = search needs
 
--- src/row.rt:98:9
 returns-2 : tie.Need-returns-2
 returns-2 c = row-says (c .before .before .before .before .before .before .before .args .rows .now) (c .before .before .before .before .before .before .before .args .t .start) (c .before .before .before .before .before .before .before .args .r) (c .before .before .before .before .before .before .before .pre .0 .start) (c .before .before .before .before .before .kind-at .result) (c .before .before .before .a-at .result) (c .before .before .b-at .result) (cAt (c .before .before .before .before .before .before .before .args .rows .now) (c .before .before .before .before .before .before .before .args .t .start + c .before .before .before .before .before .before .before .args .r)) (c .before .before .before .before .before .kind-at .ensures) (c .before .before .before .a-at .ensures .0) (c .before .before .b-at .ensures .0) refl (omega arith) (c .simple-kind .result) (c .simple-kind .ensures (cAt (c .before .before .before .before .before .before .before .args .rows .now) (c .before .before .before .before .before .before .before .args .t .start + c .before .before .before .before .before .before .before .args .r)))
 
--- src/row.rt:100:9
 c-at-requires : tie.Need-c-at-requires
 c-at-requires c κs = search needs
 
--- src/row.rt:101:5
 composed-kind-requires : tie.Need-composed-kind-requires
 composed-kind-requires c κs = (omega arith, row-fits (c .before .before .before .before .before .before .before .args .rows .now) (c .before .before .before .before .before .before .before .args .t .start) (c .before .before .before .before .before .before .before .args .r) (c .before .before .before .before .before .before .before .pre .0 .start) (c .before .before .before .before .before .kind-at .result) (c .before .before .before .a-at .result) (c .before .before .b-at .result) (c .c-at .result) (c .before .before .before .before .before .kind-at .ensures) (c .before .before .before .a-at .ensures .0) (c .before .before .b-at .ensures .0) (c .c-at .ensures .0) (omega arith) (c .before .before .before .before .before .before .before .pre .1 .1))
 
--- src/row.rt:83:1
 returns-3 : tie.Need-returns-3
 returns-3 c = row-says (c .before .before .before .before .before .before .before .before .args .rows .now) (c .before .before .before .before .before .before .before .before .args .t .start) (c .before .before .before .before .before .before .before .before .args .r) (c .before .before .before .before .before .before .before .before .pre .0 .start) (c .before .before .before .before .before .before .kind-at .result) (c .before .before .before .before .a-at .result) (c .before .before .before .b-at .result) (c .before .c-at .result) (c .before .before .before .before .before .before .kind-at .ensures) (c .before .before .before .before .a-at .ensures .0) (c .before .before .before .b-at .ensures .0) (c .before .c-at .ensures .0) (omega arith) (c .composed-kind .result) (c .composed-kind .ensures)
 

@@ -8,37 +8,30 @@ use Rattle.profile.proofs.row.instruction_kind.Tie as tie
 use Rattle.profile.proofs.row.instruction_kind.Reads as reads
 use Rattle.profile.proofs.row.instruction_kind.Lts as lts
 
--- src/row.rt:105:1
 returns : tie.Need-returns
 unfolding instructionKind instructionMeaning
 returns c = rw (c .match .keys1)
 
--- src/row.rt:105:1
 returns-2 : tie.Need-returns-2
 unfolding instructionKind instructionMeaning
 returns-2 c = rw (c .match .keys2)
 
--- src/row.rt:105:1
 returns-3 : tie.Need-returns-3
 unfolding instructionKind instructionMeaning
 returns-3 c = rw (c .match .keys3)
 
--- src/row.rt:105:1
 returns-4 : tie.Need-returns-4
 unfolding instructionKind instructionMeaning
 returns-4 c = rw (c .match .keys4)
 
--- src/row.rt:105:1
 returns-5 : tie.Need-returns-5
 unfolding instructionKind instructionMeaning
 returns-5 c = rw (c .match .keys5)
 
--- src/row.rt:105:1
 returns-6 : tie.Need-returns-6
 unfolding instructionKind instructionMeaning
 returns-6 c = rw (c .match .keys6)
 
--- src/row.rt:105:1
 returns-7 : tie.Need-returns-7
 unfolding instructionMeaning
 returns-7 c = sym (instruction-last (c .before .args .k) (c .before .args .a) (c .before .args .b) (c .before .args .c) (c .match .rest .0 .0 .0 .0 .0 .1) (c .match .rest .0 .0 .0 .0 .1) (c .match .rest .0 .0 .0 .1) (c .match .rest .0 .0 .1) (c .match .rest .0 .1) (c .match .rest .1))

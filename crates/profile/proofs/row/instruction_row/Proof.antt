@@ -11,31 +11,24 @@ use Rattle.rules.proofs.fields.b_at.Reads as b-at-reads
 use Rattle.rules.proofs.fields.c_at.Reads as c-at-reads
 use Rattle.rules.proofs.fields.kind_at.Reads as kind-at-reads
 
--- src/row.rt:126:13
 add-i : tie.Need-add-i
 add-i c = search needs
 
--- src/row.rt:127:9
 kind-at-requires : tie.Need-kind-at-requires
 kind-at-requires c κs = search needs
 
--- src/row.rt:128:9
 a-at-requires : tie.Need-a-at-requires
 a-at-requires c κs = search needs
 
--- src/row.rt:129:9
 b-at-requires : tie.Need-b-at-requires
 b-at-requires c κs = search needs
 
--- src/row.rt:130:9
 c-at-requires : tie.Need-c-at-requires
 c-at-requires c κs = search needs
 
--- src/row.rt:131:5
 instruction-kind-requires : tie.Need-instruction-kind-requires
 instruction-kind-requires c κs = search needs
 
--- src/row.rt:120:1
 returns : tie.Need-returns
 returns c = instruction-says (c .before .before .before .before .before .before .args .rows .now) (c .before .before .before .before .before .before .args .t .start) (c .before .before .before .before .before .before .args .r) (c .before .before .before .before .kind-at .result) (c .before .before .before .a-at .result) (c .before .before .b-at .result) (c .before .c-at .result) (c .instruction-kind .result) (c .before .before .before .before .before .before .pre .0 .start) (c .before .before .before .before .kind-at .ensures) (c .before .before .before .a-at .ensures .0) (c .before .before .b-at .ensures .0) (c .before .c-at .ensures .0) (c .instruction-kind .ensures)
 

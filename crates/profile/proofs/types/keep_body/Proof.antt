@@ -18,35 +18,27 @@ Inv-loop bodies₀ r body at i₀ bodies i = (i ≤ 96) × (bodies ≡ paste bod
 abbrev μ-loop : tie.MeasureT-loop
 μ-loop bodies₀ r body at i₀ bodies i = 96 - i
 
--- src/types.rt:51:14
 mul-at : tie.Need-mul-at Inv-loop μ-loop
 mul-at c = omega arith
 
--- src/types.rt:53:5
 loop-holds : tie.Need-loop-holds Inv-loop μ-loop
 loop-holds c = (omega arith, paste-zero (c .args .bodies .now) (96 * c .args .r) (c .args .t3), refl)
 
--- src/types.rt:54:26
 array-read-bodies : tie.Need-array-read-bodies Inv-loop μ-loop
 array-read-bodies c = omega arith
 
--- src/types.rt:54:16
 add-bodies : tie.Need-add-bodies Inv-loop μ-loop
 add-bodies c = omega arith
 
--- src/types.rt:54:9
 slice-write-bodies : tie.Need-slice-write-bodies Inv-loop μ-loop
 slice-write-bodies c = omega arith
 
--- src/types.rt:55:9
 add-i : tie.Need-add-i Inv-loop μ-loop
 add-i c = omega arith
 
--- src/types.rt:53:5
 loop-less : tie.Need-loop-less Inv-loop μ-loop
 loop-less c = omega arith
 
--- src/types.rt:53:5
 loop-again : tie.Need-loop-again Inv-loop μ-loop
 loop-again c =
     let lb : length (c .before .before .args .t3) ≡ 96 = search needs in (
@@ -56,11 +48,9 @@ loop-again c =
       length-set (c .before .loop .bodies) _ _ ∙ c .before .loop .inv .2,
     )
 
--- src/types.rt:47:1
 same-length : tie.Need-same-length Inv-loop μ-loop
 same-length c = c .before .loop .inv .2
 
--- src/types.rt:47:1
 returns : tie.Need-returns Inv-loop μ-loop
 returns c =
     let e : c .before .loop .i ≡ 96 = omega arith in

@@ -12,31 +12,24 @@ use Rattle.rules.proofs.fields.b_at.Reads as b-at-reads
 use Rattle.rules.proofs.fields.c_at.Reads as c-at-reads
 use Rattle.rules.proofs.fields.kind_at.Reads as kind-at-reads
 
--- src/types.rt:92:13
 add-i : tie.Need-add-i
 add-i c = search needs
 
--- src/types.rt:93:9
 kind-at-requires : tie.Need-kind-at-requires
 kind-at-requires c κs = search needs
 
--- src/types.rt:94:9
 a-at-requires : tie.Need-a-at-requires
 a-at-requires c κs = search needs
 
--- src/types.rt:95:9
 b-at-requires : tie.Need-b-at-requires
 b-at-requires c κs = search needs
 
--- src/types.rt:96:9
 c-at-requires : tie.Need-c-at-requires
 c-at-requires c κs = search needs
 
--- src/types.rt:97:5
 kind-body-requires : tie.Need-kind-body-requires
 kind-body-requires c κs = (row-attributes (c .before .before .before .before .before .before .args .rows .now) (c .before .before .before .before .before .before .args .bodies .now) (c .before .before .before .before .before .before .args .t .start) (c .before .before .before .before .before .before .args .r) (c .before .before .before .kind-at .result) (c .before .before .a-at .result) (c .before .b-at .result) (c .c-at .result) (c .before .before .before .before .before .before .pre .0 .start) (c .before .before .before .kind-at .ensures) (c .before .before .a-at .ensures .0) (c .before .b-at .ensures .0) (c .c-at .ensures .0) (omega (arith, c .before .before .before .before .before .before .pre .0 .count, c .before .before .before .before .before .before .pre .1 .0)) (c .before .before .before .before .before .before .pre .1 .1 .0) (c .before .before .before .before .before .before .pre .1 .1 .1), row-parts (c .before .before .before .before .before .before .args .rows .now) (c .before .before .before .before .before .before .args .bodies .now) (c .before .before .before .before .before .before .args .t .start) (c .before .before .before .before .before .before .args .r) (c .before .before .before .kind-at .result) (c .before .before .a-at .result) (c .before .b-at .result) (c .c-at .result) (c .before .before .before .before .before .before .pre .0 .start) (c .before .before .before .kind-at .ensures) (c .before .before .a-at .ensures .0) (c .before .b-at .ensures .0) (c .c-at .ensures .0) (omega (arith, c .before .before .before .before .before .before .pre .0 .count, c .before .before .before .before .before .before .pre .1 .0)) (c .before .before .before .before .before .before .pre .1 .1 .0) (c .before .before .before .before .before .before .pre .1 .1 .1))
 
--- src/types.rt:84:1
 returns : tie.Need-returns
 returns c = row-answers (c .before .before .before .before .before .before .before .args .rows .now) (c .before .before .before .before .before .before .before .args .bodies .now) (c .before .before .before .before .before .before .before .args .t .start) (c .before .before .before .before .before .before .before .args .r) (c .before .before .before .before .kind-at .result) (c .before .before .before .a-at .result) (c .before .before .b-at .result) (c .before .c-at .result) (c .before .before .before .before .before .before .before .pre .0 .start) (c .before .before .before .before .kind-at .ensures) (c .before .before .before .a-at .ensures .0) (c .before .before .b-at .ensures .0) (c .before .c-at .ensures .0) (omega (arith, c .before .before .before .before .before .before .before .pre .0 .count, c .before .before .before .before .before .before .before .pre .1 .0)) (c .before .before .before .before .before .before .before .pre .1 .1 .0) (c .before .before .before .before .before .before .before .pre .1 .1 .1) (c .kind-body .result) (c .kind-body .ensures)
 

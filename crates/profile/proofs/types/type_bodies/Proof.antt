@@ -18,43 +18,33 @@ Inv-loop rows t bodies₀ count r₀ bodies r = (r ≤ count) × BodiesBelow row
 abbrev μ-loop : tie.MeasureT-loop
 μ-loop rows t bodies₀ count r₀ bodies r = count - r
 
--- src/types.rt:110:5
 loop-holds : tie.Need-loop-holds Inv-loop μ-loop
 loop-holds c = (omega arith, none-yet (c .before .before .args .rows .now) (c .before .before .args .bodies .now) (c .before .before .pre .1 .1))
 
--- src/types.rt:111:13
 row-body-requires : tie.Need-row-body-requires Inv-loop μ-loop
 row-body-requires c κs = (c .before .before .before .before .before .pre .0, (omega arith, (c .before .before .before .before .before .pre .1 .0, c .before .before .loop .inv .1)))
 
--- src/types.rt:113:13
 same-length : tie.Need-same-length Inv-loop μ-loop
 same-length c = c .before .before .before .before .before .loop .inv .1 .long ∙ sym (c .before .before .before .before .before .before .before .before .pre .1 .1)
 
--- src/types.rt:113:13
 returns : tie.Need-returns Inv-loop μ-loop
 returns c = (row-wrong (c .before .before .before .before .before .before .before .before .args .rows .now) (c .before .before .before .before .before .loop .r) (c .before .before .row-body .result) (omega (arith, c .before .before .before .before .before .before .before .before .pre .0 .count)) (c .before .before .row-body .ensures) (c .if1 .taken), λ e. false-is-true (sym e))
 
--- src/types.rt:116:9
 keep-body-requires : tie.Need-keep-body-requires Inv-loop μ-loop
 keep-body-requires c κs = omega (arith, c .before .before .before .before .before .before .before .loop .inv .1 .long, c .before .before .before .before .before .before .before .before .before .before .pre .0 .count, c .before .before .before .before .before .before .before .before .before .before .pre .1 .0 .few)
 
--- src/types.rt:117:9
 add-r : tie.Need-add-r Inv-loop μ-loop
 add-r c = omega arith
 
--- src/types.rt:110:5
 loop-less : tie.Need-loop-less Inv-loop μ-loop
 loop-less c = omega arith
 
--- src/types.rt:110:5
 loop-again : tie.Need-loop-again Inv-loop μ-loop
 loop-again c = (omega arith, one-more (c .before .before .before .before .before .before .before .before .before .before .before .before .before .args .rows .now) (c .before .before .before .before .before .before .before .before .before .before .loop .bodies) (c .before .before .keep-body .last .0) (c .before .before .before .before .before .before .before .before .before .before .loop .r) (c .before .before .before .before .before .before .before .row-body .result) (omega (arith, c .before .before .before .before .before .before .before .before .before .before .before .before .before .pre .0 .count, c .before .before .before .before .before .before .before .before .before .before .before .before .before .pre .1 .0 .few)) (c .before .before .before .before .before .before .before .before .before .before .loop .inv .1) (c .before .before .before .before .before .before .before .row-body .ensures) (c .before .before .before .before .before .if1 .left) (c .before .before .keep-body .ensures))
 
--- src/types.rt:101:1
 same-length-2 : tie.Need-same-length-2 Inv-loop μ-loop
 same-length-2 c = c .before .loop .inv .1 .long ∙ sym (c .before .before .before .before .pre .1 .1)
 
--- src/types.rt:101:1
 returns-2 : tie.Need-returns-2 Inv-loop μ-loop
 returns-2 c = (none-wrong (c .before .before .before .before .args .rows .now) (c .before .loop .bodies) (c .before .loop .r) (c .before .loop .inv .1) (omega (arith, c .before .before .before .before .pre .0 .count)), λ e. all-held (c .before .before .before .before .args .rows .now) (c .before .loop .bodies) (c .before .loop .r) (c .before .loop .inv .1) (omega (arith, c .before .before .before .before .pre .0 .count)))
 

@@ -19,35 +19,27 @@ Inv-loop bodies r from out₀ i₀ out i = (i ≤ 96) × (out ≡ paste out₀ 0
 abbrev μ-loop : tie.MeasureT-loop
 μ-loop bodies r from out₀ i₀ out i = 96 - i
 
--- src/types.rt:36:16
 mul-from : tie.Need-mul-from Inv-loop μ-loop
 mul-from c = omega arith
 
--- src/types.rt:39:5
 loop-holds : tie.Need-loop-holds Inv-loop μ-loop
 loop-holds c = (omega arith, paste-zero (replicate 96 0) 0 (drop (96 * c .args .r) (c .args .bodies .now)), refl)
 
--- src/types.rt:40:25
 add-out : tie.Need-add-out Inv-loop μ-loop
 add-out c = omega arith
 
--- src/types.rt:40:18
 shared-slice-read-out : tie.Need-shared-slice-read-out Inv-loop μ-loop
 shared-slice-read-out c = omega arith
 
--- src/types.rt:40:9
 array-write-out : tie.Need-array-write-out Inv-loop μ-loop
 array-write-out c = omega arith
 
--- src/types.rt:41:9
 add-i : tie.Need-add-i Inv-loop μ-loop
 add-i c = omega arith
 
--- src/types.rt:39:5
 loop-less : tie.Need-loop-less Inv-loop μ-loop
 loop-less c = omega arith
 
--- src/types.rt:39:5
 loop-again : tie.Need-loop-again Inv-loop μ-loop
 loop-again c = (
   omega arith,
@@ -56,7 +48,6 @@ loop-again c = (
   length-set (c .before .before .loop .out) _ _ ∙ c .before .before .loop .inv .2,
 )
 
--- src/types.rt:32:1
 returns : tie.Need-returns Inv-loop μ-loop
 unfolding bodyAt
 returns c =
