@@ -10,29 +10,23 @@ use Rattle.profile.proofs.agreement.limit_wrong.Reads as limit-wrong-reads
 use Rattle.profile.proofs.types.type_bodies.Reads as type-bodies-reads
 use Rattle.rules.proofs.tables.tables_of.Reads as tables-of-reads
 
--- src/lib.rt:51:9
 tables-of-requires : tie.Need-tables-of-requires
 tables-of-requires c κs = search needs
 
--- src/lib.rt:54:9
 tables-of-requires-2 : tie.Need-tables-of-requires-2
 tables-of-requires-2 c κs = search needs
 
--- src/lib.rt:56:5
 type-bodies-requires : tie.Need-type-bodies-requires
 type-bodies-requires c κs =
     let a = c .before .before .before .before .before .before .before .before .before .pre .0 in (c .before .before .before .before .before .tables-of .ensures .types, (types-ready _ (a .counts) (a .constants) (a .references), c .before .before .before .before .before .before .before .before .before .pre .1))
 
--- src/lib.rt:57:5
 limit-wrong-requires : tie.Need-limit-wrong-requires
 limit-wrong-requires c κs =
     let a = c .before .before .before .before .before .before .before .before .before .before .before .before .before .pre .0 in (c .before .before .before .before .before .before .before .before .before .tables-of .ensures .declarations, (a, (c .before .before .before .type-bodies .ensures .1 (c .before .before .before .type-bodies .ensures .0 ∙ a .types), c .before .before .before .before .before .before .tables-of2 .ensures .limits)))
 
--- src/lib.rt:46:1
 same-length : tie.Need-same-length
 same-length c = search needs
 
--- src/lib.rt:46:1
 returns : tie.Need-returns
 returns c =
     let a = c .before .before .before .before .before .before .before .before .before .before .before .before .before .before .pre .0 in record { wrong = c .limit-wrong .ensures; held = c .before .before .before .before .type-bodies .ensures .1 (c .before .before .before .before .type-bodies .ensures .0 ∙ a .types) }

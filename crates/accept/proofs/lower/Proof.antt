@@ -5,22 +5,18 @@ use Rattle.accept.proofs.lower.Tie as tie
 use Rattle.accept.proofs.lower.Reads as reads
 use Rattle.accept.proofs.lower.Lts as lts
 
--- src/lib.rt:34:9
 returns : tie.Need-returns
 returns c =
     lower-none _ _ (c .if1 .taken)
 
--- src/lib.rt:37:9
 returns-2 : tie.Need-returns-2
 returns-2 c =
     lower-first _ _ (c .before .if1 .left) (c .if2 .taken)
 
--- src/lib.rt:40:9
 returns-3 : tie.Need-returns-3
 returns-3 c =
     lower-less _ _ (c .before .before .if1 .left) (c .before .if2 .left) (c .if3 .taken)
 
--- src/lib.rt:30:1
 returns-4 : tie.Need-returns-4
 returns-4 c =
     lower-other _ _ (c .before .before .if1 .left) (c .before .if2 .left) (c .if3 .left)

@@ -16,133 +16,106 @@ use Rattle.accept.proofs.refused.Reads as refused-reads
 use Rattle.blocks.proofs.words.word16_at.Reads as word16-at-reads
 use Rattle.format.proofs.take.Reads as take-reads
 
--- src/lib.rt:82:9
 take-requires : tie.Need-take-requires
 take-requires c κs = search needs
 
--- src/lib.rt:83:9
 take-requires-2 : tie.Need-take-requires-2
 take-requires-2 c κs = search needs
 
--- src/lib.rt:84:9
 lower-requires : tie.Need-lower-requires
 lower-requires c κs = search needs
 
--- src/lib.rt:86:9
 refused-requires : tie.Need-refused-requires
 refused-requires c κs = search needs
 
--- src/lib.rt:86:9
 same-length : tie.Need-same-length
 same-length c = search needs
 
--- src/lib.rt:86:9
 same-length-2 : tie.Need-same-length-2
 same-length-2 c = search needs
 
--- src/lib.rt:86:9
 returns : tie.Need-returns
 unfolding fileMeaning
 returns c =
     pair-refused _ _ _ _ _ _ _ (c .refused .ensures) (pair-own _ _ _ _ (c .before .before .before .before .before .before .before .before .before .take .ensures .refusal) (c .before .before .before .before .before .take2 .ensures .refusal) _ (c .before .before .lower .ensures) (c .before .if1 .taken)) (c .before .if1 .taken)
 
--- src/lib.rt:88:8
 word16-at-requires : tie.Need-word16-at-requires
 unfolding fileMeaning
 word16-at-requires c κs =
     profile-header _ _ _ _ _ _ (c .before .before .before .before .before .before .before .before .take .ensures) (c .before .before .before .before .take2 .ensures) (sym (c .before .lower .ensures) ∙ c .if1 .left)
 
--- src/lib.rt:88:33
 word16-at-requires-2 : tie.Need-word16-at-requires-2
 unfolding fileMeaning
 word16-at-requires-2 c κs =
     limits-header _ _ _ _ _ _ (c .before .before .before .before .before .before .before .before .before .take .ensures) (c .before .before .before .before .before .take2 .ensures) (sym (c .before .before .lower .ensures) ∙ c .before .if1 .left)
 
--- src/lib.rt:89:9
 refused-requires-2 : tie.Need-refused-requires-2
 refused-requires-2 c κs = search needs
 
--- src/lib.rt:89:9
 same-length-3 : tie.Need-same-length-3
 same-length-3 c = search needs
 
--- src/lib.rt:89:9
 same-length-4 : tie.Need-same-length-4
 same-length-4 c = search needs
 
--- src/lib.rt:89:9
 returns-2 : tie.Need-returns-2
 unfolding modelOf fileMeaning
 returns-2 c =
     pair-refused _ _ _ _ _ _ _ (c .refused2 .ensures)
     (pair-models _ _ _ _ (c .before .before .before .before .before .before .before .before .before .before .before .before .take .ensures .refusal) (c .before .before .before .before .before .before .before .before .take2 .ensures .refusal) (sym (c .before .before .before .before .before .lower .ensures) ∙ c .before .before .before .before .if1 .left) (λ e. c .before .if2 .taken (c .before .before .before .word16-at .ensures ∙ e ∙ sym (c .before .before .word16-at2 .ensures)))) (omega arith)
 
--- src/lib.rt:93:21
 slice-reshare-prefix-limits-wrong : tie.Need-slice-reshare-prefix-limits-wrong
 unfolding fileMeaning
 slice-reshare-prefix-limits-wrong c =
     rows-within _ _ _ _ _ _ (c .before .before .before .before .before .before .before .before .before .before .before .take .ensures) (c .before .before .before .before .before .before .before .take2 .ensures) (sym (c .before .before .before .before .lower .ensures) ∙ c .before .before .before .if1 .left)
 
--- src/lib.rt:93:21
 slice-aggregate-limits-wrong : tie.Need-slice-aggregate-limits-wrong
 unfolding fileMeaning
 slice-aggregate-limits-wrong c =
     sym (length-take-le _ _ (rows-within _ _ _ _ _ _ (c .before .before .before .before .before .before .before .before .before .before .before .before .take .ensures) (c .before .before .before .before .before .before .before .before .take2 .ensures) (sym (c .before .before .before .before .before .lower .ensures) ∙ c .before .before .before .before .if1 .left)))
 
--- src/lib.rt:93:34
 slice-reshare-prefix-limits-wrong-2 : tie.Need-slice-reshare-prefix-limits-wrong-2
 unfolding fileMeaning
 slice-reshare-prefix-limits-wrong-2 c =
     limits-within _ _ _ _ _ _ (c .before .before .before .before .before .before .before .before .before .before .before .before .take .ensures) (c .before .before .before .before .before .before .before .before .take2 .ensures) (sym (c .before .before .before .before .before .lower .ensures) ∙ c .before .before .before .before .if1 .left)
 
--- src/lib.rt:93:34
 slice-aggregate-limits-wrong-2 : tie.Need-slice-aggregate-limits-wrong-2
 unfolding fileMeaning
 slice-aggregate-limits-wrong-2 c =
     sym (length-take-le _ _ (limits-within _ _ _ _ _ _ (c .before .before .before .before .before .before .before .before .before .before .before .before .before .take .ensures) (c .before .before .before .before .before .before .before .before .before .take2 .ensures) (sym (c .before .before .before .before .before .before .lower .ensures) ∙ c .before .before .before .before .before .if1 .left)))
 
--- src/lib.rt:93:8
 limits-wrong-requires : tie.Need-limits-wrong-requires
 unfolding fileMeaning
 limits-wrong-requires c κs =
     (rows-accepted _ _ _ _ _ _ (c .before .before .before .before .before .before .before .before .before .before .before .before .before .before .take .ensures) (c .before .before .before .before .before .before .before .before .before .before .take2 .ensures) (sym (c .before .before .before .before .before .before .before .lower .ensures) ∙ c .before .before .before .before .before .before .if1 .left), c .before .before .before .before .before .before .before .before .before .before .before .before .before .before .before .before .before .before .before .before .before .pre .1 .1)
 
--- src/lib.rt:94:9
 refused-requires-3 : tie.Need-refused-requires-3
 refused-requires-3 c κs = search needs
 
--- src/lib.rt:94:9
 same-length-5 : tie.Need-same-length-5
 same-length-5 c = search needs
 
--- src/lib.rt:94:9
 same-length-6 : tie.Need-same-length-6
 same-length-6 c = search needs
 
--- src/lib.rt:94:9
 same-length-7 : tie.Need-same-length-7
 same-length-7 c = search needs
 
--- src/lib.rt:94:9
 returns-3 : tie.Need-returns-3
 unfolding modelOf fileMeaning
 returns-3 c =
     pair-refused _ _ _ _ _ _ _ (c .refused3 .ensures)
     (pair-wrong _ _ _ _ _ _ (c .before .before .before .before .before .before .before .before .before .before .before .before .before .before .before .before .before .before .before .take .ensures) (c .before .before .before .before .before .before .before .before .before .before .before .before .before .before .before .take2 .ensures) (sym (c .before .before .before .before .before .before .before .before .before .before .before .before .lower .ensures) ∙ c .before .before .before .before .before .before .before .before .before .before .before .if1 .left) _ _ (c .before .before .before .before .limits-wrong .ensures) (sym (c .before .before .before .before .before .before .before .before .before .before .word16-at .ensures) ∙ c .before .before .before .before .before .before .before .before .if2 .left ∙ c .before .before .before .before .before .before .before .before .before .word16-at2 .ensures) (c .before .if3 .taken)) (omega arith)
 
--- src/lib.rt:70:1
 same-length-8 : tie.Need-same-length-8
 same-length-8 c = search needs
 
--- src/lib.rt:70:1
 same-length-9 : tie.Need-same-length-9
 same-length-9 c = search needs
 
--- src/lib.rt:70:1
 same-length-10 : tie.Need-same-length-10
 same-length-10 c = search needs
 
--- src/lib.rt:70:1
 returns-4 : tie.Need-returns-4
 unfolding modelOf fileMeaning
 returns-4 c =

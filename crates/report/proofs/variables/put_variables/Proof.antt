@@ -11,51 +11,40 @@ use Rattle.report.proofs.variables.put_variables.Lts as lts
 use Rattle.accept.proofs.take_pair.Reads as take-pair-reads
 use Rattle.report.proofs.lines.put_lines.Reads as put-lines-reads
 
--- src/variables.rt:27:43
 slice-aggregate-take-pair : tie.Need-slice-aggregate-take-pair
 slice-aggregate-take-pair c = search needs
 
--- src/variables.rt:27:55
 slice-aggregate-take-pair-2 : tie.Need-slice-aggregate-take-pair-2
 slice-aggregate-take-pair-2 c = search needs
 
--- src/variables.rt:27:68
 slice-aggregate-take-pair-3 : tie.Need-slice-aggregate-take-pair-3
 slice-aggregate-take-pair-3 c = search needs
 
--- src/variables.rt:27:9
 take-pair-requires : tie.Need-take-pair-requires
 take-pair-requires c κs = search needs
 
--- src/variables.rt:30:9
 returns : tie.Need-returns
 returns c =
     none-put (now (c .before .before .before .before .before .before .before .before .before .before .before .before .args .profile)) (now (c .before .before .before .before .before .before .before .before .before .before .before .before .args .limits)) _ _ _ _ (c .before .before .before .before .take-pair .ensures) _ _ _ _ (c .if1 .taken)
 
--- src/variables.rt:33:15
 array-share-prefix-areas : tie.Need-array-share-prefix-areas
 array-share-prefix-areas c =
     c .before .before .before .before .take-pair .ensures .taken (c .if1 .left) .within
 
--- src/variables.rt:33:15
 slice-aggregate-put-lines : tie.Need-slice-aggregate-put-lines
 slice-aggregate-put-lines c =
     sym (length-take-le _ _ (c .before .before .before .before .before .take-pair .ensures .taken (c .before .if1 .left) .within))
 
--- src/variables.rt:33:28
 slice-aggregate-put-lines-2 : tie.Need-slice-aggregate-put-lines-2
 slice-aggregate-put-lines-2 c = search needs
 
--- src/variables.rt:33:5
 put-lines-requires : tie.Need-put-lines-requires
 put-lines-requires c κs =
     (rows-accepted (now (c .before .before .before .before .before .before .before .before .before .before .before .before .before .before .before .args .profile)) (now (c .before .before .before .before .before .before .before .before .before .before .before .before .before .before .before .args .limits)) _ _ _ _ (c .before .before .before .before .before .before .before .take-pair .ensures) (c .before .before .before .if1 .left), (bodies-held (now (c .before .before .before .before .before .before .before .before .before .before .before .before .before .before .before .args .profile)) (now (c .before .before .before .before .before .before .before .before .before .before .before .before .before .before .before .args .limits)) _ _ _ _ (c .before .before .before .before .before .before .before .take-pair .ensures) (c .before .before .before .if1 .left), c .before .before .before .before .before .before .before .before .before .before .before .before .before .before .before .pre))
 
--- src/variables.rt:12:1
 same-length : tie.Need-same-length
 same-length c = search needs
 
--- src/variables.rt:12:1
 returns-2 : tie.Need-returns-2
 returns-2 c =
     lines-put (now (c .before .before .before .before .before .before .before .before .before .before .before .before .before .before .before .before .before .before .args .profile)) (now (c .before .before .before .before .before .before .before .before .before .before .before .before .before .before .before .before .before .before .args .limits)) _ _ _ _ (c .before .before .before .before .before .before .before .before .before .before .take-pair .ensures) (c .before .before .before .before .before .before .if1 .left) _ _ (c .before .before .put-lines .ensures)
