@@ -3,10 +3,10 @@ use mathlib.Core.Path.{_≡_}
 use mathlib.Core.Bool.{true}
 use mathlib.Core.List.{List}
 use mathlib.Core.Option.{some}
-use Prim.Native.Nat.{ℕ, _*_, _≤_, _<_}
+use Prim.Native.Nat.{ℕ, _+_, _*_, _≤_, _<_}
 use lib.IntN.{ℤ}
 use lib.ListN.{length, take, drop}
-use Rattle.lingua.specs.Numbers.{declaration-section, expression-section, most-variables}
+use Rattle.lingua.specs.Numbers.{body-cells, declaration-section, expression-section, most-variables}
 use Rattle.lingua.specs.Errors.{no-error}
 use Rattle.lingua.specs.Outcome.{ok, fail, Result, allAnswers}
 use Rattle.lingua.specs.Body.{size, isBoolean}
@@ -72,6 +72,12 @@ pub record Ready (rows : List ℕ) (t : Table) (variables : List ℕ) (cells : L
   pub store : List Variable
   pub world : World rows t variables cells states store
   pub has : HasCurrent current body
+
+-- what the evaluation of a row asks: the row is in the table, and its own value and those of all rows below find room
+pub record Asked (row : ℕ) (rows : List ℕ) (t : Table) (variables : List ℕ) (cells : List ℤ) (states : List ℕ) (current : List ℤ) (body : List ℕ) (stack : List ℤ) : Type 0 where
+  pub ready : Ready rows t variables cells states current body
+  pub here : row < t .count
+  pub room : body-cells * (row + 2) ≤ length stack
 
 -- ---- what assignments ask
 -- a store of a run, with the limits of its variables

@@ -22,32 +22,28 @@ use profile::row::ExpressionRow;
 use profile::row::expression_row;
 use rules::tables::Table;
 ghost use mathlib.Core.List.{List};
-ghost use Prim.Native.Nat.{_+_, _*_, _<_, _≤_};
-ghost use lib.ListN.{length};
-ghost use Rattle.lingua.specs.Numbers.{body-cells};
+ghost use Prim.Native.Nat.{_<_};
 ghost use Rattle.lingua.specs.Value.{Composite};
 ghost use Rattle.lingua.specs.Store.{Variable, contents};
 ghost use Rattle.lingua.specs.Trees.{expressionTree};
 ghost use Rattle.lingua.specs.Evaluation.{eval as meaning};
 ghost use Rattle.lingua.specs.Expression.{lazy as lazyTree, choice as choiceTree, all-list};
 ghost use Rattle.profile.specs.Row.{connective};
-ghost use Rattle.checked.specs.Meaning.{World, Current, Ready, Gives};
+ghost use Rattle.checked.specs.Meaning.{World, Current, Asked, Gives};
 
 // What the expression of a row gives, for a current value of a body.
 pub fn eval(
+    row: usize,
     rows: &[u8],
     t: Table,
     variables: &[u8],
     cells: &[i64],
     states: &[u16],
-    row: usize,
     current: &[i64],
     body: [u8; 96],
     stack: &mut [i64],
 ) -> Evaluated
-    requires { ⌜ Ready (now rows) t (now variables) (now cells) (now states) (now current) body ⌝ }
-    requires { ⌜ row < t .count ⌝ }
-    requires { ⌜ body-cells * (row + 2) ≤ length (now stack) ⌝ }
+    requires { ⌜ Asked row (now rows) t (now variables) (now cells) (now states) (now current) body (now stack) ⌝ }
     ensures { λ r. ⌜ ((vs : List Variable) (x : Composite) → World (now (rows .entry)) t (now (variables .entry)) (now (cells .entry)) (now (states .entry)) vs → Current (now (current .entry)) body x
         → Gives r (now (stack .exit)) (meaning (expressionTree (now (rows .entry)) row) (contents vs) x)) ⌝ }
 {
@@ -58,12 +54,12 @@ pub fn eval(
         ExpressionRow::Current => copied(current, body, stack),
         ExpressionRow::Unary(o, a) => {
             let x = eval(
+                a,
                 rows,
                 t,
                 variables,
                 cells,
                 states,
-                a,
                 current,
                 body,
                 &mut *stack,
@@ -72,23 +68,23 @@ pub fn eval(
         }
         ExpressionRow::Binary(o, a, b) => {
             let x = eval(
+                a,
                 rows,
                 t,
                 variables,
                 cells,
                 states,
-                a,
                 current,
                 body,
                 &mut *stack,
             );
             let y = eval(
+                b,
                 rows,
                 t,
                 variables,
                 cells,
                 states,
-                b,
                 current,
                 body,
                 &mut stack[BODY_CELLS..],
@@ -97,12 +93,12 @@ pub fn eval(
         }
         ExpressionRow::Lazy(settling, a, b) => {
             lazy(
+                row,
                 rows,
                 t,
                 variables,
                 cells,
                 states,
-                row,
                 settling,
                 a,
                 b,
@@ -113,12 +109,12 @@ pub fn eval(
         }
         ExpressionRow::Choice(a, b, d) => {
             choice(
+                row,
                 rows,
                 t,
                 variables,
                 cells,
                 states,
-                row,
                 a,
                 b,
                 d,
@@ -129,12 +125,12 @@ pub fn eval(
         }
         ExpressionRow::AllList(a) => {
             all(
+                row,
                 rows,
                 t,
                 variables,
                 cells,
                 states,
-                row,
                 a,
                 current,
                 body,
@@ -146,12 +142,12 @@ pub fn eval(
 
 // Kinds 11 and 12: the second operand is evaluated unless the first settles the result.
 fn lazy(
+    row: usize,
     rows: &[u8],
     t: Table,
     variables: &[u8],
     cells: &[i64],
     states: &[u16],
-    row: usize,
     settling: bool,
     a: usize,
     b: usize,
@@ -159,19 +155,18 @@ fn lazy(
     body: [u8; 96],
     stack: &mut [i64],
 ) -> Evaluated
-    requires { ⌜ Ready (now rows) t (now variables) (now cells) (now states) (now current) body ⌝ }
-    requires { ⌜ (a < row) × (b < row) × (row < t .count) ⌝ }
-    requires { ⌜ body-cells * (row + 2) ≤ length (now stack) ⌝ }
+    requires { ⌜ Asked row (now rows) t (now variables) (now cells) (now states) (now current) body (now stack) ⌝ }
+    requires { ⌜ (a < row) × (b < row) ⌝ }
     ensures { λ r. ⌜ ((vs : List Variable) (x : Composite) → World (now (rows .entry)) t (now (variables .entry)) (now (cells .entry)) (now (states .entry)) vs → Current (now (current .entry)) body x
         → Gives r (now (stack .exit)) (meaning (lazyTree row (connective settling) (expressionTree (now (rows .entry)) a) (expressionTree (now (rows .entry)) b)) (contents vs) x)) ⌝ }
 {
     let x = eval(
+        a,
         rows,
         t,
         variables,
         cells,
         states,
-        a,
         current,
         body,
         &mut *stack,
@@ -184,12 +179,12 @@ fn lazy(
         return x;
     }
     let y = eval(
+        b,
         rows,
         t,
         variables,
         cells,
         states,
-        b,
         current,
         body,
         &mut *stack,
@@ -203,12 +198,12 @@ fn lazy(
 
 // Kind 15: the test, then one of the branches.
 fn choice(
+    row: usize,
     rows: &[u8],
     t: Table,
     variables: &[u8],
     cells: &[i64],
     states: &[u16],
-    row: usize,
     test: usize,
     a: usize,
     b: usize,
@@ -216,19 +211,18 @@ fn choice(
     body: [u8; 96],
     stack: &mut [i64],
 ) -> Evaluated
-    requires { ⌜ Ready (now rows) t (now variables) (now cells) (now states) (now current) body ⌝ }
-    requires { ⌜ (test < row) × (a < row) × (b < row) × (row < t .count) ⌝ }
-    requires { ⌜ body-cells * (row + 2) ≤ length (now stack) ⌝ }
+    requires { ⌜ Asked row (now rows) t (now variables) (now cells) (now states) (now current) body (now stack) ⌝ }
+    requires { ⌜ (test < row) × (a < row) × (b < row) ⌝ }
     ensures { λ r. ⌜ ((vs : List Variable) (x : Composite) → World (now (rows .entry)) t (now (variables .entry)) (now (cells .entry)) (now (states .entry)) vs → Current (now (current .entry)) body x
         → Gives r (now (stack .exit)) (meaning (choiceTree row (expressionTree (now (rows .entry)) test) (expressionTree (now (rows .entry)) a) (expressionTree (now (rows .entry)) b)) (contents vs) x)) ⌝ }
 {
     let x = eval(
+        test,
         rows,
         t,
         variables,
         cells,
         states,
-        test,
         current,
         body,
         &mut *stack,
@@ -238,27 +232,26 @@ fn choice(
         return failed(told.error);
     }
     if told.holds {
-        return eval(rows, t, variables, cells, states, a, current, body, stack);
+        return eval(a, rows, t, variables, cells, states, current, body, stack);
     }
-    eval(rows, t, variables, cells, states, b, current, body, stack)
+    eval(b, rows, t, variables, cells, states, current, body, stack)
 }
 
 // Kind 25: the inner yoke on each element of the current value, all of them, at their places in the list.
 fn all(
+    row: usize,
     rows: &[u8],
     t: Table,
     variables: &[u8],
     cells: &[i64],
     states: &[u16],
-    row: usize,
     a: usize,
     current: &[i64],
     body: [u8; 96],
     stack: &mut [i64],
 ) -> Evaluated
-    requires { ⌜ Ready (now rows) t (now variables) (now cells) (now states) (now current) body ⌝ }
-    requires { ⌜ (a < row) × (row < t .count) ⌝ }
-    requires { ⌜ body-cells * (row + 2) ≤ length (now stack) ⌝ }
+    requires { ⌜ Asked row (now rows) t (now variables) (now cells) (now states) (now current) body (now stack) ⌝ }
+    requires { ⌜ a < row ⌝ }
     ensures { λ r. ⌜ ((vs : List Variable) (x : Composite) → World (now (rows .entry)) t (now (variables .entry)) (now (cells .entry)) (now (states .entry)) vs → Current (now (current .entry)) body x
         → Gives r (now (stack .exit)) (meaning (all-list row (expressionTree (now (rows .entry)) a)) (contents vs) x)) ⌝ }
 {
@@ -278,12 +271,12 @@ fn all(
     let mut i = 0;
     while i < n {
         let x = eval(
+            a,
             rows,
             t,
             variables,
             cells,
             states,
-            a,
             &current[at..at + width],
             inner,
             &mut *stack,

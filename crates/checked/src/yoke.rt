@@ -41,12 +41,12 @@ pub fn eval_yoke(
         return boolean(true, stack);
     }
     eval(
+        y - 1,
         rows,
         t,
         variables,
         cells,
         states,
-        y - 1,
         current,
         body,
         stack,
@@ -72,12 +72,12 @@ pub fn eval_plain(
     let current = [0i64; 1];
     let body = simple(BOOLEAN);
     eval(
+        row,
         rows,
         t,
         variables,
         cells,
         states,
-        row,
         &current,
         body,
         stack,
