@@ -1,11 +1,6 @@
 // The start of a run: no variable is filled, and each has its declared yoke and limit. The checked run keeps the declared bodies besides.
 use rules::tables::Table;
-ghost use mathlib.Core.Path.{_≡_};
-ghost use lib.ListN.{length};
-ghost use Rattle.lingua.specs.Numbers.{declaration-section, limit-section, cells-length, states-length};
-ghost use Rattle.safety.specs.Accepted.{AcceptedRows};
-ghost use Rattle.rules.specs.Tables.{IsTable};
-ghost use Rattle.start.specs.Begun.{Begun};
+ghost use Rattle.start.specs.Begun.{Asked, Begun};
 
 pub mod bodies; // bodies.rt: the declared bodies
 pub mod cells; // cells.rt: no cell is filled
@@ -22,12 +17,7 @@ pub fn start(
     cells: &mut [i64],
     states: &mut [u16],
 )
-    requires { ⌜ AcceptedRows (now rows) ⌝ }
-    requires { ⌜ IsTable (now rows) declaration-section t ⌝ }
-    requires { ⌜ IsTable (now limits) limit-section u ⌝ }
-    requires { ⌜ length (now kept) ≡ 48 ⌝ }
-    requires { ⌜ length (now cells) ≡ cells-length ⌝ }
-    requires { ⌜ length (now states) ≡ states-length ⌝ }
+    requires { ⌜ Asked (now rows) t (now limits) u (now kept) (now cells) (now states) ⌝ }
     ensures { λ r. ⌜ Begun (now (rows .entry)) (now (limits .entry)) (now (kept .exit)) (now (cells .exit)) (now (states .exit)) ⌝ }
 {
     cells::clear_cells(cells);

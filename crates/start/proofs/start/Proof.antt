@@ -6,16 +6,16 @@ use Rattle.start.proofs.start.Statement.{statement}
 use Rattle.start.proofs.start.Tie as tie
 
 clear-cells-requires : tie.Need-clear-cells-requires
-clear-cells-requires c κs = search needs
+clear-cells-requires c κs = c .before .before .before .before .pre .long-cells
 
 clear-states-requires : tie.Need-clear-states-requires
-clear-states-requires c κs = search needs
+clear-states-requires c κs = c .before .before .before .before .before .before .before .pre .long-states
 
 keep-yokes-requires : tie.Need-keep-yokes-requires
-keep-yokes-requires c κs = search needs
+keep-yokes-requires c κs = (c .before .before .before .before .before .before .before .before .before .before .before .pre .accepted, (c .before .before .before .before .before .before .before .before .before .before .before .pre .declared, c .before .before .before .clear-states .ensures))
 
 keep-limits-requires : tie.Need-keep-limits-requires
-keep-limits-requires c κs = search needs
+keep-limits-requires c κs = (c .before .before .before .before .before .before .before .before .before .before .before .before .before .before .before .pre .accepted, (c .before .before .before .before .before .before .before .before .before .before .before .before .before .before .before .pre .declared, (c .before .before .before .before .before .before .before .before .before .before .before .before .before .before .before .pre .limited, c .before .before .before .before .before .before .before .before .before .before .before .before .before .before .before .pre .room)))
 
 same-length : tie.Need-same-length
 same-length c = search needs
@@ -27,7 +27,7 @@ same-length-3 : tie.Need-same-length-3
 same-length-3 c = search needs
 
 returns : tie.Need-returns
-returns c = begun (now (c .before .before .before .before .before .before .before .before .before .before .before .before .before .before .before .before .before .args .rows)) (now (c .before .before .before .before .before .before .before .before .before .before .before .before .before .before .before .before .before .args .limits)) _ _ _ (c .before .before .before .before .before .before .before .before .before .before .before .before .before .before .before .before .before .pre .0) (c .before .before .before .before .before .before .before .before .before .before .before .before .clear-cells .ensures) (c .before .before .before .before .before .keep-yokes .ensures) (c .before .keep-limits .ensures)
+returns c = begun (now (c .before .before .before .before .before .before .before .before .before .before .before .before .before .before .before .before .before .args .rows)) (now (c .before .before .before .before .before .before .before .before .before .before .before .before .before .before .before .before .before .args .limits)) _ _ _ (c .before .before .before .before .before .before .before .before .before .before .before .before .before .before .before .before .before .pre .accepted) (c .before .before .before .before .before .before .before .before .before .before .before .before .clear-cells .ensures) (c .before .before .before .before .before .keep-yokes .ensures) (c .before .keep-limits .ensures)
 
 pub start-spec : {M : Type 1} → statement M
 start-spec =
