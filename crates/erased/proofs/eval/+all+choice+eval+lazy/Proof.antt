@@ -51,16 +51,16 @@ use Rattle.erased.proofs.eval.+all+choice+eval+lazy.{statement}
 use Rattle.erased.proofs.eval.+all+choice+eval+lazy.Tie.{close}
 
 abbrev μ-all : Measures 6 all-kinds.ps ℕ
-μ-all κs a = 2 * a .1 .1 .1 .1 .1 .0
+μ-all κs a = 2 * a .0
 
 abbrev μ-choice : Measures 6 choice-kinds.ps ℕ
-μ-choice κs a = 2 * a .1 .1 .1 .1 .1 .0
+μ-choice κs a = 2 * a .0
 
 abbrev μ-eval : Measures 6 eval-kinds.ps ℕ
-μ-eval κs a = 2 * a .1 .1 .1 .1 .1 .0 + 1
+μ-eval κs a = 2 * a .0 + 1
 
 abbrev μ-lazy : Measures 6 lazy-kinds.ps ℕ
-μ-lazy κs a = 2 * a .1 .1 .1 .1 .1 .0
+μ-lazy κs a = 2 * a .0
 
 abbrev all-at : ℕ → In 6 all-kinds.ps
 all-at t = and 6 all-kinds.ps (is 6 all-kinds.ps μ-all t) all.Pre
@@ -87,10 +87,10 @@ abbrev lazy-below : ℕ → In 6 lazy-kinds.ps
 lazy-below t = and 6 lazy-kinds.ps (falls 6 lazy-kinds.ps _<_ μ-lazy t) lazy.Pre
 
 abbrev all-Inv-loop : all-lts.InvT-loop
-all-Inv-loop rows t layout cells states row a current stack₀ width n seen₀ at₀ i₀ stack seen at i = (i ≤ n) × (length stack ≡ length stack₀) × (at ≡ 1 + i * width) × ((ds : List Declaration) (vs : List Variable) (b : Body) (x : Value) → Listed rows t layout cells states current (expressionTree rows a) width ds vs b x → Tells seen (allTold (firstResults (expressionTree rows a) vs x i)))
+all-Inv-loop row rows t layout cells states a current stack₀ width n seen₀ at₀ i₀ stack seen at i = (i ≤ n) × (length stack ≡ length stack₀) × (at ≡ 1 + i * width) × ((ds : List Declaration) (vs : List Variable) (b : Body) (x : Value) → Listed rows t layout cells states current (expressionTree rows a) width ds vs b x → Tells seen (allTold (firstResults (expressionTree rows a) vs x i)))
 
 abbrev all-μ-loop : all-lts.MeasureT-loop
-all-μ-loop rows t layout cells states row a current stack₀ width n seen₀ at₀ i₀ stack seen at i = n - i
+all-μ-loop row rows t layout cells states a current stack₀ width n seen₀ at₀ i₀ stack seen at i = n - i
 
 abbrev all-calls : ℕ → all-lts.Claims
 all-calls t = (second-at-reads.Asked, second-at-reads.Learnt, eval-below t, eval.Post, noted-reads.Asked, noted-reads.Learnt, concluded-reads.Asked, concluded-reads.Learnt)
