@@ -35,8 +35,8 @@ module _ (rows : List ℕ) (accepted : AcceptedRows rows) (r : ℕ) (l : r < tab
       instruction-row-tree rows r c s (instruction-facts rows accepted r l c s) ∙ ap (instructionRowTree rows r) e
 
 -- ---- what a call asks
-module _ {rows : List ℕ} {t : Tables} {bodies : List ℕ} {r : ℕ} {cur l : List ℕ} (h : Asked rows t bodies r cur l) where
-  pub asked-below : {a : ℕ} {cur' : List ℕ} (l' : List ℕ) → a < r → Held cur' → length l' ≡ length l → Asked rows t bodies a cur' l'
+module _ {rows : List ℕ} {t : Tables} {bodies : List ℕ} {r : ℕ} {cur l : List ℕ} (h : Asked r rows t bodies cur l) where
+  pub asked-below : {a : ℕ} {cur' : List ℕ} (l' : List ℕ) → a < r → Held cur' → length l' ≡ length l → Asked a rows t bodies cur' l'
   asked-below l' p k e =
       record { ready = h .ready; here = let q = h .here in omega arith; held = k; room = e ∙ h .room }
 

@@ -33,7 +33,7 @@ check-assignment-requires : tie.Need-check-assignment-requires
 unfolding InstructionFacts
 check-assignment-requires c κs =
     let f = instruction-at (now (c .before .before .before .before .before .before .before .before .before .args .rows)) (c .before .before .before .before .before .before .before .before .before .pre .0 .accepted) (c .before .before .before .before .before .before .before .before .before .args .row) (c .before .before .before .before .before .before .before .before .before .pre .1 .0) _ _ (c .before .before .before .before .instruction-row .ensures) (c .before .before .i .given .1) in
-    (c .before .before .before .before .before .before .before .before .before .pre .0, (omega (arith, c .before .before .before .before .before .before .before .before .before .pre .1 .0, counts (now (c .before .before .before .before .before .before .before .before .before .args .rows)) (c .before .before .before .before .before .before .before .before .before .pre .0 .accepted .counts) .instructions .most), (f .0, (f .1, c .before .before .before .before .before .before .before .before .before .pre .1 .1))))
+    record { ready = c .before .before .before .before .before .before .before .before .before .pre .0; few = omega (arith, c .before .before .before .before .before .before .before .before .before .pre .1 .0, counts (now (c .before .before .before .before .before .before .before .before .before .args .rows)) (c .before .before .before .before .before .before .before .before .before .pre .0 .accepted .counts) .instructions .most); declared = f .0; here = f .1; room = c .before .before .before .before .before .before .before .before .before .pre .1 .1 }
 
 enum-known-i-2 : tie.Need-enum-known-i-2
 enum-known-i-2 c = search needs

@@ -47,22 +47,22 @@ use Rattle.typecheck.proofs.walk.+all_list+binary+check+choice+lazy+una
 use Rattle.typecheck.proofs.walk.+all_list+binary+check+choice+lazy+unary.Tie.{close}
 
 abbrev μ-all-list : Measures 3 all-list-kinds.ps ℕ
-μ-all-list κs a = 2 * a .1 .1 .1 .0
+μ-all-list κs a = 2 * a .0
 
 abbrev μ-binary : Measures 3 binary-kinds.ps ℕ
-μ-binary κs a = 2 * a .1 .1 .1 .0
+μ-binary κs a = 2 * a .0
 
 abbrev μ-check : Measures 3 check-kinds.ps ℕ
-μ-check κs a = 2 * a .1 .1 .1 .0 + 1
+μ-check κs a = 2 * a .0 + 1
 
 abbrev μ-choice : Measures 3 choice-kinds.ps ℕ
-μ-choice κs a = 2 * a .1 .1 .1 .0
+μ-choice κs a = 2 * a .0
 
 abbrev μ-lazy : Measures 3 lazy-kinds.ps ℕ
-μ-lazy κs a = 2 * a .1 .1 .1 .0
+μ-lazy κs a = 2 * a .0
 
 abbrev μ-unary : Measures 3 unary-kinds.ps ℕ
-μ-unary κs a = 2 * a .1 .1 .1 .0
+μ-unary κs a = 2 * a .0
 
 abbrev all-list-at : ℕ → In 3 all-list-kinds.ps
 all-list-at t = and 3 all-list-kinds.ps (is 3 all-list-kinds.ps μ-all-list t) all-list.Pre
