@@ -40,7 +40,7 @@ pub record PassedBinary (layout : List ℕ) (vars : Bodies) (row : ℕ) (o : Bin
   pub passed : Derived (HoldsIn layout) vars e cur operand
   pub passed-other : Derived (HoldsIn layout) vars f cur other
   pub half : binaryBody o operand other ≡ ok b
-  pub holds : HoldsIn layout (entry row cur b (binarySecond o b))
+  pub holds : HoldsIn layout (entry row cur b (binarySecond o operand other b))
 
 pub record PassedLazy (layout : List ℕ) (vars : Bodies) (e f : Expression) (cur b : Body) : Type 0 where
   pub first : Derived (HoldsIn layout) vars e cur boolean

@@ -149,7 +149,7 @@ pub record BinaryRow (layout : List ℕ) (o : Binary) (row a b : ℕ) (c d g : B
   pub half : binaryBody o c d ≡ ok g
   pub first-at : getD layout (2 * a) 0 ≡ size c
   pub other-at : getD layout (2 * b) 0 ≡ size d
-  pub second-at : getD layout (2 * row + 1) 0 ≡ binarySecond o g
+  pub second-at : getD layout (2 * row + 1) 0 ≡ binarySecond o c d g
   pub small : size c ≤ body-cells
   pub small-other : size d ≤ body-cells
 

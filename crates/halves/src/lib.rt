@@ -40,7 +40,7 @@ pub fn unary_half(o: UnaryOperation, x: [u8; 96]) -> Typed
 pub fn binary_half(o: BinaryOperation, x: [u8; 96], y: [u8; 96]) -> Typed
     requires { ⌜ Held x ⌝ }
     requires { ⌜ Held y ⌝ }
-    ensures { λ r. ⌜ ((b c : Body) → Holds x b → Holds y c → Half r (binaryBody (binaryMeaning o) b c) (λ d. binarySecond (binaryMeaning o) d)) ⌝ }
+    ensures { λ r. ⌜ ((b c : Body) → Holds x b → Holds y c → Half r (binaryBody (binaryMeaning o) b c) (λ d. binarySecond (binaryMeaning o) b c d)) ⌝ }
 {
     match o {
         BinaryOperation::Add => numbers(NUMBER, x, y),

@@ -7,7 +7,7 @@ use Prim.Native.Nat.{ℕ, _+_, _-_, _%_}
 use lib.Dec.{eqb, ltb, leb}
 use lib.ListN.{getD, drop}
 use Rattle.lingua.specs.Numbers.{attribute-numbers, most-variables, most-types, most-expressions, most-instructions, most-limits, declaration-section, type-section, expression-section, instruction-section, limit-section}
-use Rattle.lingua.specs.Errors.{last-error}
+use Rattle.lingua.specs.Errors.{isError}
 use Rattle.lingua.specs.Outcome.{if_then_else_}
 use Rattle.lingua.specs.Value.{inRange, isCharacter, allOf}
 use Rattle.lingua.specs.Operation.{Unary, negation, make-record, select, make-list, top, pop, Binary, add, subtract, multiply, divide, less, equal, glue, expand, change, push}
@@ -157,5 +157,5 @@ unfoldable pub constantWrong : File → List ℕ → Bool
 constantWrong profile rows =
     not (everyBelow (tableCount rows type-section) (λ r. attributesFit (typeAttributes (typeRow rows r)))
     && everyBelow (tableCount rows expression-section) (λ r. constantFits rows (rowIn rows expression-section r) && attributesFit (expressionAttributes (expressionRow rows r)))
-    && everyBelow (tableCount rows instruction-section) (λ r. allOf (λ n. between 1 last-error n) (handledErrors (instructionRow rows r))))
+    && everyBelow (tableCount rows instruction-section) (λ r. allOf isError (handledErrors (instructionRow rows r))))
 constantWrong limits rows = false

@@ -8,7 +8,7 @@ use native.Mathlib.Omega.{arith}
 use lib.Dec.{eqb, ltb, leb}
 use borrow.Author.Tests.{ltb-true, leb-true, not-false}
 use Rattle.lingua.specs.Numbers.{attribute-numbers, most-variables, most-types, most-expressions, most-instructions, declaration-section, type-section, expression-section, instruction-section}
-use Rattle.lingua.specs.Errors.{last-error, record-expected}
+use Rattle.lingua.specs.Errors.{isError, record-expected}
 use Rattle.lingua.specs.Outcome.{Outcome, ok, fail, Result, isOk, if_then_else_}
 use Rattle.lingua.specs.Body.{Body, boolean, number, word, tooLarge, size, nodes, depth, width}
 use Rattle.lingua.specs.Operation.{bounded, unaryBody, binaryBody}
@@ -53,7 +53,7 @@ abbrev expressionsFit : List ℕ → Bool
 expressionsFit rows = everyBelow (tableCount rows expression-section) (λ r. constantFits rows (rowIn rows expression-section r) && attributesFit (expressionAttributes (expressionRow rows r)))
 
 abbrev errorsFit : List ℕ → Bool
-errorsFit rows = everyBelow (tableCount rows instruction-section) (λ r. allOf (λ n. between 1 last-error n) (handledErrors (instructionRow rows r)))
+errorsFit rows = everyBelow (tableCount rows instruction-section) (λ r. allOf isError (handledErrors (instructionRow rows r)))
 
 abbrev declarationsRefer : List ℕ → Bool
 declarationsRefer rows = everyBelow (pairCount rows declaration-section) (λ d. declarationRefers rows d)
@@ -106,12 +106,11 @@ module _ (rows : List ℕ) (right : constantWrong profile rows ≡ false) where
       (below-true (tableCount rows expression-section) (λ j. constantFits rows (rowIn rows expression-section j) && attributesFit (expressionAttributes (expressionRow rows j)))
       (and-right (typesFit rows) (expressionsFit rows) (and-left (typesFit rows && expressionsFit rows) (errorsFit rows) nine)) r l)
 
-  pub handled-errors : (r : ℕ) → r < tableCount rows instruction-section → Every (λ n. Between 1 last-error n) (handledErrors (instructionRow rows r))
+  pub handled-errors : (r : ℕ) → r < tableCount rows instruction-section → Every (λ n. isError n ≡ true) (handledErrors (instructionRow rows r))
   handled-errors r l =
-      every-implies (λ n e. between-is 1 last-error n e)
-      (all-true (λ n. between 1 last-error n) (handledErrors (instructionRow rows r))
-      (below-true (tableCount rows instruction-section) (λ j. allOf (λ n. between 1 last-error n) (handledErrors (instructionRow rows j)))
-      (and-right (typesFit rows && expressionsFit rows) (errorsFit rows) nine) r l))
+      all-true isError (handledErrors (instructionRow rows r))
+      (below-true (tableCount rows instruction-section) (λ j. allOf isError (handledErrors (instructionRow rows j)))
+      (and-right (typesFit rows && expressionsFit rows) (errorsFit rows) nine) r l)
 
 -- ---- 10
 module _ (rows : List ℕ) (right : referenceWrong rows ≡ false) where

@@ -5,7 +5,7 @@ use mathlib.Core.Bool.{Bool, true, false, Bool·beq}
 use mathlib.Core.List.{List, [], _∷_, _++_}
 use Prim.Native.Nat.{ℕ, zero, suc, _<_}
 use Rattle.lingua.specs.Numbers.{declaration-section, expression-section, instruction-section}
-use Rattle.lingua.specs.Errors.{last-error}
+use Rattle.lingua.specs.Errors.{isError}
 use Rattle.lingua.specs.Value.{Composite}
 use Rattle.lingua.specs.Expression.{Expression, settledBy, constant, variable, current, unary, binary, lazy, choice, all-list, Instruction, skip, assign, set-yoke, sequence, branch, loop, handle}
 use Rattle.lingua.specs.Operations.{unaryMeaning, binaryMeaning}
@@ -20,7 +20,7 @@ use Rattle.profile.specs.declared.row.ExpressionRow.{ExpressionRow as Co
 use Rattle.profile.specs.declared.row.InstructionRow.the-variants as does
 use Rattle.profile.specs.declared.row.InstructionRow.{InstructionRow as CodeInstruction}
 use Rattle.profile.specs.Row.{connective, rowMeaning, constantOf, RowSays, instructionMeaning}
-use Rattle.profile.specs.Accepted.{Between, expression-operands, expression-variables, instruction-parts, instruction-variables, handled-errors}
+use Rattle.profile.specs.Accepted.{expression-operands, expression-variables, instruction-parts, instruction-variables, handled-errors}
 use Rattle.profile.specs.Constants.{ConstantRow, constant-row-is}
 use Rattle.profile.specs.Unrolled.{lower-is, expression-unrolled, instruction-unrolled}
 
@@ -107,12 +107,12 @@ InstructionFacts rows r (does.SetYoke n y) = (n < pairCount rows declaration-sec
 InstructionFacts rows r (does.Sequence i j) = (i < r) × (j < r)
 InstructionFacts rows r (does.Branch e i j) = (e < tableCount rows expression-section) × (i < r) × (j < r)
 InstructionFacts rows r (does.Loop e i) = (e < tableCount rows expression-section) × (i < r)
-InstructionFacts rows r (does.Handle n i) = Between 1 last-error n × (i < r)
+InstructionFacts rows r (does.Handle n i) = (isError n ≡ true) × (i < r)
 
 instruction-by : (rows : List ℕ) (r : ℕ) (c : CodeInstruction) → Every (λ a. a < r) (parts (instructionMeaning c))
     → Every (λ n. n < pairCount rows declaration-section) (instructionVariables (instructionMeaning c))
     → Every (λ k. k < tableCount rows expression-section) (evaluated (instructionMeaning c) ++ yokeSet (instructionMeaning c))
-    → Every (λ n. Between 1 last-error n) (handledErrors (instructionMeaning c)) → InstructionFacts rows r c
+    → Every (λ n. isError n ≡ true) (handledErrors (instructionMeaning c)) → InstructionFacts rows r c
 unfolding InstructionFacts instructionMeaning parts instructionVariables evaluated yokeSet handledErrors
 instruction-by rows r does.Skip p v e h = tt
 instruction-by rows r (does.Assign n x) p (every-more k v) (every-more l e) h = (k, l)
@@ -129,7 +129,7 @@ instruction-facts rows accepted r l c s =
     (subst (λ (e : InstructionRow). Every (λ a. a < r) (parts e)) (sym s) (instruction-parts rows (accepted .references) r l))
     (subst (λ (e : InstructionRow). Every (λ n. n < pairCount rows declaration-section) (instructionVariables e)) (sym s) (instruction-variables rows (accepted .references) r l))
     (subst (λ (e : InstructionRow). Every (λ k. k < tableCount rows expression-section) (evaluated e ++ yokeSet e)) (sym s) (instruction-roots rows accepted r l))
-    (subst (λ (e : InstructionRow). Every (λ n. Between 1 last-error n) (handledErrors e)) (sym s) (handled-errors rows (accepted .constants) r l))
+    (subst (λ (e : InstructionRow). Every (λ n. isError n ≡ true) (handledErrors e)) (sym s) (handled-errors rows (accepted .constants) r l))
 
 -- the tree by those of the parts
 unfoldable pub instructionRowTree : List ℕ → ℕ → CodeInstruction → Instruction

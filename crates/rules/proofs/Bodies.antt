@@ -12,7 +12,7 @@ use lib.ListN.{length, getD, set, replicate, length-set, length-replicate, getD-
 use lib.Seq.{getD-set-same, getD-set-other}
 use borrow.Author.Tests.{ltb-true, ne-eqb}
 use Rattle.lingua.specs.Numbers.{declaration-section, type-section, expression-section, instruction-section}
-use Rattle.lingua.specs.Errors.{record-expected, last-error}
+use Rattle.lingua.specs.Errors.{record-expected, isError}
 use Rattle.lingua.specs.Outcome.{Result, ok, fail, isOk}
 use Rattle.lingua.specs.Body.{Body}
 use Rattle.lingua.specs.Operation.{make-record, make-list, expand, unaryBody, binaryBody}
@@ -20,7 +20,7 @@ use Rattle.lingua.specs.Value.{allOf, pad}
 use Rattle.lingua.specs.Rows.{kindAt, aAt, bAt, cAt, rowIn, tableCount, pairCount, TypeRow, simple-type, list-type, record-type, expand-type, typeKind, typeRow, expressionRow, instructionRow}
 use Rattle.lingua.specs.Trees.{lower, typeBodyOf, typeBodyIn, typeBody}
 use Rattle.lingua.specs.Format.{profile, everyBelow}
-use Rattle.lingua.specs.Rules.{between, constantFits, attributesFit, typeAttributes, expressionAttributes, handledErrors, constantWrong}
+use Rattle.lingua.specs.Rules.{constantFits, attributesFit, typeAttributes, expressionAttributes, handledErrors, constantWrong}
 use Rattle.lingua.specs.References.{allBelow, typeParts, declarationRefers, expressionRefers, instructionRefers, referenceWrong}
 use Rattle.body.specs.Encode.{Holds, Held}
 use Rattle.body.specs.Typed as made
@@ -121,7 +121,7 @@ pub attributes-hold : (rows : List ℕ) → constantWrong profile rows ≡ false
 unfolding constantWrong
 attributes-hold rows h r l =
     every-at (λ r. attributesFit (typeAttributes (typeRow rows r))) (tableCount rows type-section) r
-    (first-of-three (everyBelow (tableCount rows type-section) (λ r. attributesFit (typeAttributes (typeRow rows r)))) (everyBelow (tableCount rows expression-section) (λ r. constantFits rows (rowIn rows expression-section r) && attributesFit (expressionAttributes (expressionRow rows r)))) (everyBelow (tableCount rows instruction-section) (λ r. allOf (λ n. between 1 last-error n) (handledErrors (instructionRow rows r)))) h)
+    (first-of-three (everyBelow (tableCount rows type-section) (λ r. attributesFit (typeAttributes (typeRow rows r)))) (everyBelow (tableCount rows expression-section) (λ r. constantFits rows (rowIn rows expression-section r) && attributesFit (expressionAttributes (expressionRow rows r)))) (everyBelow (tableCount rows instruction-section) (λ r. allOf isError (handledErrors (instructionRow rows r)))) h)
     l
 
 pub parts-hold : (rows : List ℕ) → referenceWrong rows ≡ false → (r : ℕ) → r < tableCount rows type-section → allBelow r (typeParts (typeRow rows r)) ≡ true

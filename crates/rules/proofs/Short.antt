@@ -4,14 +4,15 @@ use mathlib.Core.Bool.{Bool, true, false, _&&_, and-true, and-assoc}
 use mathlib.Core.List.{List, [], _∷_, _++_}
 use Prim.Native.Nat.{ℕ, zero, suc, _-_, _≤_, _<_}
 use native.Mathlib.Omega.{arith}
-use lib.Dec.{leb, ltb, leb·zero, leb·suc-suc}
+use lib.Dec.{leb, ltb, leb·zero}
 use lib.ListN.{take}
 use lib.Seq.{take-nil}
 use borrow.Author.Tests.{ne-eqb}
+use Rattle.lingua.specs.Errors.{isError, error-numbers}
 use Rattle.lingua.specs.Value.{allOf}
 use Rattle.lingua.specs.Rows.{yokeRoot}
-use Rattle.lingua.specs.Rules.{between}
 use Rattle.lingua.specs.References.{allBelow}
+use Rattle.laws.specs.Classes.{error-is}
 use Rattle.rules.specs.Picks.{choose}
 use Rattle.rules.specs.Types.{first, second, namedKind}
 
@@ -57,8 +58,8 @@ all-ext p q (x ∷ xs) h = ap₂ (λ (a b : Bool). a && b) (h x) (all-ext p q xs
 pub below-is : (n : ℕ) (xs : List ℕ) → allOf (λ k. leb 0 k && ltb k n) xs ≡ allBelow n xs
 below-is n xs = all-ext (λ k. leb 0 k && ltb k n) (λ k. ltb k n) xs (λ k. rw (leb·zero k))
 
-pub errors-is : (xs : List ℕ) → allOf (λ k. leb 1 k && ltb k 19) xs ≡ allOf (λ k. between 1 18 k) xs
-errors-is xs = all-ext (λ k. leb 1 k && ltb k 19) (λ k. between 1 18 k) xs (λ k. ap (λ (b : Bool). leb 1 k && b) (leb·suc-suc k 18))
+pub errors-is : (xs : List ℕ) → allOf (λ k. leb 1 k && ltb k error-numbers) xs ≡ allOf isError xs
+errors-is xs = all-ext (λ k. leb 1 k && ltb k error-numbers) isError xs (λ k. sym (error-is k))
 
 -- ---- the fields by their number
 pub choose-none : (s a b c : ℕ) → (s ≡ 1 → ⊥) → (s ≡ 2 → ⊥) → (s ≡ 3 → ⊥) → (s ≡ 4 → ⊥) → (s ≡ 5 → ⊥) → (s ≡ 6 → ⊥) → [] ≡ choose s a b c
@@ -69,8 +70,8 @@ choose-none s a b c n1 n2 n3 n4 n5 n6 = rw (ne-eqb s 1 n1, ne-eqb s 2 n2, ne-eqb
 pub within-below : (n : ℕ) {xs ys : List ℕ} {b : Bool} → ys ≡ xs → b ≡ allOf (λ k. leb 0 k && ltb k n) ys → allBelow n xs ≡ b
 within-below n {xs} {ys} {b} e h = sym (h ∙ below-is n ys ∙ ap (λ (l : List ℕ). allBelow n l) e)
 
-pub within-errors : {xs ys : List ℕ} {b : Bool} → ys ≡ xs → b ≡ allOf (λ k. leb 1 k && ltb k 19) ys → allOf (λ k. between 1 18 k) xs ≡ b
-within-errors {xs} {ys} {b} e h = sym (h ∙ errors-is ys ∙ ap (λ (l : List ℕ). allOf (λ k. between 1 18 k) l) e)
+pub within-errors : {xs ys : List ℕ} {b : Bool} → ys ≡ xs → b ≡ allOf (λ k. leb 1 k && ltb k error-numbers) ys → allOf isError xs ≡ b
+within-errors {xs} {ys} {b} e h = sym (h ∙ errors-is ys ∙ ap (λ (l : List ℕ). allOf isError l) e)
 
 pub root-more : (y : ℕ) → (y ≡ 0 → ⊥) → (y - 1) ∷ [] ≡ yokeRoot y
 unfolding yokeRoot

@@ -10,6 +10,7 @@ use crate::picks::type_attributes_of;
 use crate::tables::Table;
 use crate::tables::Tables;
 use lingua::FileKind;
+use lingua::errors::ERROR_NUMBERS;
 use lingua::sizes::ATTRIBUTE_NUMBERS;
 use lingua::sizes::HIGHEST_CHARACTER;
 use lingua::sizes::LOWEST_CHARACTER;
@@ -20,12 +21,12 @@ ghost use lib.ListN.{length};
 ghost use mir.Syntax.{w64};
 ghost use mir.Val.{toZ};
 ghost use Rattle.lingua.specs.Numbers.{type-section, expression-section, instruction-section};
-ghost use Rattle.lingua.specs.Errors.{last-error};
+ghost use Rattle.lingua.specs.Errors.{isError};
 ghost use Rattle.lingua.specs.Answers.{fileMeaning};
 ghost use Rattle.lingua.specs.Value.{inRange, allOf};
 ghost use Rattle.lingua.specs.Rows.{rowIn, tableCount, typeRow, expressionRow, instructionRow};
 ghost use Rattle.lingua.specs.Format.{profile, everyBelow};
-ghost use Rattle.lingua.specs.Rules.{between, constantFits, attributesFit, typeAttributes, expressionAttributes, handledErrors, constantWrong};
+ghost use Rattle.lingua.specs.Rules.{constantFits, attributesFit, typeAttributes, expressionAttributes, handledErrors, constantWrong};
 ghost use Rattle.rules.specs.Tables.{IsTable, AreTables};
 
 // Whether the 64 bits, read with a sign, are a number's: from -1,000,000 to 1,000,000.
@@ -91,13 +92,12 @@ fn expressions_fit(rows: &[u8], t: Table) -> bool
 
 fn handlers_fit(rows: &[u8], t: Table) -> bool
     requires { ⌜ IsTable (now rows) instruction-section t ⌝ }
-    ensures { λ r. ⌜ r ≡ everyBelow (tableCount (now (rows .entry)) instruction-section) (λ r. allOf (λ n. between 1 last-error n) (handledErrors (instructionRow (now (rows .entry)) r))) ⌝ }
+    ensures { λ r. ⌜ r ≡ everyBelow (tableCount (now (rows .entry)) instruction-section) (λ r. allOf isError (handledErrors (instructionRow (now (rows .entry)) r))) ⌝ }
 {
     let count = t.count;
     let mut r = 0;
     while r < count {
-        // a handler names 1 to 18
-        if !all_within(handled_of(rows, t, r), 1, 19) {
+        if !all_within(handled_of(rows, t, r), 1, ERROR_NUMBERS) {
             return false;
         }
         r += 1;

@@ -12,7 +12,7 @@ use lib.Dec.{eqb, ltb, leb}
 use lib.ListN.{length, getD, drop, length-take}
 use borrow.Author.Tests.{eqb-true, eqb-false, ltb-true, leb-true, le-leb, not-false, not-true}
 use Rattle.lingua.specs.Numbers.{row-bytes, word-length, most-variables, most-types, most-expressions, most-instructions, declaration-section, type-section, expression-section, instruction-section, limit-section}
-use Rattle.lingua.specs.Errors.{last-error}
+use Rattle.lingua.specs.Errors.{isError}
 use Rattle.lingua.specs.Outcome.{ok, fail, Result, isOk, if_then_else_}
 use Rattle.lingua.specs.Body.{Body, boolean, number, word, size}
 use Rattle.lingua.specs.Value.{truth, whole, text, fit-truth, fit-whole, fit-text, inRange, isCharacter, allOf, isText, Composite, composite}
@@ -181,7 +181,7 @@ module _ (rows : List ℕ) (accepted : AcceptedRows rows) where
       let p = all-three
       (everyBelow (tableCount rows type-section) (λ j. attributesFit (typeAttributes (typeRow rows j))))
       (everyBelow (tableCount rows expression-section) (λ j. constantFits rows (rowIn rows expression-section j) && attributesFit (expressionAttributes (expressionRow rows j))))
-      (everyBelow (tableCount rows instruction-section) (λ j. allOf (λ n. between 1 last-error n) (handledErrors (instructionRow rows j))))
+      (everyBelow (tableCount rows instruction-section) (λ j. allOf isError (handledErrors (instructionRow rows j))))
       (accepted .constants) in
       (p .0, p .1)
 

@@ -22,7 +22,7 @@ RowRule H vars Gives r (variable-row n) cur b = (vars n ≡ b) × H (entry r cur
 RowRule H vars Gives r current-row cur b = (cur ≡ b) × H (entry r cur b 0)
 RowRule H vars Gives r (unary-row o a) cur b = (c : Body) × Gives a cur c × (unaryBody o c ≡ ok b) × H (entry r cur b (unarySecond o c))
 RowRule H vars Gives r (binary-row o a₁ a₂) cur b =
-    (c d : Body) × Gives a₁ cur c × Gives a₂ cur d × (binaryBody o c d ≡ ok b) × H (entry r cur b (binarySecond o b))
+    (c d : Body) × Gives a₁ cur c × Gives a₂ cur d × (binaryBody o c d ≡ ok b) × H (entry r cur b (binarySecond o c d b))
 RowRule H vars Gives r (lazy-row k a₁ a₂) cur b = Gives a₁ cur boolean × Gives a₂ cur boolean × (boolean ≡ b) × H (entry r cur b 0)
 RowRule H vars Gives r (choice-row a₁ a₂ a₃) cur b = Gives a₁ cur boolean × Gives a₂ cur b × Gives a₃ cur b × H (entry r cur b 0)
 RowRule H vars Gives r (all-list-row a) cur b = (c : Body) × (elementBody cur ≡ some c) × Gives a c boolean × (boolean ≡ b) × H (entry r cur b (size c))

@@ -11,7 +11,7 @@ use lib.ListN.{length, getD}
 use lib.IntN.{ℤ}
 use borrow.Author.Tests.{eq-eqb}
 use Rattle.lingua.specs.Numbers.{cells-length, states-length, layout-length}
-use Rattle.lingua.specs.Errors.{bad-buffer, bad-reading, type-error-found, first-type-error}
+use Rattle.lingua.specs.Errors.{bad-buffer, bad-reading, type-error-found}
 use Rattle.lingua.specs.Outcome.{Outcome, ok, isOk}
 use Rattle.lingua.specs.Run.{lastState}
 use Rattle.lingua.specs.Typing.{TypeError, Entry, checkProfile, layoutOf}
@@ -25,7 +25,7 @@ use Rattle.lingua.specs.declared.RunAnswer.{RunAnswer}
 use Rattle.laws.specs.Refusals.{lowest-skip}
 use Rattle.safety.specs.RunErrors.{RunErrors}
 use Rattle.safety.specs.Passed.{accepted-safe, rules-readings}
-use Rattle.safety.specs.Recorded.{accepted-error}
+use Rattle.safety.specs.Recorded.{NoTypeError, accepted-error}
 use Rattle.safety.specs.Memory.{HoldsValue, accepted-memory}
 
 -- ---- what the claim supposes
@@ -72,7 +72,7 @@ module _ (prof lims variables : List ℕ) (numbers : List ℤ) (budget : ℕ) (c
     pub layout-as-checked : d .layout ≡ checkCall prof lims layout .layout
     -- no type error is met, and none recorded
     pub meets : RunErrors (runMet (profileOf (rowsOf prof) (rowsOf lims)) (readingsOf variables numbers) budget)
-    pub recorded : lastState (runOf prof lims variables numbers budget) .error < first-type-error
+    pub recorded : NoTypeError (lastState (runOf prof lims variables numbers budget) .error)
     -- what is filled in either memory
     pub checked-filled : FilledHold prof lims (c .cells) (c .states)
     pub erased-filled : FilledHold prof lims (d .cells) (d .states)
