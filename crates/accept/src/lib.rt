@@ -12,7 +12,7 @@ ghost use mathlib.Core.Path.{_≡_};
 ghost use Prim.Native.Nat.{_≤_};
 ghost use lib.ListN.{length};
 ghost use Rattle.lingua.specs.Rows.{tableCount};
-ghost use Rattle.lingua.specs.Numbers.{type-section};
+ghost use Rattle.lingua.specs.Numbers.{type-section, type-bodies-length, areas-length};
 ghost use Rattle.lingua.specs.Refusal.{limitWrong};
 ghost use Rattle.laws.specs.Lowest.{lesser};
 ghost use Rattle.safety.specs.Accepted.{AcceptedRows};
@@ -45,7 +45,7 @@ fn lower(a: u8, b: u8) -> u8
 // Whether a limit is wrong; the bodies of the profile's types are left for the caller.
 fn limits_wrong(rows: &[u8], limits: &[u8], bodies: &mut [u8]) -> bool
     requires { ⌜ AcceptedRows (now rows) ⌝ }
-    requires { ⌜ length (now bodies) ≡ 3072 ⌝ }
+    requires { ⌜ length (now bodies) ≡ type-bodies-length ⌝ }
     ensures { λ r. ⌜ Agrees r (now (rows .entry)) (now (limits .entry)) (now (bodies .exit)) ⌝ }
 {
     let t = tables_of(rows);
@@ -74,9 +74,9 @@ pub fn take_pair(
     others: &mut [u8],
     bodies: &mut [u8],
 ) -> Pair
-    requires { ⌜ length (now areas) ≡ 8500 ⌝ }
-    requires { ⌜ length (now others) ≡ 8500 ⌝ }
-    requires { ⌜ length (now bodies) ≡ 3072 ⌝ }
+    requires { ⌜ length (now areas) ≡ areas-length ⌝ }
+    requires { ⌜ length (now others) ≡ areas-length ⌝ }
+    requires { ⌜ length (now bodies) ≡ type-bodies-length ⌝ }
     ensures { λ r. ⌜ PairIs r (now (profile .entry)) (now (limits .entry)) (now (areas .exit)) (now (others .exit)) (now (bodies .exit)) ⌝ }
 {
     let p = take(FileKind::Profile, profile, &mut *areas);

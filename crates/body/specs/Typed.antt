@@ -4,12 +4,12 @@ use mathlib.Core.Option.{Option, some, none}
 use Prim.Native.Nat.{ℕ, _≤_}
 use lib.Dec.{eqb}
 use lib.ListN.{replicate}
-use Rattle.lingua.specs.Numbers.{body-cells, body-nodes}
+use Rattle.lingua.specs.Numbers.{body-cells, body-nodes, body-bytes}
 use Rattle.lingua.specs.Outcome.{ok, fail, Result, if_then_else_}
 use Rattle.lingua.specs.Body.{Body, boolean, number, word, Attributes, attributesOf, attributeOffset, insertAttribute, size, nodes}
 use Rattle.lingua.specs.Operation.{Unary, negation, make-record, select, make-list, top, pop, Binary, add, subtract, multiply, divide, less, equal, glue, expand, change, push, unaryBody, binaryBody}
 use Rattle.body.specs.declared.typed.Typed.{Typed}
-use Rattle.body.specs.Encode.{encoded, body-bytes}
+use Rattle.body.specs.Encode.{encoded}
 
 -- no error, the body, its cells and the attribute's offset; or the error's number
 unfoldable pub typed : Result Body → ℕ → Typed

@@ -4,6 +4,7 @@ use crate::typed::Typed;
 use crate::typed::scalar;
 use crate::unary::make_list;
 use crate::unary::make_record;
+use lingua::sizes::BODY_BYTES;
 ghost use Prim.Native.Nat.{_≤_};
 ghost use Rattle.lingua.specs.Body.{Body};
 ghost use Rattle.body.specs.Encode.{Holds, Held};
@@ -11,7 +12,7 @@ ghost use Rattle.body.specs.Typed.{Types, typeBody, typeOffset};
 
 // Kinds 1 to 3 are simple, 4 is a list, 5 a record of one attribute and 6 one more attribute. A row that has no
 // operand is given any body in its place.
-pub fn type_body(kind: u8, n: u8, x: [u8; 96], y: [u8; 96]) -> Typed
+pub fn type_body(kind: u8, n: u8, x: [u8; BODY_BYTES], y: [u8; BODY_BYTES]) -> Typed
     requires { ⌜ (1 ≤ kind) × (kind ≤ 6) ⌝ }
     requires { ⌜ Held x ⌝ }
     requires { ⌜ Held y ⌝ }

@@ -3,6 +3,10 @@
 use crate::taken::take_run;
 use lingua::RunAnswer;
 use lingua::errors::NO_ERROR;
+use lingua::sizes::AREAS_LENGTH;
+use lingua::sizes::LIMIT_CELLS_LENGTH;
+use lingua::sizes::TYPE_BODIES_LENGTH;
+use lingua::sizes::VARIABLE_BODIES_LENGTH;
 use rules::tables::tables_of;
 use start::bodies::keep_bodies;
 use start::start;
@@ -36,8 +40,8 @@ fn checked_rows(
     let declarations = tables.declarations;
     let others = tables_of(limits);
     let named = others.limits;
-    let mut variables = [0u8; 1536];
-    let mut kept = [0i64; 48];
+    let mut variables = [0u8; VARIABLE_BODIES_LENGTH];
+    let mut kept = [0i64; LIMIT_CELLS_LENGTH];
     let layout = [0u16; 0];
     keep_bodies(rows, declarations, bodies, &mut variables);
     start(
@@ -76,9 +80,9 @@ pub fn run_checked(
 ) -> RunAnswer
     ensures { λ r. ⌜ runResult r (now (cells .exit)) (now (states .exit)) ≡ checkedCall (now (profile .entry)) (now (limits .entry)) (now (who .entry)) (now (numbers .entry)) budget (now (cells .entry)) (now (states .entry)) ⌝ }
 {
-    let mut areas = [0u8; 8500];
-    let mut others = [0u8; 8500];
-    let mut bodies = [0u8; 3072];
+    let mut areas = [0u8; AREAS_LENGTH];
+    let mut others = [0u8; AREAS_LENGTH];
+    let mut bodies = [0u8; TYPE_BODIES_LENGTH];
     let pair = take_run(
         profile,
         limits,

@@ -5,7 +5,10 @@ use lingua::RunAnswer;
 use lingua::errors::BAD_BUFFER;
 use lingua::errors::NO_ERROR;
 use lingua::errors::TYPE_ERROR_FOUND;
+use lingua::sizes::AREAS_LENGTH;
 use lingua::sizes::LAYOUT_LENGTH;
+use lingua::sizes::LIMIT_CELLS_LENGTH;
+use lingua::sizes::TYPE_BODIES_LENGTH;
 use rules::tables::Tables;
 use rules::tables::tables_of;
 use start::start;
@@ -43,7 +46,7 @@ fn passed_rows(
     let declarations = tables.declarations;
     let others = tables_of(limits);
     let named = others.limits;
-    let mut kept = [0i64; 48];
+    let mut kept = [0i64; LIMIT_CELLS_LENGTH];
     let bodies = [0u8; 0];
     start(
         rows,
@@ -76,7 +79,7 @@ fn copy_table(table: &[u16], layout: &mut [u16])
     ensures { λ _. ⌜ now (layout .exit) ≡ now (table .entry) ⌝ }
 {
     let mut i = 0;
-    while i < 1024 {
+    while i < LAYOUT_LENGTH {
         layout[i] = table[i];
         i += 1;
     }
@@ -100,7 +103,7 @@ fn erased_rows(
     ensures { λ r. ⌜ erasedResult r (now (cells .exit)) (now (states .exit)) (now (layout .exit)) ≡ erasedRows (now (rows .entry)) (now (limits .entry)) (now (who .entry)) (now (numbers .entry)) budget (now (cells .entry)) (now (states .entry)) (now (layout .entry)) ⌝ }
 {
     let tables = tables_of(rows);
-    let mut table = [0u16; 1024];
+    let mut table = [0u16; LAYOUT_LENGTH];
     let verdict = check_profile(rows, tables, bodies, &mut table);
     if verdict.error != NO_ERROR {
         return RunAnswer::Refused(TYPE_ERROR_FOUND);
@@ -134,9 +137,9 @@ pub fn run_erased(
     if layout.len() != LAYOUT_LENGTH {
         return RunAnswer::Refused(BAD_BUFFER);
     }
-    let mut areas = [0u8; 8500];
-    let mut others = [0u8; 8500];
-    let mut bodies = [0u8; 3072];
+    let mut areas = [0u8; AREAS_LENGTH];
+    let mut others = [0u8; AREAS_LENGTH];
+    let mut bodies = [0u8; TYPE_BODIES_LENGTH];
     let pair = take_run(
         profile,
         limits,

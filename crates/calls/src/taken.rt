@@ -10,7 +10,7 @@ use profile::agreement::reading_wrong;
 use rules::tables::tables_of;
 ghost use mathlib.Core.Path.{_≡_};
 ghost use lib.ListN.{length};
-ghost use Rattle.lingua.specs.Numbers.{type-section};
+ghost use Rattle.lingua.specs.Numbers.{type-section, areas-length, type-bodies-length};
 ghost use Rattle.lingua.specs.Rows.{tableCount};
 ghost use Rattle.lingua.specs.Refusal.{readingWrong};
 ghost use Rattle.safety.specs.Accepted.{AcceptedRows};
@@ -50,7 +50,7 @@ pub fn take_run(
     others: &mut [u8],
     bodies: &mut [u8],
 ) -> Pair
-    requires { ⌜ (length (now areas) ≡ 8500) × (length (now others) ≡ 8500) × (length (now bodies) ≡ 3072) ⌝ }
+    requires { ⌜ (length (now areas) ≡ areas-length) × (length (now others) ≡ areas-length) × (length (now bodies) ≡ type-bodies-length) ⌝ }
     ensures { λ r. ⌜ RunIs r (now (profile .entry)) (now (limits .entry)) (now (who .entry)) (now (numbers .entry)) (now (cells .entry)) (now (states .entry)) (now (areas .exit)) (now (others .exit)) (now (bodies .exit)) ⌝ }
 {
     if who.len() != numbers.len() {

@@ -6,7 +6,7 @@ use mathlib.Core.Option.{some}
 use Prim.Native.Nat.{ℕ, _*_, _≤_, _<_}
 use lib.IntN.{ℤ}
 use lib.ListN.{length, take, drop}
-use Rattle.lingua.specs.Numbers.{declaration-section, expression-section, most-variables}
+use Rattle.lingua.specs.Numbers.{declaration-section, expression-section, most-variables, body-bytes, limit-cells}
 use Rattle.lingua.specs.Errors.{no-error}
 use Rattle.lingua.specs.Outcome.{ok, fail, Result, allAnswers}
 use Rattle.lingua.specs.Body.{size, isBoolean}
@@ -19,7 +19,7 @@ use Rattle.rules.specs.Tables.{IsTable}
 use Rattle.profile.specs.Variables.{LimitAt}
 use Rattle.profile.specs.Yokes.{YokeOf}
 use Rattle.rules.specs.declared.tables.Table.{Table}
-use Rattle.body.specs.Encode.{Holds, body-bytes}
+use Rattle.body.specs.Encode.{Holds}
 use Rattle.cells.specs.Stack.{Lies, first-place}
 use Rattle.steps.specs.Reached.{Lent, Settles}
 use Rattle.checked.specs.declared.answer.Evaluated.{Evaluated}
@@ -77,8 +77,8 @@ pub record Ready (rows : List ℕ) (t : Table) (variables : List ℕ) (cells : L
 -- a store of a run, with the limits of its variables
 pub record Running (rows : List ℕ) (t : Table) (variables : List ℕ) (limits : List ℤ) (l : Lent) (vs : List Variable) : Type 0 where
   pub world : World rows t variables (l .cells) (l .states) vs
-  pub room : 3 * length vs ≤ length limits
-  pub limited : (n : ℕ) → n < length vs → LimitAt limits (3 * n) (variableAt vs n .limit)
+  pub room : limit-cells * length vs ≤ length limits
+  pub limited : (n : ℕ) → n < length vs → LimitAt limits (limit-cells * n) (variableAt vs n .limit)
   pub yokes : (n : ℕ) → n < length vs → YokeOf rows (variableAt vs n .current)
 
 -- some such store, with a variable n

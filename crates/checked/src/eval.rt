@@ -17,6 +17,7 @@ use body::walk::measure_body;
 use lingua::errors::BOOLEAN_EXPECTED;
 use lingua::errors::LIST_EXPECTED;
 use lingua::errors::NO_ERROR;
+use lingua::sizes::BODY_BYTES;
 use lingua::sizes::BODY_CELLS;
 use profile::row::ExpressionRow;
 use profile::row::expression_row;
@@ -42,7 +43,7 @@ pub fn eval(
     states: &[u16],
     row: usize,
     current: &[i64],
-    body: [u8; 96],
+    body: [u8; BODY_BYTES],
     stack: &mut [i64],
 ) -> Evaluated
     requires { ⌜ Ready (now rows) t (now variables) (now cells) (now states) (now current) body ⌝ }
@@ -156,7 +157,7 @@ fn lazy(
     a: usize,
     b: usize,
     current: &[i64],
-    body: [u8; 96],
+    body: [u8; BODY_BYTES],
     stack: &mut [i64],
 ) -> Evaluated
     requires { ⌜ Ready (now rows) t (now variables) (now cells) (now states) (now current) body ⌝ }
@@ -213,7 +214,7 @@ fn choice(
     a: usize,
     b: usize,
     current: &[i64],
-    body: [u8; 96],
+    body: [u8; BODY_BYTES],
     stack: &mut [i64],
 ) -> Evaluated
     requires { ⌜ Ready (now rows) t (now variables) (now cells) (now states) (now current) body ⌝ }
@@ -253,7 +254,7 @@ fn all(
     row: usize,
     a: usize,
     current: &[i64],
-    body: [u8; 96],
+    body: [u8; BODY_BYTES],
     stack: &mut [i64],
 ) -> Evaluated
     requires { ⌜ Ready (now rows) t (now variables) (now cells) (now states) (now current) body ⌝ }

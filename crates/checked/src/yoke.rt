@@ -6,6 +6,7 @@ use crate::eval::eval;
 use body::make::simple;
 use body::walk::BOOLEAN;
 use lingua::errors::BOOLEAN_EXPECTED;
+use lingua::sizes::BODY_BYTES;
 use rules::tables::Table;
 use steps::Truth;
 ghost use mathlib.Core.List.{List};
@@ -28,7 +29,7 @@ pub fn eval_yoke(
     states: &[u16],
     y: usize,
     current: &[i64],
-    body: [u8; 96],
+    body: [u8; BODY_BYTES],
     stack: &mut [i64],
 ) -> Evaluated
     requires { ⌜ Ready (now rows) t (now variables) (now cells) (now states) (now current) body ⌝ }

@@ -5,6 +5,7 @@ use lingua::errors::NO_ERROR;
 use lingua::errors::YOKE_NOT_SATISFIED;
 use lingua::sizes::BODY_CELLS;
 use rules::tables::Table;
+use stores::words::is_filled;
 ghost use Prim.Native.Nat.{_+_, _*_, _≤_};
 ghost use lib.ListN.{length};
 ghost use Rattle.lingua.specs.Numbers.{body-cells};
@@ -54,7 +55,7 @@ pub fn yoke_holds(
     requires { ⌜ body-cells * (y + 1) ≤ length (now stack) ⌝ }
     ensures { λ r. ⌜ AdmitsYoke (now (rows .entry)) t (now (layout .entry)) (now (cells .entry)) (now (states .entry)) n (yokeTree (now (rows .entry)) y) r ⌝ }
 {
-    if states[2 * n] == 0 {
+    if !is_filled(states, n) {
         return NO_ERROR;
     }
     let at = BODY_CELLS * n;

@@ -10,11 +10,13 @@ use lingua::ReadAnswer;
 use lingua::WriteAnswer;
 use lingua::errors::BAD_BUFFER;
 use lingua::errors::NO_ERROR;
+use lingua::sizes::AREAS_LENGTH;
 use lingua::sizes::ROW_BYTES;
 use lingua::sizes::ROWS_LENGTH;
 use rules::refusal::rows_refusal;
 ghost use mathlib.Core.Path.{_≡_};
 ghost use lib.ListN.{length};
+ghost use Rattle.lingua.specs.Numbers.{areas-length};
 ghost use Rattle.lingua.specs.Answers.{fileMeaning};
 ghost use Rattle.lingua.specs.Calls.{readCall, readResult, writeCall, writeResult};
 ghost use Rattle.format.specs.Taken.{TakenIs};
@@ -27,7 +29,7 @@ pub struct Taken {
 
 // A whole file, its rows gathered to the front of areas, which has room for those of any accepted file.
 pub fn take(kind: FileKind, file: &[u8], areas: &mut [u8]) -> Taken
-    requires { ⌜ length (now areas) ≡ 8500 ⌝ }
+    requires { ⌜ length (now areas) ≡ areas-length ⌝ }
     ensures { λ r. ⌜ TakenIs r (fileMeaning kind) (now (file .entry)) (now (areas .exit)) ⌝ }
 {
     let first = file_refusal(kind, file);
@@ -51,7 +53,7 @@ pub fn read(kind: FileKind, file: &[u8], rows: &mut [u8]) -> ReadAnswer
     if rows.len() != ROWS_LENGTH {
         return ReadAnswer::Refused(BAD_BUFFER);
     }
-    let mut areas = [0u8; 8500];
+    let mut areas = [0u8; AREAS_LENGTH];
     let taken = take(kind, file, &mut areas);
     let refusal = taken.refusal;
     if refusal != NO_ERROR {

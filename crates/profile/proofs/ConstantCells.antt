@@ -10,14 +10,14 @@ use lib.IntN.{ℤ, pos}
 use mir.Syntax.{w64}
 use mir.Val.{toZ}
 use borrow.Author.Tests.{eq-eqb, ne-eqb}
-use Rattle.lingua.specs.Numbers.{expression-section}
+use Rattle.lingua.specs.Numbers.{expression-section, body-bytes}
 use Rattle.lingua.specs.Outcome.{if_then_else_}
 use Rattle.lingua.specs.Body.{Body, boolean, number, word, size, nodes}
 use Rattle.lingua.specs.Value.{truth, whole, text, asTruth, asWhole, asText, isCharacter, isText, bit, packed, cellsOf, pad, Composite, composite}
 use Rattle.lingua.specs.Rows.{kindAt, wideAt, numberAt, bytesAt, untilZero, tableStart, rowIn, constantKind}
 use Rattle.lingua.specs.Rules.{paddedBy, constantFits}
 use Rattle.laws.specs.Sound.{fit-word}
-use Rattle.body.specs.Encode.{bytes, encoded, Holds, body-bytes}
+use Rattle.body.specs.Encode.{bytes, encoded, Holds}
 use Rattle.safety.specs.Constants.{Fitting}
 use Rattle.profile.specs.Row.{constantOf}
 use Rattle.profile.specs.Constants.{ConstantRow, IsCell}

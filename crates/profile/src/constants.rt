@@ -3,6 +3,7 @@ use body::make::simple;
 use body::walk::BOOLEAN;
 use body::walk::NUMBER;
 use body::walk::WORD;
+use lingua::sizes::BODY_BYTES;
 use rules::fields::bytes_at;
 use rules::fields::kind_at;
 use rules::fields::wide_at;
@@ -101,7 +102,7 @@ pub fn constant_cell(rows: &[u8], t: Table, r: usize) -> i64
 }
 
 // The body of row r of the expressions, a constant.
-pub fn constant_body(rows: &[u8], t: Table, r: usize) -> [u8; 96]
+pub fn constant_body(rows: &[u8], t: Table, r: usize) -> [u8; BODY_BYTES]
     requires { ⌜ IsTable (now rows) expression-section t ⌝ }
     requires { ⌜ r < t .count ⌝ }
     ensures { λ b. ⌜ Holds b (constantOf (now (rows .entry)) r .body) ⌝ }

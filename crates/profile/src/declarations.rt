@@ -1,6 +1,7 @@
 // Declarations: the type, body and yoke of variable d.
 use crate::types::type_body;
 use body::walk::NUMBER;
+use lingua::sizes::BODY_BYTES;
 use rules::fields::a_at;
 use rules::fields::b_at;
 use rules::tables::Table;
@@ -37,7 +38,7 @@ pub fn declared_yoke(rows: &[u8], t: Table, d: usize) -> usize
 }
 
 // The declared body of variable d.
-pub fn declared_body(rows: &[u8], t: Table, d: usize, bodies: &[u8]) -> [u8; 96]
+pub fn declared_body(rows: &[u8], t: Table, d: usize, bodies: &[u8]) -> [u8; BODY_BYTES]
     requires { ⌜ IsTable (now rows) declaration-section t ⌝ }
     requires { ⌜ d < t .count / 2 ⌝ }
     requires { ⌜ AcceptedRows (now rows) ⌝ }

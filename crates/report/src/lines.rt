@@ -4,6 +4,7 @@ use profile::declarations::declared_body;
 use rules::fields::bytes_at;
 use rules::tables::Table;
 use rules::tables::tables_of;
+use stores::words::is_filled;
 use text::report::put_variable_line;
 ghost use mathlib.Core.Path.{_≡_};
 ghost use Prim.Native.Nat.{_/_, _≤_, _<_};
@@ -55,7 +56,7 @@ fn put_line(
     let count = declared_cells(rows, t, d, bodies);
     let from = 64 * d;
     let to = from + count;
-    put_variable_line(out, at, name, states[2 * d] != 0, &cells[from..to])
+    put_variable_line(out, at, name, is_filled(states, d), &cells[from..to])
 }
 
 // The lines of all variables.

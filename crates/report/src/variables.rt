@@ -2,6 +2,8 @@
 use crate::lines::put_lines;
 use accept::take_pair;
 use lingua::errors::NO_ERROR;
+use lingua::sizes::AREAS_LENGTH;
+use lingua::sizes::TYPE_BODIES_LENGTH;
 ghost use mathlib.Core.Path.{_≡_};
 ghost use lib.ListN.{length};
 ghost use Rattle.lingua.specs.Numbers.{cells-length, states-length};
@@ -21,9 +23,9 @@ pub(crate) fn put_variables(
     requires { ⌜ length (now states) ≡ states-length ⌝ }
     ensures { λ r. ⌜ Appended (now (out .entry)) at (variablesText (now (profile .entry)) (now (limits .entry)) (now (cells .entry)) (now (states .entry))) (now (out .exit)) r ⌝ }
 {
-    let mut areas = [0u8; 8500];
-    let mut others = [0u8; 8500];
-    let mut bodies = [0u8; 3072];
+    let mut areas = [0u8; AREAS_LENGTH];
+    let mut others = [0u8; AREAS_LENGTH];
+    let mut bodies = [0u8; TYPE_BODIES_LENGTH];
     let pair = take_pair(profile, limits, &mut areas, &mut others, &mut bodies);
     let refusal = pair.refusal;
     if refusal != NO_ERROR {

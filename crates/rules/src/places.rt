@@ -15,7 +15,7 @@ ghost use mathlib.Core.Bool.{true, false, not, _&&_};
 ghost use Prim.Native.Nat.{_+_, _*_, _≤_, _<_};
 ghost use lib.Dec.{ltb};
 ghost use lib.ListN.{getD};
-ghost use Rattle.lingua.specs.Numbers.{declaration-section, expression-section, instruction-section};
+ghost use Rattle.lingua.specs.Numbers.{declaration-section, expression-section, instruction-section, most-expressions};
 ghost use Rattle.lingua.specs.Value.{allOf};
 ghost use Rattle.lingua.specs.Rows.{tableCount, pairCount, expressionRow, instructionRow, evaluated, yokeRoot, yokeSet};
 ghost use Rattle.lingua.specs.Trees.{expressionTree};
@@ -40,7 +40,7 @@ fn reads_itself(rows: &[u8], t: Table, r: usize, variable: bool) -> bool
 
 // Whether row a is below r and marked.
 fn is_marked(marks: &[bool; MOST_EXPRESSIONS], r: usize, a: usize) -> bool
-    requires { ⌜ r ≤ 512 ⌝ }
+    requires { ⌜ r ≤ most-expressions ⌝ }
     ensures { λ b. ⌜ b ≡ (ltb a r && getD (now (marks .entry)) a false) ⌝ }
 {
     if a < r {
@@ -50,7 +50,7 @@ fn is_marked(marks: &[bool; MOST_EXPRESSIONS], r: usize, a: usize) -> bool
 }
 
 fn none_marked(f: Few, marks: &[bool; MOST_EXPRESSIONS], r: usize) -> bool
-    requires { ⌜ r ≤ 512 ⌝ }
+    requires { ⌜ r ≤ most-expressions ⌝ }
     ensures { λ b. ⌜ b ≡ allOf (λ a. not (ltb a r && getD (now (marks .entry)) a false)) (listed f) ⌝ }
 {
     let count = f.count;
@@ -81,7 +81,7 @@ fn tree_reads(
     variable: bool,
 ) -> bool
     requires { ⌜ IsTable (now rows) expression-section t ⌝ }
-    requires { ⌜ (r < t .count) × (r ≤ 512) ⌝ }
+    requires { ⌜ (r < t .count) × (r ≤ most-expressions) ⌝ }
     requires { ⌜ Marked (now rows) variable r (now marks) ⌝ }
     ensures { λ b. ⌜ b ≡ reads variable (expressionTree (now (rows .entry)) r) ⌝ }
 {
@@ -93,7 +93,7 @@ fn tree_reads(
 
 fn readers(rows: &[u8], t: Table, variable: bool) -> [bool; MOST_EXPRESSIONS]
     requires { ⌜ IsTable (now rows) expression-section t ⌝ }
-    requires { ⌜ t .count ≤ 512 ⌝ }
+    requires { ⌜ t .count ≤ most-expressions ⌝ }
     ensures { λ marks. ⌜ Marked (now (rows .entry)) variable (tableCount (now (rows .entry)) expression-section) marks ⌝ }
 {
     let count = t.count;

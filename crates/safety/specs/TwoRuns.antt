@@ -4,15 +4,16 @@
 use mathlib.Core.Path.{_≡_, refl, sym, ap, ap₂, _∙_, subst}
 use mathlib.Core.Bool.{not, _&&_}
 use mathlib.Core.List.{List, _∷_}
-use Prim.Native.Nat.{ℕ, zero, suc, _*_, _<_}
+use Prim.Native.Nat.{ℕ, zero, suc, _<_}
 use native.Mathlib.Omega.{arith}
 use lib.Dec.{eqb}
-use lib.ListN.{length, getD}
+use lib.ListN.{length}
 use lib.IntN.{ℤ}
 use borrow.Author.Tests.{eq-eqb}
 use Rattle.lingua.specs.Numbers.{cells-length, states-length, layout-length}
 use Rattle.lingua.specs.Errors.{bad-buffer, bad-reading, type-error-found}
 use Rattle.lingua.specs.Outcome.{Outcome, ok, isOk}
+use Rattle.lingua.specs.Store.{flagAt}
 use Rattle.lingua.specs.Run.{lastState}
 use Rattle.lingua.specs.Typing.{TypeError, Entry, checkProfile, layoutOf}
 use Rattle.lingua.specs.Meets.{runMet}
@@ -46,7 +47,7 @@ pub record ListedLengths (cells : List ℤ) (states : List ℕ) (cells′ : List
 -- ---- the claim
 -- each declared variable whose flag is 1 fits, satisfies its current yoke and lies within the limits
 pub record FilledHold (prof lims : List ℕ) (cells : List ℤ) (states : List ℕ) : Type 0 where
-  pub holds : (n : ℕ) → n < length (profileOf (rowsOf prof) (rowsOf lims) .declarations) → getD states (2 * n) 0 ≡ 1 → HoldsValue (rowsOf prof) (rowsOf lims) cells states n
+  pub holds : (n : ℕ) → n < length (profileOf (rowsOf prof) (rowsOf lims) .declarations) → flagAt states n ≡ 1 → HoldsValue (rowsOf prof) (rowsOf lims) cells states n
 
 module _ (prof lims variables : List ℕ) (numbers : List ℤ) (budget : ℕ) (cells : List ℤ) (states : List ℕ) (c : RunCall) (cells′ : List ℤ) (states′ layout : List ℕ) (d : ErasedCall) where
   -- one number refuses both, and each leaves its own memory as it was

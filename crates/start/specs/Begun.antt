@@ -4,7 +4,7 @@ use mathlib.Core.List.{List, map}
 use Prim.Native.Nat.{ℕ, _*_, _<_}
 use lib.IntN.{ℤ}
 use lib.ListN.{length}
-use Rattle.lingua.specs.Numbers.{declaration-section}
+use Rattle.lingua.specs.Numbers.{declaration-section, limit-cells-length, limit-cells}
 use Rattle.lingua.specs.Rows.{pairCount}
 use Rattle.lingua.specs.Store.{Variable, variableAt, cellsIn, statesIn}
 use Rattle.lingua.specs.Run.{unfilled}
@@ -20,5 +20,5 @@ pub record Begun (rows limits : List ℕ) (kept cells : List ℤ) (states : List
   pub cells-are : cells ≡ cellsIn (startStore rows limits)
   pub states-are : states ≡ statesIn (startStore rows limits)
   pub count : length (startStore rows limits) ≡ pairCount rows declaration-section
-  pub room : length kept ≡ 48
-  pub limited : (n : ℕ) → n < length (startStore rows limits) → LimitAt kept (3 * n) (variableAt (startStore rows limits) n .limit)
+  pub room : length kept ≡ limit-cells-length
+  pub limited : (n : ℕ) → n < length (startStore rows limits) → LimitAt kept (limit-cells * n) (variableAt (startStore rows limits) n .limit)

@@ -4,7 +4,7 @@ use profile::types::keep_body;
 use rules::tables::Table;
 ghost use mathlib.Core.Path.{_≡_};
 ghost use lib.ListN.{length};
-ghost use Rattle.lingua.specs.Numbers.{declaration-section, type-section};
+ghost use Rattle.lingua.specs.Numbers.{declaration-section, type-section, variable-bodies-length};
 ghost use Rattle.lingua.specs.Rows.{tableCount, pairCount};
 ghost use Rattle.safety.specs.Accepted.{AcceptedRows};
 ghost use Rattle.rules.specs.Tables.{IsTable};
@@ -16,7 +16,7 @@ pub fn keep_bodies(rows: &[u8], t: Table, bodies: &[u8], variables: &mut [u8])
     requires { ⌜ AcceptedRows (now rows) ⌝ }
     requires { ⌜ IsTable (now rows) declaration-section t ⌝ }
     requires { ⌜ BodiesBelow (now rows) (now bodies) (tableCount (now rows) type-section) ⌝ }
-    requires { ⌜ length (now variables) ≡ 1536 ⌝ }
+    requires { ⌜ length (now variables) ≡ variable-bodies-length ⌝ }
     ensures { λ r. ⌜ BodiesKept (now (rows .entry)) (now (variables .exit)) (pairCount (now (rows .entry)) declaration-section) ⌝ }
 {
     let count = t.count / 2;

@@ -1,4 +1,5 @@
 // The cells of a store in which nothing is filled.
+use lingua::sizes::CELLS_LENGTH;
 ghost use mathlib.Core.Path.{_≡_};
 ghost use lib.ListN.{length, replicate};
 ghost use lib.IntN.{pos};
@@ -10,7 +11,7 @@ pub fn clear_cells(cells: &mut [i64])
     ensures { λ r. ⌜ now (cells .exit) ≡ replicate cells-length (pos 0) ⌝ }
 {
     let mut i = 0;
-    while i < 1024 {
+    while i < CELLS_LENGTH {
         cells[i] = 0;
         i += 1;
     }

@@ -2,7 +2,7 @@
 use rules::tables::Table;
 ghost use mathlib.Core.Path.{_≡_};
 ghost use lib.ListN.{length};
-ghost use Rattle.lingua.specs.Numbers.{declaration-section, limit-section, cells-length, states-length};
+ghost use Rattle.lingua.specs.Numbers.{declaration-section, limit-section, cells-length, states-length, limit-cells-length};
 ghost use Rattle.safety.specs.Accepted.{AcceptedRows};
 ghost use Rattle.rules.specs.Tables.{IsTable};
 ghost use Rattle.start.specs.Begun.{Begun};
@@ -25,7 +25,7 @@ pub fn start(
     requires { ⌜ AcceptedRows (now rows) ⌝ }
     requires { ⌜ IsTable (now rows) declaration-section t ⌝ }
     requires { ⌜ IsTable (now limits) limit-section u ⌝ }
-    requires { ⌜ length (now kept) ≡ 48 ⌝ }
+    requires { ⌜ length (now kept) ≡ limit-cells-length ⌝ }
     requires { ⌜ length (now cells) ≡ cells-length ⌝ }
     requires { ⌜ length (now states) ≡ states-length ⌝ }
     ensures { λ r. ⌜ Begun (now (rows .entry)) (now (limits .entry)) (now (kept .exit)) (now (cells .exit)) (now (states .exit)) ⌝ }

@@ -1,11 +1,12 @@
 // The limits, three cells for each variable, so that a run searches for no name: whether there is one, and its two ends.
+use lingua::sizes::LIMIT_CELLS;
 use profile::limits::Limit;
 use profile::limits::variable_limit;
 use rules::tables::Table;
 ghost use mathlib.Core.Path.{_≡_};
 ghost use Prim.Native.Nat.{_+_, _*_, _≤_};
 ghost use lib.ListN.{length};
-ghost use Rattle.lingua.specs.Numbers.{declaration-section, limit-section};
+ghost use Rattle.lingua.specs.Numbers.{declaration-section, limit-section, limit-cells-length, limit-cells};
 ghost use Rattle.lingua.specs.Rows.{pairCount};
 ghost use Rattle.safety.specs.Accepted.{AcceptedRows};
 ghost use Rattle.rules.specs.Tables.{IsTable};
@@ -14,10 +15,10 @@ ghost use Rattle.start.specs.Kept.{LimitPut, LimitsKept};
 
 // The limit of variable d; without one, nothing reads its ends.
 fn keep_limit(kept: &mut [i64], d: usize, limit: Limit)
-    requires { ⌜ 3 * d + 3 ≤ length (now kept) ⌝ }
+    requires { ⌜ limit-cells * d + limit-cells ≤ length (now kept) ⌝ }
     ensures { λ r. ⌜ LimitPut (now (kept .entry)) (now (kept .exit)) d (limitMeaning limit) ⌝ }
 {
-    let at = 3 * d;
+    let at = LIMIT_CELLS * d;
     match limit {
         Limit::Within(low, high) => {
             kept[at] = 1;
@@ -35,7 +36,7 @@ pub fn keep_limits(rows: &[u8], t: Table, limits: &[u8], u: Table, kept: &mut [i
     requires { ⌜ AcceptedRows (now rows) ⌝ }
     requires { ⌜ IsTable (now rows) declaration-section t ⌝ }
     requires { ⌜ IsTable (now limits) limit-section u ⌝ }
-    requires { ⌜ length (now kept) ≡ 48 ⌝ }
+    requires { ⌜ length (now kept) ≡ limit-cells-length ⌝ }
     ensures { λ r. ⌜ LimitsKept (now (rows .entry)) (now (limits .entry)) (now (kept .exit)) (pairCount (now (rows .entry)) declaration-section) ⌝ }
 {
     let count = t.count / 2;

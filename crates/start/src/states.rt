@@ -1,6 +1,8 @@
 // The state words: no variable is filled, and each has its declared yoke.
+use lingua::sizes::STATES_LENGTH;
 use profile::declarations::declared_yoke;
 use rules::tables::Table;
+use stores::words::set_yoke;
 ghost use mathlib.Core.Path.{_≡_};
 ghost use lib.ListN.{length, replicate};
 ghost use Rattle.lingua.specs.Numbers.{declaration-section, states-length};
@@ -15,7 +17,7 @@ pub fn clear_states(states: &mut [u16])
     ensures { λ r. ⌜ now (states .exit) ≡ replicate states-length 0 ⌝ }
 {
     let mut i = 0;
-    while i < 32 {
+    while i < STATES_LENGTH {
         states[i] = 0;
         i += 1;
     }
@@ -32,7 +34,7 @@ pub fn keep_yokes(rows: &[u8], t: Table, states: &mut [u16])
     let mut d = 0;
     while d < count {
         let yoke = declared_yoke(rows, t, d);
-        states[2 * d + 1] = yoke as u16;
+        set_yoke(states, d, yoke as u16);
         d += 1;
     }
 }

@@ -5,7 +5,9 @@ use accept::take_pair;
 use lingua::CheckAnswer;
 use lingua::errors::BAD_BUFFER;
 use lingua::errors::NO_ERROR;
+use lingua::sizes::AREAS_LENGTH;
 use lingua::sizes::LAYOUT_LENGTH;
+use lingua::sizes::TYPE_BODIES_LENGTH;
 use rules::tables::tables_of;
 ghost use mathlib.Core.Path.{_≡_};
 ghost use mathlib.Core.List.{List};
@@ -38,9 +40,9 @@ pub fn check_types(profile: &[u8], limits: &[u8], layout: &mut [u16]) -> CheckAn
     if layout.len() != LAYOUT_LENGTH {
         return CheckAnswer::Refused(BAD_BUFFER);
     }
-    let mut areas = [0u8; 8500];
-    let mut others = [0u8; 8500];
-    let mut bodies = [0u8; 3072];
+    let mut areas = [0u8; AREAS_LENGTH];
+    let mut others = [0u8; AREAS_LENGTH];
+    let mut bodies = [0u8; TYPE_BODIES_LENGTH];
     let pair = take_pair(profile, limits, &mut areas, &mut others, &mut bodies);
     let refusal = pair.refusal;
     if refusal != NO_ERROR {

@@ -8,6 +8,7 @@ use body::walk::BOOLEAN;
 use lingua::errors::BOOLEAN_EXPECTED;
 use lingua::errors::NO_COHERENCE;
 use lingua::errors::YOKE_EXPECTED;
+use lingua::sizes::BODY_BYTES;
 use lingua::sizes::INSTRUCTION_PLACE;
 use profile::row::InstructionRow as Row;
 use profile::row::instruction_row;
@@ -15,7 +16,7 @@ use rules::tables::Tables;
 ghost use mathlib.Core.Path.{_≡_};
 ghost use Prim.Native.Nat.{_+_, _≤_, _<_};
 ghost use lib.ListN.{length};
-ghost use Rattle.lingua.specs.Numbers.{layout-length, declaration-section, expression-section, instruction-section};
+ghost use Rattle.lingua.specs.Numbers.{layout-length, declaration-section, expression-section, instruction-section, most-instructions};
 ghost use Rattle.lingua.specs.Body.{Body};
 ghost use Rattle.lingua.specs.Expression.{assign};
 ghost use Rattle.lingua.specs.Rows.{tableCount, pairCount};
@@ -46,7 +47,7 @@ pub fn check_yoke(
     tables: Tables,
     bodies: &[u8],
     yoke: usize,
-    current: [u8; 96],
+    current: [u8; BODY_BYTES],
     place: u16,
     layout: &mut [u16],
 ) -> Verdict
@@ -107,7 +108,7 @@ fn check_assignment(
     layout: &mut [u16],
 ) -> Verdict
     requires { ⌜ Ready (now rows) tables (now bodies) ⌝ }
-    requires { ⌜ row < 256 ⌝ }
+    requires { ⌜ row < most-instructions ⌝ }
     requires { ⌜ n < pairCount (now rows) declaration-section ⌝ }
     requires { ⌜ e < tableCount (now rows) expression-section ⌝ }
     requires { ⌜ length (now layout) ≡ layout-length ⌝ }

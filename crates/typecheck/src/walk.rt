@@ -14,6 +14,7 @@ use lingua::errors::NO_COHERENCE;
 use lingua::errors::YOKE_EXPECTED;
 use lingua::operations::BinaryOperation;
 use lingua::operations::UnaryOperation;
+use lingua::sizes::BODY_BYTES;
 use profile::constants::constant_body;
 use profile::row::ExpressionRow as Row;
 use profile::row::expression_row;
@@ -33,7 +34,7 @@ pub fn check(
     tables: Tables,
     bodies: &[u8],
     row: usize,
-    current: [u8; 96],
+    current: [u8; BODY_BYTES],
     layout: &mut [u16],
 ) -> Checked
     requires { ⌜ Asked (now rows) tables (now bodies) row current (now layout) ⌝ }
@@ -67,7 +68,7 @@ fn unary(
     row: usize,
     o: UnaryOperation,
     a: usize,
-    current: [u8; 96],
+    current: [u8; BODY_BYTES],
     layout: &mut [u16],
 ) -> Checked
     requires { ⌜ Asked (now rows) tables (now bodies) row current (now layout) ⌝ }
@@ -96,7 +97,7 @@ fn binary(
     o: BinaryOperation,
     a: usize,
     b: usize,
-    current: [u8; 96],
+    current: [u8; BODY_BYTES],
     layout: &mut [u16],
 ) -> Checked
     requires { ⌜ Asked (now rows) tables (now bodies) row current (now layout) ⌝ }
@@ -129,7 +130,7 @@ fn lazy(
     row: usize,
     a: usize,
     b: usize,
-    current: [u8; 96],
+    current: [u8; BODY_BYTES],
     layout: &mut [u16],
 ) -> Checked
     requires { ⌜ Asked (now rows) tables (now bodies) row current (now layout) ⌝ }
@@ -164,7 +165,7 @@ fn choice(
     a: usize,
     b: usize,
     c: usize,
-    current: [u8; 96],
+    current: [u8; BODY_BYTES],
     layout: &mut [u16],
 ) -> Checked
     requires { ⌜ Asked (now rows) tables (now bodies) row current (now layout) ⌝ }
@@ -202,7 +203,7 @@ fn all_list(
     bodies: &[u8],
     row: usize,
     a: usize,
-    current: [u8; 96],
+    current: [u8; BODY_BYTES],
     layout: &mut [u16],
 ) -> Checked
     requires { ⌜ Asked (now rows) tables (now bodies) row current (now layout) ⌝ }
