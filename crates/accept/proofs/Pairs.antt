@@ -7,7 +7,7 @@ use native.Mathlib.Omega.{arith}
 use lib.Dec.{eqb, ltb}
 use lib.ListN.{length, take}
 use borrow.Author.Tests.{eq-eqb, ne-eqb, lt-ltb, le-ltb}
-use Rattle.lingua.specs.Numbers.{type-section}
+use Rattle.lingua.specs.Numbers.{declaration-section, type-section, limit-section}
 use Rattle.lingua.specs.Errors.{models-differ, bad-limit}
 use Rattle.lingua.specs.Outcome.{if_then_else_}
 use Rattle.lingua.specs.Value.{allOf}
@@ -18,11 +18,12 @@ use Rattle.laws.specs.Refusals.{lowest-nil, lowest-skip, lowest-first, Decides,
 use Rattle.laws.specs.Lowest.{lesser, lowest-append}
 use Rattle.safety.specs.Accepted.{AcceptedRows, accepted-rows}
 use Rattle.format.proofs.Returns.{none-of-either, header-there}
-use Rattle.format.specs.Taken.{TakenIs}
+use Rattle.format.specs.Taken.{RowsTaken, TakenIs}
 use Rattle.format.specs.declared.Taken.{Taken}
-use Rattle.profile.specs.Types.{BodiesBelow}
+use Rattle.rules.specs.Tables.{IsTable}
+use Rattle.rules.specs.Types.{BodiesBelow}
 use Rattle.accept.specs.declared.Pair.{Pair}
-use Rattle.accept.specs.Pair.{Agrees, TakenPair, PairIs}
+use Rattle.accept.specs.Pair.{PairIs}
 
 -- ---- the lower of two refusals
 pub lower-first : (a b : ℕ) → (a ≡ 0 → ⊥) → b ≡ 0 → a ≡ lesser a b
@@ -111,24 +112,30 @@ module _ (prof lims : List ℕ) (p l : ℕ) (hp : p ≡ lowest (wholeFileRules p
   pair-fine z e w = sym (past-models z e ∙ lowest-skip bad-limit _ [] w ∙ lowest-nil)
 
 -- ---- the ways in which both files are taken
-pub pair-refused : (t : Pair) (n : ℕ) (prof lims areas others bodies : List ℕ) → (t .refusal ≡ n) × (t .rows ≡ 0) → n ≡ lowest (pairRules prof lims) → (n ≡ 0 → ⊥) → PairIs t prof lims areas others bodies
-pair-refused t n prof lims areas others bodies e l h = record { refusal = e .0 ∙ l; taken = λ z. absurd (h (sym (e .0) ∙ z)) }
+pub pair-refused : (t : Pair) (n : ℕ) (prof lims areas others bodies : List ℕ) → t .refusal ≡ n → n ≡ lowest (pairRules prof lims) → (n ≡ 0 → ⊥) → PairIs t prof lims areas others bodies
+pair-refused t n prof lims areas others bodies e l h = record { refusal = e ∙ l; taken = λ z. absurd (h (sym e ∙ z)) }
 
 accepted-file : (prof : List ℕ) → lowest (rowRules profile (rowsOf prof)) ≡ 0 → AcceptedRows (rowsOf prof)
 accepted-file prof e = accepted-rows (rowsOf prof) [] (ap lowest (append-nil (rowRules profile (rowsOf prof))) ∙ e)
 
-module _ (p l : Taken) (prof lims areas others : List ℕ) (hp : TakenIs p profile prof areas) (hl : TakenIs l limits lims others) (z : lesser (p .refusal) (l .refusal) ≡ 0) where
+module _ (p l : Taken) (prof lims areas others bodies front : List ℕ) (hp : TakenIs p profile prof areas bodies) (hl : TakenIs l limits lims others front) (z : lesser (p .refusal) (l .refusal) ≡ 0) where
   none-p : p .refusal ≡ 0
   none-p = none-of-two (p .refusal) (l .refusal) z .0
 
   none-l : l .refusal ≡ 0
   none-l = none-of-two (p .refusal) (l .refusal) z .1
 
+  abbrev tp : RowsTaken p profile prof areas bodies
+  tp = hp .taken none-p
+
+  abbrev tl : RowsTaken l limits lims others front
+  tl = hl .taken none-l
+
   pub rows-within : p .length ≤ length areas
-  rows-within = hp .within none-p
+  rows-within = tp .within
 
   pub limits-within : l .length ≤ length others
-  limits-within = hl .within none-l
+  limits-within = tl .within
 
   pub profile-header : 8 ≤ length prof
   profile-header = header-there profile prof (none-of-either profile prof (sym none-p ∙ hp .refusal) .0)
@@ -136,27 +143,39 @@ module _ (p l : Taken) (prof lims areas others : List ℕ) (hp : TakenIs p profi
   pub limits-header : 8 ≤ length lims
   limits-header = header-there limits lims (none-of-either limits lims (sym none-l ∙ hl .refusal) .0)
 
+  -- what rule 15 is asked of
   pub rows-accepted : AcceptedRows (take (p .length) areas)
   rows-accepted =
-      subst (λ (rows : List ℕ). AcceptedRows rows) (sym (hp .rows none-p))
+      subst (λ (rows : List ℕ). AcceptedRows rows) (sym (tp .rows))
       (accepted-file prof (none-of-either profile prof (sym none-p ∙ hp .refusal) .1))
 
-  module _ (bodies : List ℕ) (r : Bool) (agrees : Agrees r (take (p .length) areas) (take (l .length) others) bodies) (models : modelOf prof ≡ modelOf lims) where
+  pub declarations-there : IsTable (take (p .length) areas) declaration-section (p .tables .declarations)
+  declarations-there = subst (λ (rows : List ℕ). IsTable rows declaration-section (p .tables .declarations)) (sym (tp .rows)) (tp .tables .declarations)
+
+  pub named-there : IsTable (take (l .length) others) limit-section (l .tables .limits)
+  named-there = subst (λ (rows : List ℕ). IsTable rows limit-section (l .tables .limits)) (sym (tl .rows)) (tl .tables .limits)
+
+  pub bodies-there : BodiesBelow (take (p .length) areas) bodies (tableCount (take (p .length) areas) type-section)
+  bodies-there = subst (λ (rows : List ℕ). BodiesBelow rows bodies (tableCount rows type-section)) (sym (tp .rows)) (tp .held refl)
+
+  module _ (r : Bool) (wrong : r ≡ limitWrong (take (p .length) areas) (take (l .length) others)) (models : modelOf prof ≡ modelOf lims) where
     wrong-is : r ≡ limitWrong (rowsOf prof) (rowsOf lims)
-    wrong-is = agrees .wrong ∙ ap₂ limitWrong (hp .rows none-p) (hl .rows none-l)
+    wrong-is = wrong ∙ ap₂ limitWrong (tp .rows) (tl .rows)
 
     pub pair-wrong : r ≡ true → bad-limit ≡ lowest (pairRules prof lims)
     pair-wrong e = pair-limits prof lims (p .refusal) (l .refusal) (hp .refusal) (hl .refusal) z models (sym wrong-is ∙ e)
 
-    pub pair-done : r ≡ false → PairIs (record { refusal = 0; rows = p .length; limits = l .length }) prof lims areas others bodies
+    pub pair-done : r ≡ false → PairIs (record { refusal = 0; rows = p .length; limits = l .length; tables = p .tables; named = l .tables .limits }) prof lims areas others bodies
     pair-done e =
         record {
           refusal = pair-fine prof lims (p .refusal) (l .refusal) (hp .refusal) (hl .refusal) z models (sym wrong-is ∙ e);
           taken = λ k. record {
-            rows = hp .rows none-p;
-            within = hp .within none-p;
-            limits = hl .rows none-l;
-            within-others = hl .within none-l;
-            held = subst (λ (rows : List ℕ). BodiesBelow rows bodies (tableCount rows type-section)) (hp .rows none-p) (agrees .held);
+            rows = tp .rows;
+            within = tp .within;
+            tables = tp .tables;
+            limits = tl .rows;
+            within-others = tl .within;
+            named = tl .tables .limits;
+            held = tp .held refl;
           };
         }

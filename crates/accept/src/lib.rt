@@ -6,24 +6,21 @@ use lingua::errors::BAD_LIMIT;
 use lingua::errors::MODELS_DIFFER;
 use lingua::errors::NO_ERROR;
 use profile::agreement::limit_wrong;
-use profile::types::type_bodies;
-use rules::tables::tables_of;
+use rules::tables::Table;
+use rules::tables::Tables;
+use rules::tables::no_tables;
 ghost use mathlib.Core.Path.{_≡_};
-ghost use Prim.Native.Nat.{_≤_};
-ghost use lib.ListN.{length};
-ghost use Rattle.lingua.specs.Rows.{tableCount};
-ghost use Rattle.lingua.specs.Numbers.{type-section};
-ghost use Rattle.lingua.specs.Refusal.{limitWrong};
 ghost use Rattle.laws.specs.Lowest.{lesser};
-ghost use Rattle.safety.specs.Accepted.{AcceptedRows};
-ghost use Rattle.profile.specs.Types.{BodiesBelow};
-ghost use Rattle.accept.specs.Pair.{PairIs, Agrees};
+ghost use Rattle.accept.specs.Pair.{Room, PairIs};
 
-// The lowest rule of both files, 0 where none applies; then their rows are so many bytes.
+// The lowest rule of both files, 0 where none applies; then their rows are so many bytes, the profile's in these tables, and the limits in
+// this one.
 pub struct Pair {
     pub refusal: u8,
     pub rows: usize,
     pub limits: usize,
+    pub tables: Tables,
+    pub named: Table,
 }
 
 // The lower of two refusals, where 0 is none.
@@ -42,31 +39,22 @@ fn lower(a: u8, b: u8) -> u8
     b
 }
 
-// Whether a limit is wrong; the bodies of the profile's types are left for the caller.
-fn limits_wrong(rows: &[u8], limits: &[u8], bodies: &mut [u8]) -> bool
-    requires { ⌜ AcceptedRows (now rows) ⌝ }
-    requires { ⌜ length (now bodies) ≡ 3072 ⌝ }
-    ensures { λ r. ⌜ Agrees r (now (rows .entry)) (now (limits .entry)) (now (bodies .exit)) ⌝ }
+// A refused pair has no rows.
+pub fn refused(number: u8) -> Pair
+    ensures { λ r. ⌜ r .refusal ≡ number ⌝ }
 {
-    let t = tables_of(rows);
-    let types = t.types;
-    let declarations = t.declarations;
-    let u = tables_of(limits);
-    let named = u.limits;
-    type_bodies(rows, types, &mut *bodies);
-    limit_wrong(rows, declarations, bodies, limits, named)
-}
-
-fn refused(number: u8) -> Pair
-    ensures { λ r. ⌜ (r .refusal ≡ number) × (r .rows ≡ 0) ⌝ }
-{
+    let tables = no_tables();
+    let named = tables.limits;
     Pair {
         refusal: number,
         rows: 0,
         limits: 0,
+        tables: tables,
+        named: named,
     }
 }
 
+// The profile comes last: the bodies that stay are those of its types.
 pub fn take_pair(
     profile: &[u8],
     limits: &[u8],
@@ -74,13 +62,11 @@ pub fn take_pair(
     others: &mut [u8],
     bodies: &mut [u8],
 ) -> Pair
-    requires { ⌜ length (now areas) ≡ 8500 ⌝ }
-    requires { ⌜ length (now others) ≡ 8500 ⌝ }
-    requires { ⌜ length (now bodies) ≡ 3072 ⌝ }
+    requires { ⌜ Room (now areas) (now others) (now bodies) ⌝ }
     ensures { λ r. ⌜ PairIs r (now (profile .entry)) (now (limits .entry)) (now (areas .exit)) (now (others .exit)) (now (bodies .exit)) ⌝ }
 {
-    let p = take(FileKind::Profile, profile, &mut *areas);
-    let l = take(FileKind::Limits, limits, &mut *others);
+    let l = take(FileKind::Limits, limits, &mut *others, &mut *bodies);
+    let p = take(FileKind::Profile, profile, &mut *areas, &mut *bodies);
     let own = lower(p.refusal, l.refusal);
     if own != NO_ERROR {
         return refused(own);
@@ -90,12 +76,18 @@ pub fn take_pair(
     }
     let n = p.length;
     let m = l.length;
-    if limits_wrong(&areas[..n], &others[..m], &mut *bodies) {
+    let tables = p.tables;
+    let declarations = tables.declarations;
+    let others_tables = l.tables;
+    let named = others_tables.limits;
+    if limit_wrong(&areas[..n], declarations, bodies, &others[..m], named) {
         return refused(BAD_LIMIT);
     }
     Pair {
         refusal: NO_ERROR,
         rows: n,
         limits: m,
+        tables: tables,
+        named: named,
     }
 }

@@ -13,5 +13,4 @@ pub mod Halves
 pub mod Bounds
 pub mod Selecting
 pub mod Expanding
-pub mod Choices
 pub mod Results

@@ -4,6 +4,5 @@ pub mod find;
 pub mod make;
 pub mod parts;
 pub mod typed;
-pub mod types;
 pub mod unary;
 pub mod walk;

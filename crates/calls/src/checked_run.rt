@@ -3,24 +3,29 @@
 use crate::taken::take_run;
 use lingua::RunAnswer;
 use lingua::errors::NO_ERROR;
-use rules::tables::tables_of;
+use lingua::sizes::AREA_BYTES;
+use rules::tables::Table;
+use rules::tables::Tables;
 use start::bodies::keep_bodies;
 use start::start;
 use walk::run::run;
 use walk::way::Way;
 ghost use mathlib.Core.Path.{_≡_};
-ghost use Rattle.lingua.specs.Numbers.{type-section};
+ghost use Rattle.lingua.specs.Numbers.{type-section, limit-section};
 ghost use Rattle.lingua.specs.Rows.{tableCount};
 ghost use Rattle.lingua.specs.Run.{run as meaning};
 ghost use Rattle.lingua.specs.Trees.{profileOf};
 ghost use Rattle.lingua.specs.Calls.{readingsOf, ran, runResult, checkedCall};
-ghost use Rattle.profile.specs.Types.{BodiesBelow};
+ghost use Rattle.rules.specs.Tables.{IsTable, AreTables};
+ghost use Rattle.rules.specs.Types.{BodiesBelow};
 ghost use Rattle.calls.specs.Ways.{Startable};
 
 // The run of accepted rows, with the declared bodies and no layout table.
 fn checked_rows(
     rows: &[u8],
+    tables: Tables,
     limits: &[u8],
+    named: Table,
     bodies: &[u8],
     who: &[u16],
     numbers: &[i64],
@@ -29,13 +34,11 @@ fn checked_rows(
     states: &mut [u16],
 ) -> RunAnswer
     requires { ⌜ Startable (now rows) (now who) (now numbers) (now cells) (now states) ⌝ }
+    requires { ⌜ AreTables (now rows) tables × IsTable (now limits) limit-section named ⌝ }
     requires { ⌜ BodiesBelow (now rows) (now bodies) (tableCount (now rows) type-section) ⌝ }
     ensures { λ r. ⌜ runResult r (now (cells .exit)) (now (states .exit)) ≡ ran budget (meaning (profileOf (now (rows .entry)) (now (limits .entry))) (readingsOf (now (who .entry)) (now (numbers .entry))) budget) ⌝ }
 {
-    let tables = tables_of(rows);
     let declarations = tables.declarations;
-    let others = tables_of(limits);
-    let named = others.limits;
     let mut variables = [0u8; 1536];
     let mut kept = [0i64; 48];
     let layout = [0u16; 0];
@@ -77,7 +80,7 @@ pub fn run_checked(
     ensures { λ r. ⌜ runResult r (now (cells .exit)) (now (states .exit)) ≡ checkedCall (now (profile .entry)) (now (limits .entry)) (now (who .entry)) (now (numbers .entry)) budget (now (cells .entry)) (now (states .entry)) ⌝ }
 {
     let mut areas = [0u8; 8500];
-    let mut others = [0u8; 8500];
+    let mut others = [0u8; AREA_BYTES];
     let mut bodies = [0u8; 3072];
     let pair = take_run(
         profile,
@@ -96,9 +99,13 @@ pub fn run_checked(
     }
     let n = pair.rows;
     let m = pair.limits;
+    let tables = pair.tables;
+    let named = pair.named;
     checked_rows(
         &areas[..n],
+        tables,
         &others[..m],
+        named,
         &bodies,
         who,
         numbers,

@@ -18,7 +18,7 @@ use Rattle.lingua.specs.Run.{Declaration}
 use Rattle.lingua.specs.Store.{Variable}
 use Rattle.lingua.specs.Trees.{expressionTree, yokeTree}
 use Rattle.lingua.specs.Typing.{Bodies, unarySecond, binarySecond}
-use Rattle.profile.specs.Accepted.{counts}
+use Rattle.rules.specs.Accepted.{counts}
 use Rattle.safety.specs.Checked.{entry}
 use Rattle.safety.specs.Derivation.{Derived, of-constant, of-variable, of-current, of-unary, of-binary, of-lazy, of-choice, of-all-list}
 use Rattle.safety.specs.Layout.{HoldsIn}

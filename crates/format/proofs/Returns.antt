@@ -1,5 +1,5 @@
 -- The ways in which the reader and the writer end, each by the rules that were asked. Assumes nothing.
-use mathlib.Core.Path.{_≡_, refl, sym, ap, ap₂, _∙_}
+use mathlib.Core.Path.{_≡_, refl, sym, ap, ap₂, _∙_, subst}
 use mathlib.Core.Bool.{Bool, true, false, not, _&&_}
 use mathlib.Core.List.{List, [], _∷_, _++_}
 use Prim.Native.Nat.{ℕ, zero, suc, _*_, _%_, _≤_}
@@ -8,10 +8,10 @@ use lib.Dec.{eqb}
 use lib.ListN.{length, take}
 use lib.Seq.{length-take-le}
 use borrow.Author.Tests.{eq-eqb, ne-eqb}
-use Rattle.lingua.specs.Numbers.{row-bytes, rows-length, area-bytes}
+use Rattle.lingua.specs.Numbers.{row-bytes, rows-length, area-bytes, type-section}
 use Rattle.lingua.specs.Errors.{bad-buffer}
 use Rattle.lingua.specs.Value.{allOf, pad}
-use Rattle.lingua.specs.Rows.{rowCount}
+use Rattle.lingua.specs.Rows.{rowCount, tableCount}
 use Rattle.lingua.specs.Format.{File, profile, limits, blockCount, blocksFor, modelOf, rowsOf, fileOf, fileLength}
 use Rattle.lingua.specs.Refusal.{lowest, fileRules, rowRules, wholeFileRules, readRefusal, writeRefusal}
 use Rattle.lingua.specs.Answers.{readMeaning, writeMeaning}
@@ -20,7 +20,10 @@ use Rattle.lingua.specs.declared.WriteAnswer.the-variants as write-answer
 use Rattle.lingua.specs.Calls.{readUnless, readCall, readResult, writeUnless, writeCall, writeResult}
 use Rattle.laws.specs.Files.{blocks-few, file-passes, length-whole, limits-one, profile-some}
 use Rattle.blocks.specs.Blocks.{Gathered}
-use Rattle.format.specs.Taken.{TakenIs}
+use Rattle.rules.specs.Tables.{AreTables}
+use Rattle.rules.specs.Types.{BodiesBelow}
+use Rattle.rules.specs.Refusals.{Judged}
+use Rattle.format.specs.Taken.{roomFor, TakenIs}
 use Rattle.format.specs.declared.Taken.{Taken}
 use Rattle.laws.specs.Accepted.{accepted-rows}
 use Rattle.laws.specs.Areas.{count-rows}
@@ -133,18 +136,34 @@ module _ (f : File) (model : ℕ) (rows buffer : List ℕ) (tens : length rows %
   write-done out e p = rw (write-refusal-is 0 e, p)
 
 -- ---- taking a file whole
-pub taken-by-file : (f : File) (file areas : List ℕ) (n : ℕ) → n ≡ lowest (fileRules f file) → (n ≡ 0 → ⊥) → TakenIs (record { refusal = n; length = 0 }) f file areas
-taken-by-file f file areas n e h =
-    record { refusal = by-file f file n e h; rows = λ z. absurd (h z); within = λ z. absurd (h z) }
+pub taken-by-file : (t : Taken) (f : File) (file areas bodies : List ℕ) → t .refusal ≡ lowest (fileRules f file) → (t .refusal ≡ 0 → ⊥) → TakenIs t f file areas bodies
+taken-by-file t f file areas bodies e h =
+    record { refusal = by-file f file (t .refusal) e h; taken = λ z. absurd (h z) }
 
-pub taken-by-rows : (f : File) (file areas : List ℕ) (r n : ℕ) → lowest (fileRules f file) ≡ 0 → Gathered n areas file → r ≡ lowest (rowRules f (take n areas))
-    → TakenIs (record { refusal = r; length = n }) f file areas
-taken-by-rows f file areas r n z g e =
-    record { refusal = by-rows f file r z (e ∙ ap (λ (rows : List ℕ). lowest (rowRules f rows)) (g .rows)); rows = λ k. g .rows; within = λ k. g .inside }
+pub taken-by-rows : (t : Taken) (f : File) (file areas bodies : List ℕ) → lowest (fileRules f file) ≡ 0 → Gathered (t .length) areas file → AreTables (take (t .length) areas) (t .tables)
+    → Judged (t .refusal) f (take (t .length) areas) bodies → TakenIs t f file areas bodies
+taken-by-rows t f file areas bodies z g a e =
+    record {
+      refusal = by-rows f file (t .refusal) z (e .refusal ∙ ap (λ (rows : List ℕ). lowest (rowRules f rows)) (g .rows));
+      taken = λ k. record {
+        rows = g .rows;
+        within = g .inside;
+        tables = subst (λ (rows : List ℕ). AreTables rows (t .tables)) (g .rows) a;
+        held = λ p. subst (λ (rows : List ℕ). BodiesBelow rows bodies (tableCount rows type-section)) (g .rows) (e .held p k);
+      };
+    }
 
--- seventeen blocks' rows have room
-pub room-enough : (f : File) (file : List ℕ) (n : ℕ) → lowest (fileRules f file) ≡ 0 → n ≡ 8500 → area-bytes * blockCount file ≤ n
-room-enough f file n e l = omega (arith, blocks-few f file (file-passes f file e .sized))
+-- a limits file's one block, a profile's seventeen: their rows have room
+pub room-enough : (f : File) (file : List ℕ) (n : ℕ) → lowest (fileRules f file) ≡ 0 → roomFor f ≤ n → area-bytes * blockCount file ≤ n
+unfolding roomFor
+room-enough profile file n e l = omega (arith, blocks-few profile file (file-passes profile file e .sized))
+room-enough limits file n e l = omega (arith, limits-one file (file-passes limits file e .sized))
+
+-- room for a profile is room for both
+pub room-most : (f : File) → roomFor f ≤ 8500
+unfolding roomFor
+room-most profile = omega arith
+room-most limits = omega arith
 
 -- ---- what the reader needs of an accepted file
 pub header-there : (f : File) (file : List ℕ) → lowest (fileRules f file) ≡ 0 → 8 ≤ length file
@@ -155,14 +174,15 @@ header-there limits file e =
     let s = file-passes limits file e .sized in
     omega (arith, length-whole limits file s, limits-one file s)
 
-pub taken-length : (t : Taken) (f : File) (file areas : List ℕ) → TakenIs t f file areas → t .refusal ≡ 0 → (t .length ≡ row-bytes * rowCount (rowsOf file)) × (t .length ≤ rows-length)
-taken-length t f file areas h z =
-    let n : t .length ≡ length (rowsOf file) = sym (length-take-le (t .length) areas (h .within z)) ∙ ap length (h .rows z) in
+pub taken-length : (t : Taken) (f : File) (file areas bodies : List ℕ) → TakenIs t f file areas bodies → t .refusal ≡ 0 → (t .length ≡ row-bytes * rowCount (rowsOf file)) × (t .length ≤ rows-length)
+taken-length t f file areas bodies h z =
+    let k = h .taken z in
+    let n : t .length ≡ length (rowsOf file) = sym (length-take-le (t .length) areas (k .within)) ∙ ap length (k .rows) in
     let m : row-bytes * rowCount (rowsOf file) ≤ rows-length = accepted-rows f (rowsOf file) (none-of-either f file (sym z ∙ h .refusal) .1) in
     (n ∙ sym (count-rows file), omega (arith, count-rows file))
 
-pub rows-written : (t : Taken) (f : File) (file areas out : List ℕ) (n : ℕ) → TakenIs t f file areas → t .refusal ≡ 0 → n ≡ rows-length → out ≡ pad n 0 (take (t .length) areas) → out ≡ pad rows-length 0 (rowsOf file)
-rows-written t f file areas out n h z l e = e ∙ ap₂ (λ (k : ℕ) (rows : List ℕ). pad k 0 rows) l (h .rows z)
+pub rows-written : (t : Taken) (f : File) (file areas bodies out : List ℕ) (n : ℕ) → TakenIs t f file areas bodies → t .refusal ≡ 0 → n ≡ rows-length → out ≡ pad n 0 (take (t .length) areas) → out ≡ pad rows-length 0 (rowsOf file)
+rows-written t f file areas bodies out n h z l e = e ∙ ap₂ (λ (k : ℕ) (rows : List ℕ). pad k 0 rows) l (h .taken z .rows)
 
 -- the file of accepted rows has at most seventeen blocks
 pub file-short : (f : File) (rows : List ℕ) → lowest (rowRules f rows) ≡ 0 → fileLength f (rowCount rows) ≤ 8704

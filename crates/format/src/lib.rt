@@ -13,34 +13,44 @@ use lingua::errors::NO_ERROR;
 use lingua::sizes::ROW_BYTES;
 use lingua::sizes::ROWS_LENGTH;
 use rules::refusal::rows_refusal;
+use rules::tables::Tables;
+use rules::tables::no_tables;
+use rules::tables::tables_of;
 ghost use mathlib.Core.Path.{_≡_};
+ghost use Prim.Native.Nat.{_≤_};
 ghost use lib.ListN.{length};
 ghost use Rattle.lingua.specs.Answers.{fileMeaning};
 ghost use Rattle.lingua.specs.Calls.{readCall, readResult, writeCall, writeResult};
-ghost use Rattle.format.specs.Taken.{TakenIs};
+ghost use Rattle.format.specs.Taken.{roomFor, TakenIs};
 
-// The lowest of a file's own rules, 0 where none applies; then its rows are so many bytes.
+// The lowest of a file's own rules, 0 where none applies; then its rows are so many bytes, in these tables.
 pub struct Taken {
     pub refusal: u8,
     pub length: usize,
+    pub tables: Tables,
 }
 
-// A whole file, its rows gathered to the front of areas, which has room for those of any accepted file.
-pub fn take(kind: FileKind, file: &[u8], areas: &mut [u8]) -> Taken
-    requires { ⌜ length (now areas) ≡ 8500 ⌝ }
-    ensures { λ r. ⌜ TakenIs r (fileMeaning kind) (now (file .entry)) (now (areas .exit)) ⌝ }
+// A whole file, its rows gathered to the front of areas, which has room for those of any accepted file of its kind; and the bodies of a
+// profile's type rows.
+pub fn take(kind: FileKind, file: &[u8], areas: &mut [u8], bodies: &mut [u8]) -> Taken
+    requires { ⌜ roomFor (fileMeaning kind) ≤ length (now areas) ⌝ }
+    requires { ⌜ length (now bodies) ≡ 3072 ⌝ }
+    ensures { λ r. ⌜ TakenIs r (fileMeaning kind) (now (file .entry)) (now (areas .exit)) (now (bodies .exit)) ⌝ }
 {
     let first = file_refusal(kind, file);
     if first != NO_ERROR {
         return Taken {
             refusal: first,
             length: 0,
+            tables: no_tables(),
         };
     }
     let n = gather_rows(file, &mut *areas);
+    let tables = tables_of(&areas[..n]);
     Taken {
-        refusal: rows_refusal(kind, &areas[..n]),
+        refusal: rows_refusal(kind, &areas[..n], tables, bodies),
         length: n,
+        tables: tables,
     }
 }
 
@@ -52,7 +62,8 @@ pub fn read(kind: FileKind, file: &[u8], rows: &mut [u8]) -> ReadAnswer
         return ReadAnswer::Refused(BAD_BUFFER);
     }
     let mut areas = [0u8; 8500];
-    let taken = take(kind, file, &mut areas);
+    let mut bodies = [0u8; 3072];
+    let taken = take(kind, file, &mut areas, &mut bodies);
     let refusal = taken.refusal;
     if refusal != NO_ERROR {
         return ReadAnswer::Refused(refusal);
@@ -75,7 +86,9 @@ pub fn write(kind: FileKind, model: u16, rows: &[u8], file: &mut [u8]) -> WriteA
     if file.len() != file_length(kind, rows) {
         return WriteAnswer::Refused(BAD_BUFFER);
     }
-    let wrong = rows_refusal(kind, rows);
+    let tables = tables_of(rows);
+    let mut bodies = [0u8; 3072];
+    let wrong = rows_refusal(kind, rows, tables, &mut bodies);
     if wrong != NO_ERROR {
         return WriteAnswer::Refused(wrong);
     }

@@ -27,8 +27,8 @@ use Rattle.rules.specs.Tables.{IsTable}
 use Rattle.rules.specs.declared.tables.Table.{Table}
 use Rattle.body.specs.Encode.{Holds}
 use Rattle.body.proofs.Tags.{is-number, not-number}
-use Rattle.profile.specs.Accepted.{counts}
-use Rattle.profile.specs.Types.{bodyAt, BodiesBelow}
+use Rattle.rules.specs.Accepted.{counts}
+use Rattle.rules.specs.Types.{bodyAt, BodiesBelow}
 use Rattle.profile.specs.Variables.{DeclaredIs, limitMeaning}
 use Rattle.profile.specs.declared.limits.Limit.the-variants.{Within, Nothing}
 

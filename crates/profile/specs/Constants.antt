@@ -24,7 +24,7 @@ use Rattle.safety.specs.Forest.{ConstantHas}
 use Rattle.safety.specs.Accepted.{AcceptedRows, Plain, constant-row-fits}
 use Rattle.profile.specs.declared.row.ExpressionRow.the-variants as code
 use Rattle.profile.specs.Row.{rowMeaning, constantOf, RowSays}
-use Rattle.profile.specs.Accepted.{constant-bytes}
+use Rattle.rules.specs.Accepted.{constant-bytes}
 
 -- the one cell of a composite with a simple body
 pub record IsCell (z : ℤ) (x : Composite) : Type 0 where

@@ -20,9 +20,9 @@ use Rattle.profile.specs.declared.row.ExpressionRow.{ExpressionRow as Co
 use Rattle.profile.specs.declared.row.InstructionRow.the-variants as does
 use Rattle.profile.specs.declared.row.InstructionRow.{InstructionRow as CodeInstruction}
 use Rattle.profile.specs.Row.{connective, rowMeaning, constantOf, RowSays, instructionMeaning}
-use Rattle.profile.specs.Accepted.{Between, expression-operands, expression-variables, instruction-parts, instruction-variables, handled-errors}
+use Rattle.rules.specs.Accepted.{Between, expression-operands, expression-variables, instruction-parts, instruction-variables, handled-errors}
 use Rattle.profile.specs.Constants.{ConstantRow, constant-row-is}
-use Rattle.profile.specs.Unrolled.{lower-is, expression-unrolled, instruction-unrolled}
+use Rattle.rules.specs.Unrolled.{lower-is, expression-unrolled, instruction-unrolled}
 
 -- ---- expressions
 -- the same of an equal row

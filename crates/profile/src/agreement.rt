@@ -20,7 +20,7 @@ ghost use Rattle.lingua.specs.Trees.{nameAt};
 ghost use Rattle.lingua.specs.Refusal.{isNumberVariable, namesNumber, limitFits, limitWrong, readingWrong};
 ghost use Rattle.safety.specs.Accepted.{AcceptedRows};
 ghost use Rattle.rules.specs.Tables.{IsTable};
-ghost use Rattle.profile.specs.Types.{BodiesBelow};
+ghost use Rattle.rules.specs.Types.{BodiesBelow};
 
 fn in_range(z: i64) -> bool
     ensures { λ r. ⌜ r ≡ inRange z ⌝ }

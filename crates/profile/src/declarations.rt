@@ -1,5 +1,5 @@
 // Declarations: the type, body and yoke of variable d.
-use crate::types::type_body;
+use rules::types::type_body;
 use body::walk::NUMBER;
 use rules::fields::a_at;
 use rules::fields::b_at;
@@ -12,7 +12,7 @@ ghost use Rattle.lingua.specs.References.{declaredYoke};
 ghost use Rattle.lingua.specs.Refusal.{isNumberVariable};
 ghost use Rattle.safety.specs.Accepted.{AcceptedRows};
 ghost use Rattle.rules.specs.Tables.{IsTable};
-ghost use Rattle.profile.specs.Types.{BodiesBelow};
+ghost use Rattle.rules.specs.Types.{BodiesBelow};
 ghost use Rattle.profile.specs.Variables.{DeclaredIs};
 
 // The type row of variable d.

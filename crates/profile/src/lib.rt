@@ -4,4 +4,3 @@ pub mod constants; // constants.rt: a constant's body and cell
 pub mod declarations; // declarations.rt: a variable's body and declared yoke
 pub mod limits; // limits.rt: limits by name
 pub mod row; // row.rt: what an expression or instruction row says
-pub mod types; // types.rt: types to bodies, rule 13

@@ -19,7 +19,7 @@ use Rattle.lingua.specs.Report.{digitsIn, decimal, signedDecimal, endLine, cell
 use Rattle.safety.specs.Accepted.{length-until}
 use Rattle.safety.specs.Accepted.{AcceptedRows, accepted-pair}
 use Rattle.safety.specs.Memory.{declared-size}
-use Rattle.profile.specs.Accepted.{counts}
+use Rattle.rules.specs.Accepted.{counts}
 use Rattle.text.specs.Line.{contentOf, variableLine}
 use Rattle.report.specs.Call.{answerText}
 use Rattle.report.specs.Memory.{filledAt, bodyCells, memoryLine, memoryLines, linesUnless, variablesText}

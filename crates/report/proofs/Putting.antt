@@ -19,7 +19,7 @@ use Rattle.body.specs.Walk.{Measured}
 use Rattle.body.specs.declared.walk.Measure.{Measure}
 use Rattle.rules.specs.Tables.{IsTable}
 use Rattle.rules.specs.declared.tables.Table.{Table}
-use Rattle.profile.specs.Accepted.{counts}
+use Rattle.rules.specs.Accepted.{counts}
 use Rattle.profile.specs.Variables.{DeclaredIs}
 use Rattle.profile.proofs.Declaring.{name-place, pairs}
 use Rattle.text.specs.Appended.{Appended}

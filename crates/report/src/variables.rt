@@ -2,6 +2,7 @@
 use crate::lines::put_lines;
 use accept::take_pair;
 use lingua::errors::NO_ERROR;
+use lingua::sizes::AREA_BYTES;
 ghost use mathlib.Core.Path.{_≡_};
 ghost use lib.ListN.{length};
 ghost use Rattle.lingua.specs.Numbers.{cells-length, states-length};
@@ -22,7 +23,7 @@ pub(crate) fn put_variables(
     ensures { λ r. ⌜ Appended (now (out .entry)) at (variablesText (now (profile .entry)) (now (limits .entry)) (now (cells .entry)) (now (states .entry))) (now (out .exit)) r ⌝ }
 {
     let mut areas = [0u8; 8500];
-    let mut others = [0u8; 8500];
+    let mut others = [0u8; AREA_BYTES];
     let mut bodies = [0u8; 3072];
     let pair = take_pair(profile, limits, &mut areas, &mut others, &mut bodies);
     let refusal = pair.refusal;
@@ -30,5 +31,7 @@ pub(crate) fn put_variables(
         return at;
     }
     let n = pair.rows;
-    put_lines(&areas[..n], &bodies, cells, states, out, at)
+    let tables = pair.tables;
+    let declarations = tables.declarations;
+    put_lines(&areas[..n], declarations, &bodies, cells, states, out, at)
 }

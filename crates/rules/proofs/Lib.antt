@@ -9,4 +9,5 @@ pub mod Refers
 pub mod Usage
 pub mod Reading
 pub mod Lowest
-pub mod Bodies
+pub mod TypePlaces
+pub mod TypeRows

@@ -13,7 +13,6 @@ use Rattle.lingua.specs.Rows.{yokeRoot}
 use Rattle.lingua.specs.Rules.{between}
 use Rattle.lingua.specs.References.{allBelow}
 use Rattle.rules.specs.Picks.{choose}
-use Rattle.rules.specs.Types.{first, second, namedKind}
 
 -- ---- a test of all
 module _ (p : ℕ → Bool) (n x y z : ℕ) where
@@ -87,39 +86,3 @@ pub all-append : (p : ℕ → Bool) (xs ys : List ℕ) → allOf p (xs ++ ys) �
 unfolding allOf
 all-append p [] ys = refl
 all-append p (x ∷ xs) ys = ap (λ (b : Bool). p x && b) (all-append p xs ys) ∙ sym (and-assoc (p x) (allOf p xs) (allOf p ys))
-
--- ---- the first and the second number
-module _ (n x y z : ℕ) where
-  pub no-first : n ≡ 0 → 0 ≡ first (take n (x ∷ y ∷ z ∷ []))
-  unfolding first
-  no-first e = rw e
-
-pub some-first : (n x y z : ℕ) → (n ≡ 0 → ⊥) → x ≡ first (take n (x ∷ y ∷ z ∷ []))
-unfolding first
-some-first zero x y z h = absurd (h refl)
-some-first (suc n) x y z h = refl
-
-pub no-second : (n x y z : ℕ) → n < 2 → 0 ≡ second (take n (x ∷ y ∷ z ∷ []))
-unfolding first second
-no-second zero x y z h = refl
-no-second (suc zero) x y z h = refl
-no-second (suc (suc n)) x y z h = absurd (omega arith)
-
-pub some-second : (n x y z : ℕ) → 2 ≤ n → y ≡ second (take n (x ∷ y ∷ z ∷ []))
-unfolding first second
-some-second zero x y z h = absurd (omega arith)
-some-second (suc zero) x y z h = absurd (omega arith)
-some-second (suc (suc n)) x y z h = refl
-
--- ---- a type row's kind
-pub kind-none : (k : ℕ) → k ≡ 0 → 6 ≡ namedKind k
-unfolding namedKind
-kind-none k e = rw e
-
-pub kind-low : (k : ℕ) → (k ≡ 0 → ⊥) → k < 6 → k ≡ namedKind k
-unfolding namedKind
-kind-low k n l = rw (ne-eqb k 0 n) (omega arith)
-
-pub kind-high : (k : ℕ) → 6 ≤ k → 6 ≡ namedKind k
-unfolding namedKind
-kind-high k l = rw (ne-eqb k 0 (λ e. omega arith)) (omega arith)

@@ -3,5 +3,7 @@ pub mod Form
 pub mod Picks
 pub mod Uses
 pub mod Reads
+pub mod Unrolled
+pub mod Accepted
 pub mod Types
 pub mod Refusals

@@ -10,5 +10,5 @@ pub mod places; // places.rt: rule 12
 pub mod references; // references.rt: rule 10
 pub mod refusal; // refusal.rt: the lowest rule that applies
 pub mod tables; // tables.rt: where each section's rows stand, found in one pass
-pub mod types; // types.rt: rule 13
+pub mod types; // types.rt: rule 13, and the bodies of the type rows
 pub mod uses; // uses.rt: rule 11

@@ -22,11 +22,11 @@ use Rattle.laws.specs.Tests.{below-suc}
 use Rattle.safety.specs.Accepted.{AcceptedRows}
 use Rattle.body.specs.Encode.{Holds}
 use Rattle.body.proofs.Bytes.{length-encoded}
-use Rattle.profile.specs.Types.{bodyAt}
+use Rattle.rules.specs.Types.{bodyAt}
 use Rattle.profile.specs.Variables.{DeclaredIs, limitMeaning, LimitAt}
 use Rattle.profile.specs.declared.limits.Limit.the-variants.{Within, Nothing}
 use Rattle.profile.specs.declared.limits.Limit.{Limit as CodeLimit}
-use Rattle.profile.proofs.TypePlaces.{kept-other, kept-own}
+use Rattle.rules.proofs.TypePlaces.{kept-other, kept-own}
 use Rattle.start.specs.Begun.{startStore, Begun}
 use Rattle.start.specs.Kept.{BodiesKept, YokesKept, LimitsKept, LimitPut}
 use Rattle.start.proofs.Unfilled.{start-count, start-at, start-cells, start-states}

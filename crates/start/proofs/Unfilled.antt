@@ -22,7 +22,7 @@ use Rattle.safety.specs.Accepted.{AcceptedRows}
 use Rattle.safety.specs.Passed.{tabulated-at}
 use Rattle.rules.specs.Tables.{IsTable}
 use Rattle.rules.specs.declared.tables.Table.{Table}
-use Rattle.profile.specs.Accepted.{counts}
+use Rattle.rules.specs.Accepted.{counts}
 use Rattle.safety.specs.Named.{number-of}
 use Rattle.start.specs.Begun.{startStore}
 use Rattle.start.specs.Kept.{YokesKept}

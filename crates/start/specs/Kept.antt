@@ -8,7 +8,7 @@ use lib.ListN.{length, take, getD}
 use Rattle.lingua.specs.Numbers.{declaration-section}
 use Rattle.lingua.specs.Store.{Limit, statesIn}
 use Rattle.lingua.specs.Trees.{limitOf, nameAt}
-use Rattle.profile.specs.Types.{bodyAt}
+use Rattle.rules.specs.Types.{bodyAt}
 use Rattle.profile.specs.Variables.{DeclaredIs, LimitAt}
 use Rattle.start.specs.Begun.{startStore}
 

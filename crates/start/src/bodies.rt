@@ -1,6 +1,6 @@
 // The declared bodies, 96 bytes for each variable, so that a run finds one without its type row.
 use profile::declarations::declared_body;
-use profile::types::keep_body;
+use rules::types::keep_body;
 use rules::tables::Table;
 ghost use mathlib.Core.Path.{_≡_};
 ghost use lib.ListN.{length};
@@ -8,7 +8,7 @@ ghost use Rattle.lingua.specs.Numbers.{declaration-section, type-section};
 ghost use Rattle.lingua.specs.Rows.{tableCount, pairCount};
 ghost use Rattle.safety.specs.Accepted.{AcceptedRows};
 ghost use Rattle.rules.specs.Tables.{IsTable};
-ghost use Rattle.profile.specs.Types.{BodiesBelow};
+ghost use Rattle.rules.specs.Types.{BodiesBelow};
 ghost use Rattle.start.specs.Kept.{BodiesKept};
 
 // The body of each variable, from those of the type rows.

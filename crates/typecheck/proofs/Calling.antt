@@ -6,10 +6,9 @@ use Prim.Native.Nat.{ℕ, zero, suc}
 use lib.Dec.{eqb}
 use lib.ListN.{length, take}
 use borrow.Author.Tests.{eq-eqb, ne-eqb}
-use Rattle.lingua.specs.Numbers.{layout-length, type-section}
+use Rattle.lingua.specs.Numbers.{layout-length}
 use Rattle.lingua.specs.Errors.{bad-buffer}
 use Rattle.lingua.specs.Value.{allOf}
-use Rattle.lingua.specs.Rows.{tableCount}
 use Rattle.lingua.specs.Format.{rowsOf}
 use Rattle.lingua.specs.Refusal.{lowest, fileRules, rowRules, wholeFileRules, pairRules, checkRefusal}
 use Rattle.lingua.specs.Trees.{profileOf}
@@ -18,10 +17,10 @@ use Rattle.lingua.specs.Answers.{checkMeaning}
 use Rattle.lingua.specs.declared.CheckAnswer.the-variants as check-answer
 use Rattle.lingua.specs.Calls.{checkUnless, checkCall, checkResult}
 use Rattle.laws.specs.Refusals.{lowest-skip, lowest-first, allAbove}
-use Rattle.safety.specs.Accepted.{AcceptedRows, accepted-pair}
-use Rattle.profile.specs.Types.{BodiesBelow}
 use Rattle.accept.specs.Pair.{PairIs}
 use Rattle.accept.specs.declared.Pair.{Pair}
+use Rattle.accept.proofs.Given.{rows-accepted, tables-there, bodies-held}
+use Rattle.typecheck.specs.Check.{Ready}
 use Rattle.typecheck.specs.declared.verdicts.Verdict.{Verdict}
 use Rattle.typecheck.specs.Verdicts.{Concludes}
 use Rattle.typecheck.proofs.Answering.{verdict-passed, verdict-failed}
@@ -54,11 +53,10 @@ module _ (prof lims layout areas others bodies : List ℕ) (p : Pair) (room : le
   check-refused k = let s = some-number (p .refusal) k in call-refused prof lims layout (p .refusal) (s .0) refusal-is (s .1)
 
   module _ (z : p .refusal ≡ 0) where
-    pub rows-accepted : AcceptedRows (take (p .rows) areas)
-    rows-accepted = subst (λ (rows : List ℕ). AcceptedRows rows) (sym (h .taken z .rows)) (accepted-pair prof lims (sym (h .refusal) ∙ z))
-
-    pub bodies-held : BodiesBelow (take (p .rows) areas) bodies (tableCount (take (p .rows) areas) type-section)
-    bodies-held = subst (λ (rows : List ℕ). BodiesBelow rows bodies (tableCount rows type-section)) (sym (h .taken z .rows)) (h .taken z .held)
+    pub ready : Ready (take (p .rows) areas) (p .tables) bodies
+    ready =
+        let t = h .taken z in
+        record { accepted = rows-accepted t (sym (h .refusal) ∙ z); tables = tables-there t; types = bodies-held t }
 
     module _ (v : Verdict) (exit : List ℕ) (c : (limits : List ℕ) → Concludes v exit (checkProfile (profileOf (take (p .rows) areas) limits))) where
       concludes : Concludes v exit (checkProfile (profileOf (rowsOf prof) (rowsOf lims)))

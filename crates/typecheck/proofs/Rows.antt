@@ -12,7 +12,7 @@ use Rattle.rules.specs.declared.tables.Tables.{Tables}
 use Rattle.profile.specs.declared.row.ExpressionRow.{ExpressionRow as CodeRow}
 use Rattle.profile.specs.declared.row.InstructionRow.{InstructionRow as CodeInstruction}
 use Rattle.profile.specs.Row.{RowSays, instructionMeaning}
-use Rattle.profile.specs.Accepted.{counts}
+use Rattle.rules.specs.Accepted.{counts}
 use Rattle.profile.specs.Facts.{RowFacts, row-facts, rowTree, row-tree, InstructionFacts, instruction-facts, instructionRowTree, instruction-row-tree}
 use Rattle.body.specs.Encode.{Held}
 use Rattle.typecheck.specs.Check.{Asked}

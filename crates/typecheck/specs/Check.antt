@@ -10,7 +10,7 @@ use Rattle.lingua.specs.Typing.{TypeError, Typed, Bodies, placed}
 use Rattle.lingua.specs.Rows.{tableCount, pairCount}
 use Rattle.lingua.specs.Trees.{tabulate, bodyOr, declaredBody}
 use Rattle.safety.specs.Accepted.{AcceptedRows}
-use Rattle.profile.specs.Types.{BodiesBelow}
+use Rattle.rules.specs.Types.{BodiesBelow}
 use Rattle.rules.specs.Tables.{AreTables}
 use Rattle.rules.specs.declared.tables.Tables.{Tables}
 use Rattle.body.specs.Encode.{Holds, Held}

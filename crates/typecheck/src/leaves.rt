@@ -1,6 +1,6 @@
 // What the walk does at one row: the body of a variable, and the row's note in the layout table.
 use body::walk::measure_body;
-use profile::types::type_body;
+use rules::types::type_body;
 use rules::fields::a_at;
 use rules::tables::Tables;
 ghost use mathlib.Core.Path.{_≡_};

@@ -15,7 +15,7 @@ use Rattle.lingua.specs.declared.RunAnswer.{RunAnswer}
 use Rattle.lingua.specs.Calls.{endingOf, ran, runResult}
 use Rattle.safety.specs.Invariant.{declaredStore}
 use Rattle.safety.specs.Steps.{run-left}
-use Rattle.profile.specs.Accepted.{counts}
+use Rattle.rules.specs.Accepted.{counts}
 use Rattle.rules.specs.declared.tables.Table.{Table}
 use Rattle.rules.specs.Tables.{IsTable}
 use Rattle.steps.specs.Moments.{stateOf, progressOf}

@@ -15,7 +15,7 @@ use Rattle.lingua.specs.Trees.{expressionTree, instructionTree}
 use Rattle.safety.specs.Accepted.{AcceptedRows}
 use Rattle.rules.specs.Tables.{IsTable}
 use Rattle.rules.specs.declared.tables.Table.{Table}
-use Rattle.profile.specs.Accepted.{counts}
+use Rattle.rules.specs.Accepted.{counts}
 use Rattle.profile.specs.Yokes.{every-yoke}
 use Rattle.profile.specs.declared.row.InstructionRow.{InstructionRow}
 use Rattle.profile.specs.declared.row.InstructionRow.the-variants as does

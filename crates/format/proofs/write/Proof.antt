@@ -1,5 +1,5 @@
 -- `format::write` meets its contract: refused by its buffers, refused by the rows' rules, or carried out. Assumes nothing.
-use mathlib.Core.Path.{sym, _∙_}
+use mathlib.Core.Path.{refl, sym, _∙_}
 use native.Mathlib.Omega.{arith}
 use borrow.Author.Needs.{needs}
 use Rattle.lingua.specs.Answers.{fileMeaning}
@@ -28,18 +28,18 @@ returns-2 c =
 
 -- src/lib.rt:72:9
 rows-refusal-requires : tie.Need-rows-refusal-requires
-rows-refusal-requires c κs = search needs
+rows-refusal-requires c κs = (c .before .tables-of .ensures, refl)
 
 -- src/lib.rt:74:9
 returns-3 : tie.Need-returns-3
 returns-3 c =
-    write-refused (fileMeaning (c .before .before .before .before .before .before .before .args .kind)) _ _ _ (c .before .before .before .before .if1 .left) (c .before .before .if2 .left ∙ c .before .before .before .file-length .ensures) _ (c .before .rows-refusal .ensures) (c .if3 .taken)
+    write-refused (fileMeaning (c .before .before .before .before .before .before .before .before .before .before .args .kind)) _ _ _ (c .before .before .before .before .before .before .before .if1 .left) (c .before .before .before .before .before .if2 .left ∙ c .before .before .before .before .before .before .file-length .ensures) _ (c .before .before .rows-refusal .ensures .refusal) (c .if3 .taken)
 
 -- src/lib.rt:76:5
 write-file-requires : tie.Need-write-file-requires
 write-file-requires c κs =
-    let room = c .before .before .before .if2 .left ∙ c .before .before .before .before .file-length .ensures in
-    (room, omega (arith, file-short (fileMeaning (c .before .before .before .before .before .before .before .before .args .kind)) _ (sym (c .before .before .rows-refusal .ensures) ∙ c .before .if3 .left)))
+    let room = c .before .before .before .before .before .before .if2 .left ∙ c .before .before .before .before .before .before .before .file-length .ensures in
+    (room, omega (arith, file-short (fileMeaning (c .before .before .before .before .before .before .before .before .before .before .before .args .kind)) _ (sym (c .before .before .before .rows-refusal .ensures .refusal) ∙ c .before .if3 .left)))
 
 -- src/lib.rt:63:1
 same-length : tie.Need-same-length
@@ -48,7 +48,13 @@ same-length c = search needs
 -- src/lib.rt:63:1
 returns-4 : tie.Need-returns-4
 returns-4 c =
-    write-done (fileMeaning (c .before .before .before .before .before .before .before .before .before .before .before .args .kind)) _ _ _ (c .before .before .before .before .before .before .before .before .if1 .left) (c .before .before .before .before .before .before .if2 .left ∙ c .before .before .before .before .before .before .before .file-length .ensures) _ (sym (c .before .before .before .before .if3 .left) ∙ c .before .before .before .before .before .rows-refusal .ensures) (c .before .before .write-file .ensures)
+    write-done (fileMeaning (c .before .before .before .before .before .before .before .before .before .before .before .before .before .before .args .kind)) _ _ _ (c .before .before .before .before .before .before .before .before .before .before .before .if1 .left) (c .before .before .before .before .before .before .before .before .before .if2 .left ∙ c .before .before .before .before .before .before .before .before .before .before .file-length .ensures) _ (sym (c .before .before .before .before .if3 .left) ∙ c .before .before .before .before .before .before .rows-refusal .ensures .refusal) (c .before .before .write-file .ensures)
+
+tables-of-requires : tie.Need-tables-of-requires
+tables-of-requires c κs = search needs
+
+slice-aggregate-rows-refusal : tie.Need-slice-aggregate-rows-refusal
+slice-aggregate-rows-refusal c = search needs
 
 pub write-spec : {M : Type 1} → statement M
 write-spec =
@@ -57,6 +63,8 @@ write-spec =
     returns
     file-length-requires
     returns-2
+    tables-of-requires
+    slice-aggregate-rows-refusal
     rows-refusal-requires
     returns-3
     write-file-requires

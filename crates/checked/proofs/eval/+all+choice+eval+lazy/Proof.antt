@@ -14,7 +14,7 @@ use Rattle.lingua.specs.Evaluation.{eval as meaning}
 use Rattle.body.specs.Encode.{Holds}
 use Rattle.cells.specs.Stack.{Lies}
 use Rattle.profile.specs.Facts.{RowFacts, rowTree}
-use Rattle.profile.specs.Accepted.{expression-attributes}
+use Rattle.rules.specs.Accepted.{expression-attributes}
 use Rattle.checked.specs.Meaning.{World, Sees}
 use Rattle.checked.proofs.Giving.{gives-error, gives-as}
 use Rattle.profile.specs.Facts.{says-as}

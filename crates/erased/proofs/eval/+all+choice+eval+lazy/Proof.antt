@@ -12,7 +12,7 @@ use Rattle.lingua.specs.Run.{Declaration}
 use Rattle.lingua.specs.Store.{Variable}
 use Rattle.lingua.specs.Trees.{expressionTree}
 use Rattle.profile.specs.Facts.{RowFacts, rowTree}
-use Rattle.profile.specs.Accepted.{expression-attributes}
+use Rattle.rules.specs.Accepted.{expression-attributes}
 use Rattle.steps.specs.Reached.{Tells}
 use Rattle.erased.specs.Meaning.{allTold}
 use Rattle.erased.proofs.Telling.{sees-none}

@@ -6,7 +6,7 @@ use Rattle.profile.proofs.declarations.declared_body.Tie as tie
 use Rattle.profile.proofs.declarations.declared_body.Reads as reads
 use Rattle.profile.proofs.declarations.declared_body.Lts as lts
 use Rattle.profile.proofs.declarations.declared_type.Reads as declared-type-reads
-use Rattle.profile.proofs.types.type_body.Reads as type-body-reads
+use Rattle.rules.proofs.types.type_body.Reads as type-body-reads
 
 -- src/declarations.rt:47:9
 declared-type-requires : tie.Need-declared-type-requires

@@ -2,7 +2,7 @@
 use denote.Ref.{now}
 use native.Mathlib.Omega.{arith}
 use Rattle.lingua.specs.Typing.{checkInstruction}
-use Rattle.profile.specs.Accepted.{counts}
+use Rattle.rules.specs.Accepted.{counts}
 use Rattle.profile.specs.Facts.{InstructionFacts, instructionRowTree}
 use Rattle.typecheck.proofs.Rows.{instruction-at, instruction-tree-at}
 use Rattle.profile.specs.Yokes.{every-yoke}

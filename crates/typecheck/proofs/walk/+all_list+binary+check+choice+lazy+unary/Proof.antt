@@ -8,7 +8,7 @@ use mathlib.Core.Path.{_≡_, refl, sym, ap, _∙_}
 use lib.ListN.{length}
 use borrow.Author.Tests.{not-true, not-false}
 use Rattle.lingua.specs.Operations.{unaryMeaning}
-use Rattle.profile.specs.Accepted.{expression-attributes}
+use Rattle.rules.specs.Accepted.{expression-attributes}
 use Rattle.profile.specs.Facts.{RowFacts, rowTree}
 use Rattle.typecheck.proofs.Rows.{facts-at, tree-at, asked-below, asked-room, asked-small}
 use Rattle.typecheck.proofs.Returns.{Passed, passed, result-held, half-held, half-small, constant-passes, variable-passes, current-passes, unary-operand, unary-own, unary-passes, binary-first, binary-second, binary-own, binary-passes, lazy-first, lazy-first-own, lazy-second, lazy-second-own, lazy-passes, choice-test, choice-test-own, choice-first, choice-second, choice-own, choice-passes, all-list-own, element-of, all-list-inner, all-list-result, all-list-passes}

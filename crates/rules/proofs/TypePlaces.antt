@@ -8,7 +8,7 @@ use native.Mathlib.Omega.{arith}
 use lib.ListN.{length, take, drop, set, getD, length-drop, take-append-drop}
 use lib.Seq.{paste, paste-suc, take-at, drop-at, take-append-le, drop-append-le, take-all, drop-length, length-take-le}
 use Rattle.body.proofs.Copies.{paste-more}
-use Rattle.profile.specs.Types.{bodyAt}
+use Rattle.rules.specs.Types.{bodyAt}
 
 -- a turn of the copy to the front
 pub copy-more : (d s : List ℕ) (from j : ℕ) → j < length d → from + j < length s

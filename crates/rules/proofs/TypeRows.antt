@@ -7,20 +7,22 @@ use Prim.Native.Nat.{ℕ, zero, suc, _+_, _*_, _≤_, _<_}
 use native.Mathlib.Numerals.{add-one}
 use native.Mathlib.Omega.{arith}
 use mathlib.Core.Logic.{_⊎_, ⊎-elim}
-use lib.Dec.{eqb}
+use lib.Dec.{eqb, ltb}
 use lib.ListN.{length}
 use lib.Seq.{paste, length-paste}
-use borrow.Author.Tests.{ne-eqb}
+use borrow.Author.Tests.{ne-eqb, ltb-true}
 use Rattle.lingua.specs.Numbers.{type-section, attribute-numbers, most-types}
 use Rattle.lingua.specs.Errors.{record-expected}
 use Rattle.lingua.specs.Outcome.{ok, fail, Result, isOk, _>>=_, if_then_else_}
 use Rattle.lingua.specs.Body.{Body, boolean, number, word}
 use Rattle.lingua.specs.Operation.{make-list, make-record, expand, unaryBody, binaryBody}
+use Rattle.lingua.specs.Value.{allOf}
 use Rattle.lingua.specs.Rows.{kindAt, aAt, bAt, cAt, rowIn, tableStart, tableCount, TypeRow, simple-type, list-type, record-type, expand-type, typeKind, typeRow}
 use Rattle.lingua.specs.Trees.{lower, typeBodyOf, typeBody}
 use Rattle.lingua.specs.Format.{everyBelow}
 use Rattle.lingua.specs.Rules.{attributesFit, typeAttributes}
 use Rattle.lingua.specs.References.{typeParts, typeWrong}
+use Rattle.laws.specs.Outcomes.{and-left}
 use Rattle.laws.specs.Tests.{below-suc, every-all, every-false}
 use Rattle.safety.specs.Every.{Every, every-none, every-more, every-implies}
 use Rattle.body.specs.Encode.{Holds, Held}
@@ -28,10 +30,9 @@ use Rattle.body.specs.Typed.{Types}
 use Rattle.body.specs.declared.typed.Typed.{Typed}
 use Rattle.body.proofs.Bytes.{length-encoded}
 use Rattle.body.proofs.Results.{Gives, gives, fails}
-use Rattle.profile.specs.Types.{bodyAt, HeldAt, LooksUp, Answers, TypesReady, BodiesBelow}
-use Rattle.profile.specs.Unrolled.{lower-is, type-unrolled}
-use Rattle.profile.proofs.Decoding.{one-fits}
-use Rattle.profile.proofs.TypePlaces.{kept-other, kept-own}
+use Rattle.rules.specs.Types.{bodyAt, HeldAt, LooksUp, Answers, TypesReady, BodiesBelow}
+use Rattle.rules.specs.Unrolled.{lower-is, type-unrolled}
+use Rattle.rules.proofs.TypePlaces.{kept-other, kept-own}
 
 -- ---- a kind's row
 module _ (k a b c : ℕ) where
@@ -81,6 +82,10 @@ module _ {P : ℕ → Type 0} (row : TypeRow) where
     where
       two : Every P (a ∷ c ∷ []) → P a × P c
       two (every-more p (every-more q ps)) = (p, q)
+
+one-fits : (n : ℕ) → attributesFit (n ∷ []) ≡ true → n < attribute-numbers
+unfolding allOf
+one-fits n e = ltb-true n attribute-numbers (and-left (ltb n attribute-numbers) true e)
 
 pub attribute-record : (row : TypeRow) (n b : ℕ) → row ≡ record-type n b → attributesFit (typeAttributes row) ≡ true → n < attribute-numbers
 unfolding typeAttributes

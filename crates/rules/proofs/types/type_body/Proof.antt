@@ -6,12 +6,12 @@ use native.Mathlib.Omega.{arith}
 use borrow.Author.Needs.{needs}
 use lib.ListN.{length, getD, set, drop, replicate, length-set}
 use lib.Seq.{paste, paste-zero}
-use Rattle.profile.specs.Types.{bodyAt}
-use Rattle.profile.proofs.TypePlaces.{copy-more, copied}
-use Rattle.profile.proofs.types.type_body.Statement.{statement}
-use Rattle.profile.proofs.types.type_body.Tie as tie
-use Rattle.profile.proofs.types.type_body.Reads as reads
-use Rattle.profile.proofs.types.type_body.Lts as lts
+use Rattle.rules.specs.Types.{bodyAt}
+use Rattle.rules.proofs.TypePlaces.{copy-more, copied}
+use Rattle.rules.proofs.types.type_body.Statement.{statement}
+use Rattle.rules.proofs.types.type_body.Tie as tie
+use Rattle.rules.proofs.types.type_body.Reads as reads
+use Rattle.rules.proofs.types.type_body.Lts as lts
 
 abbrev Inv-loop : tie.InvT-loop
 Inv-loop bodies r from out₀ i₀ out i = (i ≤ 96) × (out ≡ paste out₀ 0 (drop from bodies) i) × (length out ≡ 96)

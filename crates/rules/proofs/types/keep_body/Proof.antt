@@ -6,11 +6,11 @@ use native.Mathlib.Omega.{arith}
 use borrow.Author.Needs.{needs}
 use lib.ListN.{length, getD, set, length-set}
 use lib.Seq.{paste, paste-zero}
-use Rattle.profile.proofs.TypePlaces.{store-more}
-use Rattle.profile.proofs.types.keep_body.Statement.{statement}
-use Rattle.profile.proofs.types.keep_body.Tie as tie
-use Rattle.profile.proofs.types.keep_body.Reads as reads
-use Rattle.profile.proofs.types.keep_body.Lts as lts
+use Rattle.rules.proofs.TypePlaces.{store-more}
+use Rattle.rules.proofs.types.keep_body.Statement.{statement}
+use Rattle.rules.proofs.types.keep_body.Tie as tie
+use Rattle.rules.proofs.types.keep_body.Reads as reads
+use Rattle.rules.proofs.types.keep_body.Lts as lts
 
 abbrev Inv-loop : tie.InvT-loop
 Inv-loop bodies₀ r body at i₀ bodies i = (i ≤ 96) × (bodies ≡ paste bodies₀ at body i) × (length bodies ≡ length bodies₀)

@@ -1,16 +1,16 @@
 -- `row_body` meets its contract: the rows that it names are lower, and their bodies stand in the array. Assumes nothing.
 use native.Mathlib.Omega.{arith}
-use Rattle.profile.proofs.TypeRows.{row-attributes, row-parts, row-answers}
+use Rattle.rules.proofs.TypeRows.{row-attributes, row-parts, row-answers}
 use borrow.Author.Needs.{needs}
-use Rattle.profile.proofs.types.row_body.Statement.{statement}
-use Rattle.profile.proofs.types.row_body.Tie as tie
-use Rattle.profile.proofs.types.row_body.Reads as reads
-use Rattle.profile.proofs.types.row_body.Lts as lts
-use Rattle.profile.proofs.types.kind_body.Reads as kind-body-reads
+use Rattle.rules.proofs.types.row_body.Statement.{statement}
+use Rattle.rules.proofs.types.row_body.Tie as tie
+use Rattle.rules.proofs.types.row_body.Reads as reads
+use Rattle.rules.proofs.types.row_body.Lts as lts
+use Rattle.rules.proofs.types.kind_body.Reads as kind-body-reads
 use Rattle.rules.proofs.fields.a_at.Reads as a-at-reads
 use Rattle.rules.proofs.fields.b_at.Reads as b-at-reads
 use Rattle.rules.proofs.fields.c_at.Reads as c-at-reads
 use Rattle.rules.proofs.fields.kind_at.Reads as kind-at-reads
 
 -- src/types.rt:92:13
 add-i : tie.Need-add-i

@@ -4,17 +4,17 @@ use Rattle.lingua.specs.Body.{boolean, number, word}
 use Rattle.lingua.specs.Rows.{typeKind}
 use Rattle.body.specs.Typed.{simpleOf, binaryOffset}
 use Rattle.lingua.specs.Operation.{expand}
-use Rattle.profile.proofs.TypeRows.{kind-boolean, kind-number, kind-word, kind-list, kind-record, kind-expand, part-list, part-record, parts-expand, attribute-record, attribute-expand, held-is, answers-simple, answers-list, answers-record, answers-expand}
+use Rattle.rules.proofs.TypeRows.{kind-boolean, kind-number, kind-word, kind-list, kind-record, kind-expand, part-list, part-record, parts-expand, attribute-record, attribute-expand, held-is, answers-simple, answers-list, answers-record, answers-expand}
 use borrow.Author.Needs.{needs}
-use Rattle.profile.proofs.types.kind_body.Statement.{statement}
-use Rattle.profile.proofs.types.kind_body.Tie as tie
-use Rattle.profile.proofs.types.kind_body.Reads as reads
-use Rattle.profile.proofs.types.kind_body.Lts as lts
+use Rattle.rules.proofs.types.kind_body.Statement.{statement}
+use Rattle.rules.proofs.types.kind_body.Tie as tie
+use Rattle.rules.proofs.types.kind_body.Reads as reads
+use Rattle.rules.proofs.types.kind_body.Lts as lts
 use Rattle.body.proofs.binary.expand.Reads as expand-reads
 use Rattle.body.proofs.typed.scalar.Reads as scalar-reads
 use Rattle.body.proofs.unary.make_list.Reads as make-list-reads
 use Rattle.body.proofs.unary.make_record.Reads as make-record-reads
-use Rattle.profile.proofs.types.type_body.Reads as type-body-reads
+use Rattle.rules.proofs.types.type_body.Reads as type-body-reads
 
 -- src/types.rt:66:9
 scalar-requires : tie.Need-scalar-requires
