@@ -4,3 +4,4 @@ pub mod Packing
 pub mod ConstantCells
 pub mod Declaring
 pub mod Agreeing
+pub mod Finding

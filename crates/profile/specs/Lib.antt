@@ -3,3 +3,4 @@ pub mod Constants
 pub mod Facts
 pub mod Variables
 pub mod Yokes
+pub mod Find

@@ -23,7 +23,7 @@ use Rattle.lingua.specs.Typing.{joined}
 use Rattle.lingua.specs.Rows.{kindAt, aAt, bAt, cAt, wideAt, numberAt, bytesAt, untilZero, sectionAt, rowCount, rowIn, tableCount, pairCount, detailRow, typeRow, ExpressionRow, constant-row, constantKind, expressionKind, expressionRow, InstructionRow, skip-row, assign-row, set-yoke-row, sequence-row, branch-row, loop-row, handle-row, operands, instructionRow, parts, evaluated, yokeRoot, yokeSet}
 use Rattle.lingua.specs.Trees.{tabulate, typeBody, expressionTree, yokeTree, instructionOf, instructionIn, instructionTree, declaredBody, bodyOr, declarationAt, profileOf}
 use Rattle.lingua.specs.Format.{profile, everyBelow, allZero, rowsOf}
-use Rattle.lingua.specs.Rules.{usedBytes, sectionBelongs, bytesFit, rowFits, ascending, paired, formWrong, between, countWrong, paddedBy, constantFits, attributesFit, expressionAttributes, typeAttributes, handledErrors, constantWrong}
+use Rattle.lingua.specs.Rules.{usedBytes, sectionBelongs, bytesFit, rowFits, ascending, paired, formWrong, between, countWrong, nameWrong, paddedBy, constantFits, attributesFit, expressionAttributes, typeAttributes, handledErrors, constantWrong}
 use Rattle.lingua.specs.References.{allBelow, declaredYoke, declarationRefers, expressionRefers, instructionRefers, instructionVariables, typeParts, referenceWrong, occurrences, expressionUses, instructionUses, useWrong, yokeRoots, plainRoots, readsVariable, readsCurrent, placeWrong, typeWrong}
 use Rattle.lingua.specs.Refusal.{Rule, rule, lowest, fileRules, rowRules, wholeFileRules, pairRules}
 use Rattle.laws.specs.Outcomes.{false-is-true, and-left, and-right, and-both}
@@ -43,6 +43,7 @@ none-applies n b rs p e = lowest-none n b rs (ltb-true 0 n p) e
 pub record AcceptedRows (rows : List ℕ) : Type 0 where
   pub form : formWrong profile rows ≡ false
   pub counts : countWrong profile rows ≡ false
+  pub names : nameWrong profile rows ≡ false
   pub constants : constantWrong profile rows ≡ false
   pub references : referenceWrong rows ≡ false
   pub uses : useWrong rows ≡ false
@@ -60,7 +61,7 @@ accepted-rows rows rest e =
     let uses = none-applies _ _ _ refl (references .1) in
     let places = none-applies _ _ _ refl (uses .1) in
     let types = none-applies _ _ _ refl (places .1) in
-    record { form = form .0; counts = counts .0; constants = constants .0; references = references .0; uses = uses .0; places = places .0; types = types .0 }
+    record { form = form .0; counts = counts .0; names = names .0; constants = constants .0; references = references .0; uses = uses .0; places = places .0; types = types .0 }
 
 -- both files whole
 pub accepted-pair : (prof lims : List ℕ) → lowest (pairRules prof lims) ≡ 0 → AcceptedRows (rowsOf prof)

@@ -1,16 +1,15 @@
-// The cells of a store in which nothing is filled.
+// Cells in which nothing is filled.
 ghost use mathlib.Core.Path.{_≡_};
 ghost use lib.ListN.{length, replicate};
 ghost use lib.IntN.{pos};
-ghost use Rattle.lingua.specs.Numbers.{cells-length};
 
 // What an earlier run left does not stay.
 pub fn clear_cells(cells: &mut [i64])
-    requires { ⌜ length (now cells) ≡ cells-length ⌝ }
-    ensures { λ r. ⌜ now (cells .exit) ≡ replicate cells-length (pos 0) ⌝ }
+    ensures { λ r. ⌜ now (cells .exit) ≡ replicate (length (now (cells .entry))) (pos 0) ⌝ }
 {
+    let n = cells.len();
     let mut i = 0;
-    while i < 1024 {
+    while i < n {
         cells[i] = 0;
         i += 1;
     }
