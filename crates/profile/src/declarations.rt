@@ -1,9 +1,9 @@
 // Declarations: the type, body and yoke of variable d.
-use rules::types::type_body;
 use body::walk::NUMBER;
 use rules::fields::a_at;
 use rules::fields::b_at;
 use rules::tables::Table;
+use rules::types::type_body;
 ghost use mathlib.Core.Path.{_≡_};
 ghost use Prim.Native.Nat.{_/_, _<_};
 ghost use Rattle.lingua.specs.Numbers.{declaration-section, type-section};

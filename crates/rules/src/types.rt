@@ -1,4 +1,9 @@
 // Rule 13 and the bodies of type rows, in a flat array of 96 bytes for each.
+use crate::fields::a_at;
+use crate::fields::b_at;
+use crate::fields::c_at;
+use crate::fields::kind_at;
+use crate::tables::Table;
 use body::binary::expand;
 use body::typed::Typed;
 use body::typed::scalar;
@@ -7,11 +12,6 @@ use body::unary::make_record;
 use body::walk::BOOLEAN;
 use body::walk::NUMBER;
 use body::walk::WORD;
-use crate::fields::a_at;
-use crate::fields::b_at;
-use crate::fields::c_at;
-use crate::fields::kind_at;
-use crate::tables::Table;
 ghost use mathlib.Core.Path.{_≡_};
 ghost use mathlib.Core.Bool.{true, false};
 ghost use Prim.Native.Nat.{ℕ, _+_, _*_, _<_, _≤_};

@@ -125,8 +125,7 @@ within-own kept d l h =
     let a = set kept (3 * d) (pos 1) in
     let b = set a (3 * d + 1) (l .low) in
     let la = length-set kept (3 * d) (pos 1) in
-    let lb = length-set a (3 * d + 1) (l .low) in
-    (
+    let lb = length-set a (3 * d + 1) (l .low) in (
       getD-set-other b (3 * d + 2) (3 * d) (l .high) (pos 0) (λ e. omega arith)
           ∙ getD-set-other a (3 * d + 1) (3 * d) (l .low) (pos 0) (λ e. omega arith)
           ∙ getD-set-same kept (3 * d) (pos 1) (pos 0) (omega arith),

@@ -1,7 +1,7 @@
 // The declared bodies, 96 bytes for each variable, so that a run finds one without its type row.
 use profile::declarations::declared_body;
-use rules::types::keep_body;
 use rules::tables::Table;
+use rules::types::keep_body;
 ghost use mathlib.Core.Path.{_≡_};
 ghost use lib.ListN.{length};
 ghost use Rattle.lingua.specs.Numbers.{declaration-section, type-section};

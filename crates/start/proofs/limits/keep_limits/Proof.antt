@@ -27,9 +27,16 @@ sub-l : tie.Need-sub-l Inv-loop μ-loop
 sub-l c = omega arith
 
 keep-limit-requires : tie.Need-keep-limit-requires Inv-loop μ-loop
-keep-limit-requires c κs = (c .before .before .before .before .before .before .before .before .before .pre .0, ((c .before .before .before .before .before .before .before .before .before .pre .1 .0, c .before .before .before .before .before .before .before .before .before .pre .1 .1 .0), (
-  omega arith,
-  subst (λ (k : ℕ). LimitsFrom (now (c .before .before .before .before .before .before .before .before .before .args .rows)) (now (c .before .before .before .before .before .before .before .before .before .args .limits)) (c .before .before .loop .kept) k) (let e : c .before .before .loop .l ≡ c .before .before .loop .l - 1 + 1 = omega arith in e) (c .before .before .loop .inv .1))))
+keep-limit-requires c κs = (
+  c .before .before .before .before .before .before .before .before .before .pre .0,
+  (
+    (c .before .before .before .before .before .before .before .before .before .pre .1 .0, c .before .before .before .before .before .before .before .before .before .pre .1 .1 .0),
+    (
+      omega arith,
+      subst (λ (k : ℕ). LimitsFrom (now (c .before .before .before .before .before .before .before .before .before .args .rows)) (now (c .before .before .before .before .before .before .before .before .before .args .limits)) (c .before .before .loop .kept) k) (let e : c .before .before .loop .l ≡ c .before .before .loop .l - 1 + 1 = omega arith in e) (c .before .before .loop .inv .1),
+    ),
+  ),
+)
 
 loop-less : tie.Need-loop-less Inv-loop μ-loop
 loop-less c = omega arith
