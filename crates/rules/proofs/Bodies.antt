@@ -1,26 +1,26 @@
 -- Bodies of type rows, made from the lowest row up: what the code makes of a row's kind, attribute and parts is the row's body.
 -- Carried by the fuel of type bodies not mattering. Assumes nothing.
 use mathlib.Core.Path.{_≡_, refl, sym, ap, ap₂, _∙_, subst}
-use mathlib.Core.Bool.{true, false, _&&_}
+use mathlib.Core.Bool.{Bool, true, false, _&&_}
 use mathlib.Core.List.{List, [], _∷_}
 use mathlib.Core.Logic.{⊎-elim}
-use Prim.Native.Nat.{ℕ, zero, suc, _+_, _≤_, _<_, min}
+use Prim.Native.Nat.{ℕ, zero, suc, _+_, _≤_, _<_}
 use native.Mathlib.Nat.{not-suc-le-zero}
 use native.Mathlib.Omega.{arith}
 use lib.Dec.{ltb}
 use lib.ListN.{length, getD, set, replicate, length-set, length-replicate, getD-replicate}
 use lib.Seq.{getD-set-same, getD-set-other}
-use borrow.Author.Tests.{ltb-true, ne-eqb}
+use borrow.Author.Tests.{ltb-true, ne-eqb, le-ltb}
 use Rattle.lingua.specs.Numbers.{declaration-section, type-section, expression-section, instruction-section}
 use Rattle.lingua.specs.Errors.{record-expected, last-error}
-use Rattle.lingua.specs.Outcome.{Result, ok, fail, isOk}
-use Rattle.lingua.specs.Body.{Body}
+use Rattle.lingua.specs.Outcome.{Result, ok, fail, isOk, if_then_else_}
+use Rattle.lingua.specs.Body.{Body, boolean}
 use Rattle.lingua.specs.Operation.{make-record, make-list, expand, unaryBody, binaryBody}
 use Rattle.lingua.specs.Value.{allOf, pad}
-use Rattle.lingua.specs.Rows.{kindAt, aAt, bAt, cAt, rowIn, tableCount, pairCount, TypeRow, simple-type, list-type, record-type, expand-type, typeKind, typeRow, expressionRow, instructionRow}
+use Rattle.lingua.specs.Rows.{kindAt, rowIn, tableCount, pairCount, numbered, said, TypeRow, simple-type, list-type, record-type, expand-type, unknown-type, typeKinds, typeAt, typeRow, expressionRow, instructionRow}
 use Rattle.lingua.specs.Trees.{lower, typeBodyOf, typeBodyIn, typeBody}
 use Rattle.lingua.specs.Format.{profile, everyBelow}
-use Rattle.lingua.specs.Rules.{between, constantFits, attributesFit, typeAttributes, expressionAttributes, handledErrors, constantWrong}
+use Rattle.lingua.specs.Rules.{between, rowConstantFits, attributesFit, typeAttributes, expressionAttributes, handledErrors, constantWrong}
 use Rattle.lingua.specs.References.{allBelow, typeParts, declarationRefers, expressionRefers, instructionRefers, referenceWrong}
 use Rattle.body.specs.Encode.{Holds, Held}
 use Rattle.body.specs.Typed as made
@@ -32,7 +32,6 @@ use Rattle.rules.specs.Types.{first, second, namedKind}
 use Rattle.rules.specs.declared.tables.Table.{Table}
 use Rattle.rules.proofs.Counting.{order}
 use Rattle.rules.proofs.Every.{every-at, and-left, and-right, second-true, first-of-three}
-use Rattle.rules.proofs.Choices.{cases, clamped, typeOfKind, type-is, type-clamped}
 use Rattle.rules.proofs.Reading.{lower-same}
 
 -- ---- the body of a row, by those that it names
@@ -55,6 +54,7 @@ rowBody (simple-type s) b c = ok s
 rowBody (list-type a) b c = unaryBody make-list b
 rowBody (record-type n a) b c = unaryBody (make-record n) b
 rowBody (expand-type a n d) b c = binaryBody (expand n) b c
+rowBody unknown-type b c = ok boolean
 
 -- ---- bodies that were made
 pub record Made (rows : List ℕ) (bodies : List (List ℕ)) (k : ℕ) : Type 0 where
@@ -95,33 +95,46 @@ turn rows bodies r k (expand-type a n d) h =
     let m : Made rows bodies a = k .made a (ltb-true a r e) in
     let p : Made rows bodies d = k .made d (ltb-true d r f) in
     record { left = m .body; right = p .body; holds-left = m .holds; holds-right = p .holds; is = rw (looked rows bodies r a e m, looked rows bodies r d f p) }
+turn rows bodies r k unknown-type h =
+    record { left = k .held 0 (omega arith) .body; right = k .held 0 (omega arith) .body; holds-left = k .held 0 (omega arith) .holds; holds-right = k .held 0 (omega arith) .holds; is = refl }
 
 -- ---- the code's kind and attribute are the row's
-named-high : (k : ℕ) → 6 < k → namedKind k ≡ namedKind 6
-unfolding namedKind
-named-high k l = rw (ne-eqb k 0 (λ e. omega arith)) (omega arith)
-
-named-clamped : (k : ℕ) → namedKind k ≡ namedKind (min k 6)
-named-clamped k = clamped namedKind 6 k (named-high k)
-
 pub named-range : (k : ℕ) → (1 ≤ namedKind k) × (namedKind k ≤ 6)
 unfolding namedKind
 named-range zero = omega arith
-named-range (suc k) = rw (ne-eqb (suc k) 0 (λ e. omega arith)) (omega arith)
+named-range (suc k) = rw (ne-eqb (suc k) 0 (λ e. omega arith)) (by (ltb (suc k) 7) refl)
+  where
+    by : (t : Bool) → ltb (suc k) 7 ≡ t → (1 ≤ (if t then suc k else 1)) × ((if t then suc k else 1) ≤ 6)
+    by true e = let l : suc k < 7 = ltb-true (suc k) 7 e in omega arith
+    by false e = omega arith
+
+-- what kind k says at row i
+kindSays : ℕ → List ℕ → ℕ → TypeRow
+kindSays k rows i = said unknown-type (numbered k typeKinds) rows i
+
+code-kind : (k : ℕ) (rows : List ℕ) (i : ℕ) (b c : Body) → made.typeBody (namedKind k) (first (typeAttributes (kindSays k rows i))) b c ≡ rowBody (kindSays k rows i) b c
+unfolding made.typeBody simpleOf namedKind first typeAttributes kindSays said numbered typeKinds rowBody
+code-kind zero rows i b c = refl
+code-kind (suc zero) rows i b c = refl
+code-kind (suc (suc zero)) rows i b c = refl
+code-kind (suc (suc (suc zero))) rows i b c = refl
+code-kind (suc (suc (suc (suc zero)))) rows i b c = refl
+code-kind (suc (suc (suc (suc (suc zero))))) rows i b c = refl
+code-kind (suc (suc (suc (suc (suc (suc zero)))))) rows i b c = refl
+code-kind (suc (suc (suc (suc (suc (suc (suc k))))))) rows i b c =
+    let n : ℕ = suc (suc (suc (suc (suc (suc (suc k)))))) in
+    rw (ne-eqb n 0 (λ e. omega arith), le-ltb n 7 (omega arith), ne-eqb n 1 (λ e. omega arith), ne-eqb n 2 (λ e. omega arith), ne-eqb n 3 (λ e. omega arith), ne-eqb n 4 (λ e. omega arith), ne-eqb n 5 (λ e. omega arith), ne-eqb n 6 (λ e. omega arith))
 
 code-body : (rows : List ℕ) (t : Table) (r : ℕ) → IsTable rows type-section t → (b c : Body) → made.typeBody (namedKind (kindAt rows (t .start + r))) (first (typeAttributes (typeRow rows r))) b c ≡ rowBody (typeRow rows r) b c
-unfolding made.typeBody simpleOf namedKind first typeAttributes typeKind rowBody
-code-body rows t r h b c =
-    rw (named-clamped (kindAt rows (t .start + r)), type-is rows t r h, type-clamped rows t r h)
-    (cases (λ m. made.typeBody (namedKind m) (first (typeAttributes (typeOfKind (aAt rows (t .start + r)) (bAt rows (t .start + r)) (cAt rows (t .start + r)) m))) b c ≡ rowBody (typeOfKind (aAt rows (t .start + r)) (bAt rows (t .start + r)) (cAt rows (t .start + r)) m) b c) 7 (min (kindAt rows (t .start + r)) 6)
-    (refl, (refl, (refl, (refl, (refl, (refl, (refl, tt))))))) (omega arith))
+unfolding typeRow typeAt rowIn kindSays
+code-body rows t r h b c = rw (← h .start) (code-kind (kindAt rows (t .start + r)) rows (t .start + r) b c)
 
 -- ---- rules 9 and 10 bound what a type row names
 pub attributes-hold : (rows : List ℕ) → constantWrong profile rows ≡ false → (r : ℕ) → r < tableCount rows type-section → attributesFit (typeAttributes (typeRow rows r)) ≡ true
 unfolding constantWrong
 attributes-hold rows h r l =
     every-at (λ r. attributesFit (typeAttributes (typeRow rows r))) (tableCount rows type-section) r
-    (first-of-three (everyBelow (tableCount rows type-section) (λ r. attributesFit (typeAttributes (typeRow rows r)))) (everyBelow (tableCount rows expression-section) (λ r. constantFits rows (rowIn rows expression-section r) && attributesFit (expressionAttributes (expressionRow rows r)))) (everyBelow (tableCount rows instruction-section) (λ r. allOf (λ n. between 1 last-error n) (handledErrors (instructionRow rows r)))) h)
+    (first-of-three (everyBelow (tableCount rows type-section) (λ r. attributesFit (typeAttributes (typeRow rows r)))) (everyBelow (tableCount rows expression-section) (λ r. rowConstantFits (expressionRow rows r) && attributesFit (expressionAttributes (expressionRow rows r)))) (everyBelow (tableCount rows instruction-section) (λ r. allOf (λ n. between 1 last-error n) (handledErrors (instructionRow rows r)))) h)
     l
 
 pub parts-hold : (rows : List ℕ) → referenceWrong rows ≡ false → (r : ℕ) → r < tableCount rows type-section → allBelow r (typeParts (typeRow rows r)) ≡ true

@@ -2,7 +2,7 @@ pub mod Counting
 pub mod Every
 pub mod Runs
 pub mod Forms
-pub mod Choices
+pub mod Decoding
 pub mod Short
 pub mod Constant
 pub mod Refers

@@ -1,4 +1,5 @@
 pub mod Tables
+pub mod Decoded
 pub mod Form
 pub mod Picks
 pub mod Uses

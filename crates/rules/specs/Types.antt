@@ -1,7 +1,7 @@
 -- How the code reads a type row: its kind, and the numbers that it names. Assumes nothing: these are definitions.
 use mathlib.Core.List.{List, [], _∷_}
-use Prim.Native.Nat.{ℕ, min}
-use lib.Dec.{eqb}
+use Prim.Native.Nat.{ℕ}
+use lib.Dec.{eqb, ltb}
 use Rattle.lingua.specs.Outcome.{if_then_else_}
 
 -- the first and the second number of a list, 0 where there is none
@@ -13,6 +13,6 @@ unfoldable pub second : List ℕ → ℕ
 second [] = 0
 second (x ∷ xs) = first xs
 
--- what is none of 1 to 5 is 6
+-- what is none of 1 to 6 is 1
 unfoldable pub namedKind : ℕ → ℕ
-namedKind k = if eqb k 0 then 6 else min k 6
+namedKind k = if eqb k 0 then 1 else (if ltb k 7 then k else 1)

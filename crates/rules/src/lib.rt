@@ -2,10 +2,11 @@
 // test says; refusal.rt asks them in order.
 pub mod constants; // constants.rt: rule 9
 pub mod counts; // counts.rt: rule 7
+pub mod decode; // decode.rt: what a row says, by its kind
 pub mod fields; // fields.rt: a row's fields
 pub mod form; // form.rt: rule 6
 pub mod names; // names.rt: rule 8
-pub mod picks; // picks.rt: the numbers that a row names, by its kind
+pub mod picks; // picks.rt: the numbers that a row names
 pub mod places; // places.rt: rule 12
 pub mod references; // references.rt: rule 10
 pub mod refusal; // refusal.rt: the lowest rule that applies

@@ -1,6 +1,6 @@
 // Rule 13: each type row's body is within the bounds. Bodies are made from the lowest row up, each once.
 use crate::fields::kind_at;
-use crate::picks::Few;
+use crate::picks::UpToThree;
 use crate::picks::type_attributes_of;
 use crate::picks::type_parts_of;
 use crate::tables::Table;
@@ -20,7 +20,7 @@ ghost use Rattle.rules.specs.Picks.{listed};
 ghost use Rattle.rules.specs.Types.{first, second, namedKind};
 
 // The first and the second number of a short list, 0 where there is none.
-fn first_of(f: Few) -> usize
+fn first_of(f: UpToThree) -> usize
     ensures { λ r. ⌜ r ≡ first (listed f) ⌝ }
 {
     if f.count == 0 {
@@ -29,7 +29,7 @@ fn first_of(f: Few) -> usize
     f.x
 }
 
-fn second_of(f: Few) -> usize
+fn second_of(f: UpToThree) -> usize
     ensures { λ r. ⌜ r ≡ second (listed f) ⌝ }
 {
     if f.count < 2 {
@@ -38,7 +38,7 @@ fn second_of(f: Few) -> usize
     f.y
 }
 
-// The kind of a type row; what is none of 1 to 5 reads as 6, as in the definitions.
+// The kind of a type row; an unknown one reads as a Boolean, as in the definitions.
 fn type_kind(rows: &[u8], t: Table, r: usize) -> u8
     requires { ⌜ IsTable (now rows) type-section t ⌝ }
     requires { ⌜ r < t .count ⌝ }
@@ -46,12 +46,12 @@ fn type_kind(rows: &[u8], t: Table, r: usize) -> u8
 {
     let kind = kind_at(rows, t.start + r);
     if kind == 0 {
-        return 6;
+        return 1;
     }
-    if kind < 6 {
+    if kind < 7 {
         return kind;
     }
-    6
+    1
 }
 
 pub fn type_wrong(rows: &[u8], t: Table) -> bool

@@ -1,7 +1,7 @@
 // Rule 11: each expression row and each instruction row but the last is used once.
 // Uses are counted in one pass over the rows, up to 2: more makes no difference.
 use crate::fields::b_at;
-use crate::picks::Few;
+use crate::picks::UpToThree;
 use crate::picks::evaluated_of;
 use crate::picks::operands_of;
 use crate::picks::parts_of;
@@ -38,7 +38,7 @@ fn note(uses: &mut [u8; MOST_EXPRESSIONS], x: usize)
     }
 }
 
-fn note_all(uses: &mut [u8; MOST_EXPRESSIONS], f: Few)
+fn note_all(uses: &mut [u8; MOST_EXPRESSIONS], f: UpToThree)
     ensures { λ _. ⌜ ((xs : List ℕ) → Counted (now (uses .entry)) xs → Counted (now (uses .exit)) (xs ++ listed f)) ⌝ }
 {
     let count = f.count;
