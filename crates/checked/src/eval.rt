@@ -18,8 +18,8 @@ use lingua::errors::BOOLEAN_EXPECTED;
 use lingua::errors::LIST_EXPECTED;
 use lingua::errors::NO_ERROR;
 use lingua::sizes::BODY_CELLS;
-use profile::row::ExpressionRow;
 use profile::row::expression_row;
+use rules::decode::ExpressionRow;
 use rules::tables::Table;
 ghost use mathlib.Core.List.{List};
 ghost use Prim.Native.Nat.{_+_, _*_, _<_, _≤_};
@@ -30,7 +30,7 @@ ghost use Rattle.lingua.specs.Store.{Variable, contents};
 ghost use Rattle.lingua.specs.Trees.{expressionTree};
 ghost use Rattle.lingua.specs.Evaluation.{eval as meaning};
 ghost use Rattle.lingua.specs.Expression.{lazy as lazyTree, choice as choiceTree, all-list};
-ghost use Rattle.profile.specs.Row.{connective};
+ghost use Rattle.rules.specs.Decoded.{connective};
 ghost use Rattle.checked.specs.Meaning.{World, Current, Ready, Gives};
 
 // What the expression of a row gives, for a current value of a body.
@@ -53,7 +53,7 @@ pub fn eval(
 {
     let says = expression_row(rows, t, row);
     match says {
-        ExpressionRow::Constant => constant(rows, t, row, stack),
+        ExpressionRow::Constant(_) => constant(rows, t, row, stack),
         ExpressionRow::Variable(n) => fetch(variables, cells, states, n, stack),
         ExpressionRow::Current => copied(current, body, stack),
         ExpressionRow::Unary(o, a) => {

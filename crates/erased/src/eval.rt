@@ -11,8 +11,8 @@ use crate::seen::concluded;
 use crate::seen::noted;
 use lingua::errors::NO_ERROR;
 use lingua::sizes::BODY_CELLS;
-use profile::row::ExpressionRow;
 use profile::row::expression_row;
+use rules::decode::ExpressionRow;
 use rules::tables::Table;
 use steps::Truth;
 ghost use Prim.Native.Nat.{_+_, _*_, _<_, _≤_};
@@ -20,7 +20,7 @@ ghost use lib.ListN.{length};
 ghost use Rattle.lingua.specs.Numbers.{body-cells};
 ghost use Rattle.lingua.specs.Trees.{expressionTree};
 ghost use Rattle.lingua.specs.Expression.{lazy as lazyTree, choice as choiceTree, all-list};
-ghost use Rattle.profile.specs.Row.{connective};
+ghost use Rattle.rules.specs.Decoded.{connective};
 ghost use Rattle.erased.specs.Meaning.{Ready, Evaluates};
 
 // What the expression of a row gives on a current value: 0 and a value at the stack's front, or its error.
@@ -41,7 +41,7 @@ pub fn eval(
 {
     let says = expression_row(rows, t, row);
     match says {
-        ExpressionRow::Constant => constant(rows, t, row, stack),
+        ExpressionRow::Constant(_) => constant(rows, t, row, stack),
         ExpressionRow::Variable(n) => fetch(layout, cells, states, row, n, stack),
         ExpressionRow::Current => copied(layout, row, current, stack),
         ExpressionRow::Unary(o, a) => {

@@ -7,22 +7,22 @@ use Prim.Native.Nat.{ℕ, zero, suc, _+_, _*_, _≤_, _<_}
 use native.Mathlib.Numerals.{add-one}
 use native.Mathlib.Omega.{arith}
 use mathlib.Core.Logic.{_⊎_, ⊎-elim}
-use lib.Dec.{eqb}
 use lib.ListN.{length}
 use lib.Seq.{paste, length-paste}
-use borrow.Author.Tests.{ne-eqb}
 use Rattle.lingua.specs.Numbers.{type-section, attribute-numbers, most-types}
 use Rattle.lingua.specs.Errors.{record-expected}
-use Rattle.lingua.specs.Outcome.{ok, fail, Result, isOk, _>>=_, if_then_else_}
-use Rattle.lingua.specs.Body.{Body, boolean, number, word}
+use Rattle.lingua.specs.Outcome.{ok, fail, Result, isOk, _>>=_}
+use Rattle.lingua.specs.Body.{Body, boolean}
 use Rattle.lingua.specs.Operation.{make-list, make-record, expand, unaryBody, binaryBody}
-use Rattle.lingua.specs.Rows.{kindAt, aAt, bAt, cAt, rowIn, tableStart, tableCount, TypeRow, simple-type, list-type, record-type, expand-type, typeKind, typeRow}
+use Rattle.lingua.specs.Rows.{tableCount, TypeRow, simple-type, list-type, record-type, expand-type, unknown-type, typeRow}
 use Rattle.lingua.specs.Trees.{lower, typeBodyOf, typeBody}
 use Rattle.lingua.specs.Format.{everyBelow}
 use Rattle.lingua.specs.Rules.{attributesFit, typeAttributes}
 use Rattle.lingua.specs.References.{typeParts, typeWrong}
 use Rattle.laws.specs.Tests.{below-suc, every-all, every-false}
 use Rattle.safety.specs.Every.{Every, every-none, every-more, every-implies}
+use Rattle.rules.specs.Tables.{IsTable}
+use Rattle.rules.specs.declared.tables.Table.{Table}
 use Rattle.body.specs.Encode.{Holds, Held}
 use Rattle.body.specs.Typed.{Types}
 use Rattle.body.specs.declared.typed.Typed.{Typed}
@@ -32,32 +32,6 @@ use Rattle.profile.specs.Types.{bodyAt, HeldAt, LooksUp, Answers, TypesR
 use Rattle.profile.specs.Unrolled.{lower-is, type-unrolled}
 use Rattle.profile.proofs.Decoding.{one-fits}
 use Rattle.profile.proofs.TypePlaces.{kept-other, kept-own}
-
--- ---- a kind's row
-module _ (k a b c : ℕ) where
-  pub kind-boolean : k ≡ 1 → typeKind k a b c ≡ simple-type boolean
-  unfolding typeKind
-  kind-boolean e = rw e
-
-  pub kind-number : k ≡ 2 → typeKind k a b c ≡ simple-type number
-  unfolding typeKind
-  kind-number e = rw e
-
-  pub kind-word : k ≡ 3 → typeKind k a b c ≡ simple-type word
-  unfolding typeKind
-  kind-word e = rw e
-
-  pub kind-list : k ≡ 4 → typeKind k a b c ≡ list-type a
-  unfolding typeKind
-  kind-list e = rw e
-
-  pub kind-record : k ≡ 5 → typeKind k a b c ≡ record-type a b
-  unfolding typeKind
-  kind-record e = rw e
-
-  pub kind-expand : k ≢ 1 → k ≢ 2 → k ≢ 3 → k ≢ 4 → k ≢ 5 → typeKind k a b c ≡ expand-type a b c
-  unfolding typeKind
-  kind-expand n₁ n₂ n₃ n₄ n₅ = rw (ne-eqb k 1 n₁, ne-eqb k 2 n₂, ne-eqb k 3 n₃, ne-eqb k 4 n₄, ne-eqb k 5 n₅)
 
 -- ---- what a row of a form names
 module _ {P : ℕ → Type 0} (row : TypeRow) where
@@ -138,34 +112,32 @@ module _ (t : Typed) (row : TypeRow) (look : ℕ → Result Body) where
         (h d f (subst (λ (z : List ℕ). Holds z d) (sym q) (ls .0 .holds)) (subst (λ (z : List ℕ). Holds z f) (sym s) (ls .1 .holds)))
 
 -- ---- row r, from those below it
-module _ (rows bodies : List ℕ) (start r k a b c : ℕ) (e : start ≡ tableStart rows type-section) (ek : k ≡ kindAt rows (start + r)) (ea : a ≡ aAt rows (start + r)) (eb : b ≡ bAt rows (start + r)) (ec : c ≡ cAt rows (start + r))
-    (inside : r < tableCount rows type-section) (ready : TypesReady rows) (held : BodiesBelow rows bodies r) where
-  row-is : typeRow rows r ≡ typeKind k a b c
-  unfolding typeRow rowIn
-  row-is =
-      let p : start + r ≡ tableStart rows type-section + r = ap (λ (n : ℕ). n + r) e in
-      rw (← p, ← ek, ← ea, ← eb, ← ec)
+module _ (rows bodies : List ℕ) (t : Table) (r : ℕ) (h : IsTable rows type-section t) (inside : r < tableCount rows type-section) (ready : TypesReady rows) (held : BodiesBelow rows bodies r)
+    (row : TypeRow) (is : row ≡ typeRow rows r) where
+  below : Every (λ p. p < r) (typeParts row)
+  below = subst (λ (x : TypeRow). Every (λ p. p < r) (typeParts x)) (sym is) (ready .parts r inside)
 
-  below : Every (λ p. p < r) (typeParts (typeKind k a b c))
-  below = subst (λ (x : TypeRow). Every (λ p. p < r) (typeParts x)) row-is (ready .parts r inside)
+  pub row-attributes : attributesFit (typeAttributes row) ≡ true
+  row-attributes = ap (λ (x : TypeRow). attributesFit (typeAttributes x)) is ∙ ready .attributes r inside
 
-  pub row-attributes : attributesFit (typeAttributes (typeKind k a b c)) ≡ true
-  row-attributes = ap (λ (x : TypeRow). attributesFit (typeAttributes x)) (sym row-is) ∙ ready .attributes r inside
-
-  pub row-parts : Every (λ p. HeldAt bodies p) (typeParts (typeKind k a b c))
+  pub row-parts : Every (λ p. HeldAt bodies p) (typeParts row)
   row-parts =
       let few : r < most-types = omega (arith, ready .few) in
       every-implies
       (λ p l. record { within = omega (arith, held .long); held = record { body = held .each p l .body; holds = held .each p l .holds } })
       below
 
-  pub row-answers : (t : Typed) → ((look : ℕ → Result Body) → Every (λ p. LooksUp look bodies p) (typeParts (typeKind k a b c)) → Answers t (typeBodyOf (typeKind k a b c) look))
-      → Answers t (typeBody rows r)
-  row-answers t h =
+  pub row-answers : (o : Typed) → ((look : ℕ → Result Body) → Every (λ p. LooksUp look bodies p) (typeParts row) → Answers o (typeBodyOf row look)) → Answers o (typeBody rows r)
+  row-answers o f =
       let look : ℕ → Result Body = lower r (λ p. typeBody rows p) (fail record-expected) in
-      let given = h look (every-implies (λ p l. record { body = held .each p l .body; is = lower-is r (λ q. typeBody rows q) (fail record-expected) p l ∙ held .each p l .is; holds = held .each p l .holds }) below) in
-      answered t (typeBody rows r) (typeBodyOf (typeKind k a b c) look) (given .offset)
-      (type-unrolled rows r ∙ ap (λ (x : TypeRow). typeBodyOf x look) row-is) (given .types)
+      let given = f look (every-implies (λ p l. record { body = held .each p l .body; is = lower-is r (λ q. typeBody rows q) (fail record-expected) p l ∙ held .each p l .is; holds = held .each p l .holds }) below) in
+      answered o (typeBody rows r) (typeBodyOf row look) (given .offset)
+      (type-unrolled rows r ∙ ap (λ (x : TypeRow). typeBodyOf x look) (sym is)) (given .types)
+
+  -- an unknown row is a Boolean's
+  pub unknown-answers : (o : Typed) → unknown-type ≡ row → Types o (ok boolean) 0 → Answers o (typeBody rows r)
+  unfolding typeBodyOf
+  unknown-answers o e f = row-answers o (λ look p. answered o (typeBodyOf row look) (ok boolean) 0 (ap (λ (x : TypeRow). typeBodyOf x look) (sym e)) f)
 
 -- ---- the rows one after another
 pub none-yet : (rows bodies : List ℕ) → length bodies ≡ 3072 → BodiesBelow rows bodies 0

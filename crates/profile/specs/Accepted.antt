@@ -13,13 +13,15 @@ use Rattle.lingua.specs.Outcome.{Outcome, ok, fail, Result, isOk, if_then_else_
 use Rattle.lingua.specs.Body.{Body, boolean, number, word, tooLarge, size, nodes, depth, width}
 use Rattle.lingua.specs.Operation.{bounded, unaryBody, binaryBody}
 use Rattle.lingua.specs.Value.{allOf}
-use Rattle.lingua.specs.Rows.{rowIn, tableCount, pairCount, TypeRow, simple-type, list-type, record-type, expand-type, typeKind, typeRow, expressionRow, operands, instructionRow, parts, evaluated, yokeSet}
+use Rattle.lingua.specs.Rows.{tableCount, pairCount, TypeRow, simple-type, list-type, record-type, expand-type, typeRow, expressionRow, operands, instructionRow, parts, evaluated, yokeSet}
 use Rattle.lingua.specs.Trees.{lower, typeBodyOf, typeBodyIn, typeBody}
 use Rattle.lingua.specs.Format.{File, profile, everyBelow}
-use Rattle.lingua.specs.Rules.{between, countWrong, constantFits, attributesFit, expressionAttributes, typeAttributes, handledErrors, constantWrong}
+use Rattle.lingua.specs.Rules.{between, countWrong, rowConstantFits, attributesFit, expressionAttributes, typeAttributes, handledErrors, constantWrong}
 use Rattle.lingua.specs.References.{allBelow, typeParts, expressionVariables, instructionVariables, declarationRefers, expressionRefers, instructionRefers, referenceWrong, typeWrong}
 use Rattle.laws.specs.Outcomes.{and-left, and-right}
 use Rattle.safety.specs.Every.{Every, every-implies, all-true, below-true}
+use Rattle.safety.specs.Accepted.{AcceptedRows, expression-known, instruction-known}
+use Rattle.profile.specs.Row.{KnownExpression, KnownInstruction}
 
 -- a number in a range
 pub record Between (low high n : ℕ) : Type 0 where
@@ -50,7 +52,7 @@ abbrev typesFit : List ℕ → Bool
 typesFit rows = everyBelow (tableCount rows type-section) (λ r. attributesFit (typeAttributes (typeRow rows r)))
 
 abbrev expressionsFit : List ℕ → Bool
-expressionsFit rows = everyBelow (tableCount rows expression-section) (λ r. constantFits rows (rowIn rows expression-section r) && attributesFit (expressionAttributes (expressionRow rows r)))
+expressionsFit rows = everyBelow (tableCount rows expression-section) (λ r. rowConstantFits (expressionRow rows r) && attributesFit (expressionAttributes (expressionRow rows r)))
 
 abbrev errorsFit : List ℕ → Bool
 errorsFit rows = everyBelow (tableCount rows instruction-section) (λ r. allOf (λ n. between 1 last-error n) (handledErrors (instructionRow rows r)))
@@ -94,16 +96,10 @@ module _ (rows : List ℕ) (right : constantWrong profile rows ≡ false) where
       below-true (tableCount rows type-section) (λ j. attributesFit (typeAttributes (typeRow rows j)))
       (and-left (typesFit rows) (expressionsFit rows) (and-left (typesFit rows && expressionsFit rows) (errorsFit rows) nine)) r l
 
-  pub constant-bytes : (r : ℕ) → r < tableCount rows expression-section → constantFits rows (rowIn rows expression-section r) ≡ true
-  constant-bytes r l =
-      and-left (constantFits rows (rowIn rows expression-section r)) (attributesFit (expressionAttributes (expressionRow rows r)))
-      (below-true (tableCount rows expression-section) (λ j. constantFits rows (rowIn rows expression-section j) && attributesFit (expressionAttributes (expressionRow rows j)))
-      (and-right (typesFit rows) (expressionsFit rows) (and-left (typesFit rows && expressionsFit rows) (errorsFit rows) nine)) r l)
-
   pub expression-attributes : (r : ℕ) → r < tableCount rows expression-section → attributesFit (expressionAttributes (expressionRow rows r)) ≡ true
   expression-attributes r l =
-      and-right (constantFits rows (rowIn rows expression-section r)) (attributesFit (expressionAttributes (expressionRow rows r)))
-      (below-true (tableCount rows expression-section) (λ j. constantFits rows (rowIn rows expression-section j) && attributesFit (expressionAttributes (expressionRow rows j)))
+      and-right (rowConstantFits (expressionRow rows r)) (attributesFit (expressionAttributes (expressionRow rows r)))
+      (below-true (tableCount rows expression-section) (λ j. rowConstantFits (expressionRow rows j) && attributesFit (expressionAttributes (expressionRow rows j)))
       (and-right (typesFit rows) (expressionsFit rows) (and-left (typesFit rows && expressionsFit rows) (errorsFit rows) nine)) r l)
 
   pub handled-errors : (r : ℕ) → r < tableCount rows instruction-section → Every (λ n. Between 1 last-error n) (handledErrors (instructionRow rows r))
@@ -168,3 +164,10 @@ module _ (rows : List ℕ) (right : typeWrong rows ≡ false) where
   pub type-ok : (r : ℕ) → r < tableCount rows type-section → isOk (typeBody rows r) ≡ true
   unfolding typeWrong
   type-ok r l = below-true (tableCount rows type-section) (λ j. isOk (typeBody rows j)) (not-false _ right) r l
+
+-- ---- 6 and 9: what an accepted row's kind and attributes are
+pub row-known : (rows : List ℕ) → AcceptedRows rows → (r : ℕ) → r < tableCount rows expression-section → KnownExpression rows r
+row-known rows accepted r l = record { kind = expression-known rows accepted r l; attributes = expression-attributes rows (accepted .constants) r l }
+
+pub instruction-row-known : (rows : List ℕ) → AcceptedRows rows → (r : ℕ) → r < tableCount rows instruction-section → KnownInstruction rows r
+instruction-row-known rows accepted r l = record { kind = instruction-known rows accepted r l }

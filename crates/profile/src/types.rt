@@ -7,10 +7,10 @@ use body::unary::make_record;
 use body::walk::BOOLEAN;
 use body::walk::NUMBER;
 use body::walk::WORD;
-use rules::fields::a_at;
-use rules::fields::b_at;
-use rules::fields::c_at;
-use rules::fields::kind_at;
+use rules::decode::DecodedType;
+use rules::decode::Simple;
+use rules::decode::TypeRow;
+use rules::decode::type_at;
 use rules::tables::Table;
 ghost use mathlib.Core.Path.{_≡_};
 ghost use mathlib.Core.Bool.{true, false};
@@ -18,14 +18,16 @@ ghost use Prim.Native.Nat.{ℕ, _+_, _*_, _<_, _≤_};
 ghost use lib.ListN.{length};
 ghost use lib.Seq.{paste};
 ghost use Rattle.lingua.specs.Numbers.{type-section};
-ghost use Rattle.lingua.specs.Outcome.{Result};
+ghost use Rattle.lingua.specs.Outcome.{ok, Result};
 ghost use Rattle.lingua.specs.Body.{Body};
-ghost use Rattle.lingua.specs.Rows.{tableCount, typeKind};
+ghost use Rattle.lingua.specs.Rows.{tableCount};
 ghost use Rattle.lingua.specs.Rules.{attributesFit, typeAttributes};
 ghost use Rattle.lingua.specs.References.{typeParts, typeWrong};
 ghost use Rattle.lingua.specs.Trees.{typeBodyOf, typeBody};
 ghost use Rattle.safety.specs.Every.{Every};
+ghost use Rattle.body.specs.Typed.{Types};
 ghost use Rattle.rules.specs.Tables.{IsTable};
+ghost use Rattle.rules.specs.Decoded.{simpleMeaning, typeMeaning};
 ghost use Rattle.profile.specs.Types.{bodyAt, HeldAt, LooksUp, Answers, TypesReady, BodiesBelow};
 
 // The body of type row r, by itself.
@@ -56,28 +58,28 @@ pub fn keep_body(bodies: &mut [u8], r: usize, body: [u8; 96])
     }
 }
 
-// The body that a type row of a kind makes of those that it names.
-fn kind_body(kind: u8, a: usize, b: usize, c: usize, bodies: &[u8]) -> Typed
-    requires { ⌜ attributesFit (typeAttributes (typeKind kind a b c)) ≡ true ⌝ }
-    requires { ⌜ Every (λ p. HeldAt (now bodies) p) (typeParts (typeKind kind a b c)) ⌝ }
-    ensures { λ r. ⌜ ((look : ℕ → Result Body) → Every (λ p. LooksUp look (now (bodies .entry)) p) (typeParts (typeKind kind a b c)) → Answers r (typeBodyOf (typeKind kind a b c) look)) ⌝ }
+fn simple_body(s: Simple) -> Typed
+    ensures { λ o. ⌜ Types o (ok (simpleMeaning s)) 0 ⌝ }
 {
-    if kind == 1 {
-        return scalar(BOOLEAN);
+    match s {
+        Simple::Boolean => scalar(BOOLEAN),
+        Simple::Number => scalar(NUMBER),
+        Simple::Word => scalar(WORD),
     }
-    if kind == 2 {
-        return scalar(NUMBER);
+}
+
+// The body that a type row makes of those that it names.
+fn made_body(row: TypeRow, bodies: &[u8]) -> Typed
+    requires { ⌜ attributesFit (typeAttributes (typeMeaning row)) ≡ true ⌝ }
+    requires { ⌜ Every (λ p. HeldAt (now bodies) p) (typeParts (typeMeaning row)) ⌝ }
+    ensures { λ r. ⌜ ((look : ℕ → Result Body) → Every (λ p. LooksUp look (now (bodies .entry)) p) (typeParts (typeMeaning row)) → Answers r (typeBodyOf (typeMeaning row) look)) ⌝ }
+{
+    match row {
+        TypeRow::Simple(s) => simple_body(s),
+        TypeRow::List(a) => make_list(type_body(bodies, a)),
+        TypeRow::Record(n, a) => make_record(n as u8, type_body(bodies, a)),
+        TypeRow::Expand(a, n, b) => expand(n as u8, type_body(bodies, a), type_body(bodies, b)),
     }
-    if kind == 3 {
-        return scalar(WORD);
-    }
-    if kind == 4 {
-        return make_list(type_body(bodies, a));
-    }
-    if kind == 5 {
-        return make_record(a as u8, type_body(bodies, b));
-    }
-    expand(b as u8, type_body(bodies, a), type_body(bodies, c))
 }
 
 // The body of type row r, from those of lower rows.
@@ -88,13 +90,11 @@ fn row_body(rows: &[u8], t: Table, r: usize, bodies: &[u8]) -> Typed
     requires { ⌜ BodiesBelow (now rows) (now bodies) r ⌝ }
     ensures { λ o. ⌜ Answers o (typeBody (now (rows .entry)) r) ⌝ }
 {
-    let start = t.start;
-    let i = start + r;
-    let kind = kind_at(rows, i);
-    let a = a_at(rows, i);
-    let b = b_at(rows, i);
-    let c = c_at(rows, i);
-    kind_body(kind, a, b, c, bodies)
+    let d = type_at(rows, t.start + r);
+    match d {
+        DecodedType::Unknown => scalar(BOOLEAN),
+        DecodedType::Known(_, row) => made_body(row, bodies),
+    }
 }
 
 // Whether a type row is wrong (rule 13); if none is, the array holds each row's body.

@@ -9,9 +9,10 @@ use Rattle.lingua.specs.Rows.{tableCount, instructionRow}
 use Rattle.lingua.specs.Trees.{expressionTree, instructionTree}
 use Rattle.safety.specs.Accepted.{AcceptedRows}
 use Rattle.rules.specs.declared.tables.Tables.{Tables}
-use Rattle.profile.specs.declared.row.ExpressionRow.{ExpressionRow as CodeRow}
-use Rattle.profile.specs.declared.row.InstructionRow.{InstructionRow as CodeInstruction}
-use Rattle.profile.specs.Row.{RowSays, instructionMeaning}
+use Rattle.rules.specs.declared.decode.ExpressionRow.{ExpressionRow as CodeRow}
+use Rattle.rules.specs.declared.decode.InstructionRow.{InstructionRow as CodeInstruction}
+use Rattle.rules.specs.Decoded.{instructionMeaning}
+use Rattle.profile.specs.Row.{RowSays}
 use Rattle.profile.specs.Accepted.{counts}
 use Rattle.profile.specs.Facts.{RowFacts, row-facts, rowTree, row-tree, InstructionFacts, instruction-facts, instructionRowTree, instruction-row-tree}
 use Rattle.body.specs.Encode.{Held}

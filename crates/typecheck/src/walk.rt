@@ -15,8 +15,8 @@ use lingua::errors::YOKE_EXPECTED;
 use lingua::operations::BinaryOperation;
 use lingua::operations::UnaryOperation;
 use profile::constants::constant_body;
-use profile::row::ExpressionRow as Row;
 use profile::row::expression_row;
+use rules::decode::ExpressionRow as Row;
 use rules::tables::Tables;
 ghost use Prim.Native.Nat.{_<_};
 ghost use Rattle.lingua.specs.Body.{Body};
@@ -42,7 +42,7 @@ pub fn check(
     let table = tables.expressions;
     let e = expression_row(rows, table, row);
     match e {
-        Row::Constant => {
+        Row::Constant(_) => {
             let body = constant_body(rows, table, row);
             noted(row, body, 0, layout)
         }

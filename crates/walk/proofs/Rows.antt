@@ -17,9 +17,9 @@ use Rattle.rules.specs.Tables.{IsTable}
 use Rattle.rules.specs.declared.tables.Table.{Table}
 use Rattle.profile.specs.Accepted.{counts}
 use Rattle.profile.specs.Yokes.{every-yoke}
-use Rattle.profile.specs.declared.row.InstructionRow.{InstructionRow}
-use Rattle.profile.specs.declared.row.InstructionRow.the-variants as does
-use Rattle.profile.specs.Row.{instructionMeaning}
+use Rattle.rules.specs.declared.decode.InstructionRow.{InstructionRow}
+use Rattle.rules.specs.declared.decode.InstructionRow.the-variants as does
+use Rattle.rules.specs.Decoded.{instructionMeaning}
 use Rattle.profile.specs.Facts.{InstructionFacts, instruction-facts, instructionRowTree, instruction-row-tree}
 use Rattle.steps.specs.declared.Moment.{Moment}
 use Rattle.steps.specs.Moments.{stateOf}

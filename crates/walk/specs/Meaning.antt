@@ -18,9 +18,9 @@ use Rattle.lingua.specs.Calls.{ran, runResult}
 use Rattle.safety.specs.Invariant.{declaredStore}
 use Rattle.rules.specs.Tables.{IsTable}
 use Rattle.rules.specs.declared.tables.Table.{Table}
-use Rattle.profile.specs.declared.row.InstructionRow.{InstructionRow}
-use Rattle.profile.specs.declared.row.InstructionRow.the-variants as does
-use Rattle.profile.specs.Row.{instructionMeaning}
+use Rattle.rules.specs.declared.decode.InstructionRow.{InstructionRow}
+use Rattle.rules.specs.declared.decode.InstructionRow.the-variants as does
+use Rattle.rules.specs.Decoded.{instructionMeaning}
 use Rattle.steps.specs.declared.Moment.{Moment}
 use Rattle.steps.specs.declared.Truth.{Truth}
 use Rattle.steps.specs.Moments.{stateOf}
