@@ -132,7 +132,7 @@ module _ (rows : List ℕ) (t : Table) (r : ℕ) (h : IsTable rows expression-se
     word-padded cs p k row =
         let f : rowConstantFits (expressionRow rows r) ≡ true = ap rowConstantFits (row .is) ∙ row .bytes-fit in
         let g : rowConstantFits (constant-row (constantMeaning rows (t .start + r) simple.Word)) ≡ true =
-            ap (λ (j : Simple). rowConstantFits (constant-row (constantMeaning rows (t .start + r) j))) (sym p) ∙ (ap rowConstantFits (sym (row-is row)) ∙ f) in
+        ap (λ (j : Simple). rowConstantFits (constant-row (constantMeaning rows (t .start + r) j))) (sym p) ∙ (ap rowConstantFits (sym (row-is row)) ∙ f) in
         ap (paddedBy isCharacter) k ∙ and-right (leb (length (bytesAt rows (t .start + r))) word-length) (paddedBy isCharacter (bytesAt rows (t .start + r))) g
 
     -- ---- bodies

@@ -15,7 +15,8 @@ use Rattle.lingua.specs.Trees.{expressionTree, instructionTree}
 use Rattle.safety.specs.Accepted.{AcceptedRows}
 use Rattle.rules.specs.Tables.{IsTable}
 use Rattle.rules.specs.declared.tables.Table.{Table}
-use Rattle.profile.specs.Accepted.{counts}
+use Rattle.profile.specs.Row.{KnownInstruction}
+use Rattle.profile.specs.Accepted.{counts, instruction-row-known}
 use Rattle.profile.specs.Yokes.{every-yoke}
 use Rattle.rules.specs.declared.decode.InstructionRow.{InstructionRow}
 use Rattle.rules.specs.declared.decode.InstructionRow.the-variants as does
@@ -53,6 +54,10 @@ module _ {row : ℕ} {w : Way} {c : Context} {u : Table} {l : Lent} {m : Moment}
 
   inside : row < tableCount (c .rows) instruction-section
   inside = omega (arith, a .there, a .instructions .count)
+
+  -- its kind is known
+  pub kind-known : KnownInstruction (c .rows) row
+  kind-known = instruction-row-known (c .rows) accepted row inside
 
   -- a row number fits a place
   pub narrow : row < 65536

@@ -14,7 +14,7 @@ use Rattle.lingua.specs.Evaluation.{eval as meaning}
 use Rattle.body.specs.Encode.{Holds}
 use Rattle.cells.specs.Stack.{Lies}
 use Rattle.profile.specs.Facts.{RowFacts, rowTree}
-use Rattle.profile.specs.Accepted.{expression-attributes}
+use Rattle.profile.specs.Accepted.{row-known}
 use Rattle.checked.specs.Meaning.{World, Sees}
 use Rattle.checked.proofs.Giving.{gives-error, gives-as}
 use Rattle.profile.specs.Facts.{says-as}
@@ -242,7 +242,7 @@ choice-returns-3 t c = λ vs x w h. gives-as (choice-no _ _ _ _ _ _ _ (c .before
 eval-expression-row-requires : (t : ℕ) → eval-lts.Need-expression-row-requires (eval-calls t) (eval-at t) eval.Post
 eval-expression-row-requires t c κs =
     let w = c .before .before .before .pre .1 .0 .world in
-    (w .table, (c .before .before .before .pre .1 .1 .0, expression-attributes _ (w .accepted .constants) _ (in-table w (c .before .before .before .pre .1 .1 .0))))
+    (w .table, (c .before .before .before .pre .1 .1 .0, row-known _ (w .accepted) _ (in-table w (c .before .before .before .pre .1 .1 .0))))
 
 eval-enum-told : (t : ℕ) → eval-lts.Need-enum-told (eval-calls t) (eval-at t) eval.Post
 eval-enum-told t c = search needs

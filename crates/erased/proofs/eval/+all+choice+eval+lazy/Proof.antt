@@ -12,7 +12,7 @@ use Rattle.lingua.specs.Run.{Declaration}
 use Rattle.lingua.specs.Store.{Variable}
 use Rattle.lingua.specs.Trees.{expressionTree}
 use Rattle.profile.specs.Facts.{RowFacts, rowTree}
-use Rattle.profile.specs.Accepted.{expression-attributes}
+use Rattle.profile.specs.Accepted.{row-known}
 use Rattle.steps.specs.Reached.{Tells}
 use Rattle.erased.specs.Meaning.{allTold}
 use Rattle.erased.proofs.Telling.{sees-none}
@@ -210,7 +210,7 @@ choice-returns-3 t c = choice-no _ _ _ _ (c .before .before .before .before .bef
 eval-expression-row-requires : (t : ℕ) → eval-lts.Need-expression-row-requires (eval-calls t) (eval-at t) eval.Post
 eval-expression-row-requires t c κs =
     let w = c .before .before .before .pre .1 .0 .world in
-    (w .table, (c .before .before .before .pre .1 .1 .0, expression-attributes _ (w .accepted .constants) _ (table-of w (c .before .before .before .pre .1 .1 .0))))
+    (w .table, (c .before .before .before .pre .1 .1 .0, row-known _ (w .accepted) _ (table-of w (c .before .before .before .pre .1 .1 .0))))
 
 eval-enum-told : (t : ℕ) → eval-lts.Need-enum-told (eval-calls t) (eval-at t) eval.Post
 eval-enum-told t c = search needs

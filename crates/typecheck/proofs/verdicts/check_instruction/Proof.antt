@@ -2,7 +2,7 @@
 use denote.Ref.{now}
 use native.Mathlib.Omega.{arith}
 use Rattle.lingua.specs.Typing.{checkInstruction}
-use Rattle.profile.specs.Accepted.{counts}
+use Rattle.profile.specs.Accepted.{counts, instruction-row-known}
 use Rattle.profile.specs.Facts.{InstructionFacts, instructionRowTree}
 use Rattle.typecheck.proofs.Rows.{instruction-at, instruction-tree-at}
 use Rattle.profile.specs.Yokes.{every-yoke}
@@ -18,7 +18,7 @@ cast-place : tie.Need-cast-place
 cast-place c = omega (arith, c .before .before .before .pre .1 .0, counts (now (c .before .before .before .args .rows)) (c .before .before .before .pre .0 .accepted .counts) .instructions .most)
 
 instruction-row-requires : tie.Need-instruction-row-requires
-instruction-row-requires c κs = search needs
+instruction-row-requires c κs = (c .before .before .before .before .pre .0 .tables .instructions, (omega (arith, c .before .before .before .before .pre .1 .0, c .before .before .before .before .pre .0 .tables .instructions .count), instruction-row-known _ (c .before .before .before .before .pre .0 .accepted) _ (c .before .before .before .before .pre .1 .0)))
 
 enum-told : tie.Need-enum-told
 enum-told c = search needs

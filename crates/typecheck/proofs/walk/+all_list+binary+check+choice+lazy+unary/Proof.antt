@@ -8,7 +8,7 @@ use mathlib.Core.Path.{_≡_, refl, sym, ap, _∙_}
 use lib.ListN.{length}
 use borrow.Author.Tests.{not-true, not-false}
 use Rattle.lingua.specs.Operations.{unaryMeaning}
-use Rattle.profile.specs.Accepted.{expression-attributes}
+use Rattle.profile.specs.Accepted.{row-known}
 use Rattle.profile.specs.Facts.{RowFacts, rowTree}
 use Rattle.typecheck.proofs.Rows.{facts-at, tree-at, asked-below, asked-room, asked-small}
 use Rattle.typecheck.proofs.Returns.{Passed, passed, result-held, half-held, half-small, constant-passes, variable-passes, current-passes, unary-operand, unary-own, unary-passes, binary-first, binary-second, binary-own, binary-passes, lazy-first, lazy-first-own, lazy-second, lazy-second-own, lazy-passes, choice-test, choice-test-own, choice-first, choice-second, choice-own, choice-passes, all-list-own, element-of, all-list-inner, all-list-result, all-list-passes}
@@ -234,7 +234,7 @@ binary-returns-4 t c = λ d h.
     binary-passes _ _ _ _ _ _ _ _ _ p _ _ q (c .before .before .before .before .before .before .before .binary-half .result) (c .before .before .before .before .before .before .before .binary-half .ensures _ _ (p .passes .holds) (q .passes .holds)) (c .before .before .noted .result) _ (c .before .before .before .before .before .if3 .left) (c .before .before .noted .ensures)
 
 check-expression-row-requires : (t : ℕ) → check-lts.Need-expression-row-requires (check-calls t) (check-at t) check.Post
-check-expression-row-requires t c κs = (c .before .before .before .before .pre .1 .ready .tables .expressions, (omega (arith, c .before .before .before .before .pre .1 .here, c .before .before .before .before .pre .1 .ready .tables .expressions .count), expression-attributes _ (c .before .before .before .before .pre .1 .ready .accepted .constants) _ (c .before .before .before .before .pre .1 .here)))
+check-expression-row-requires t c κs = (c .before .before .before .before .pre .1 .ready .tables .expressions, (omega (arith, c .before .before .before .before .pre .1 .here, c .before .before .before .before .pre .1 .ready .tables .expressions .count), row-known _ (c .before .before .before .before .pre .1 .ready .accepted) _ (c .before .before .before .before .pre .1 .here)))
 
 check-enum-told : (t : ℕ) → check-lts.Need-enum-told (check-calls t) (check-at t) check.Post
 check-enum-told t c = search needs
