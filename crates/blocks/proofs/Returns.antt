@@ -10,7 +10,7 @@ use borrow.Author.Tests.{eq-eqb, ne-eqb, le-leb, lt-leb, lt-ltb, le-ltb, leb-tru
 use Rattle.lingua.specs.Numbers.{block-bytes, most-blocks}
 use Rattle.lingua.specs.Compute.{sameText}
 use Rattle.lingua.specs.Rows.{word16}
-use Rattle.lingua.specs.Format.{File, profile, blockCount, marker, blockAt, everyBelow, lengthWrong, markerWrong, headerFits, headerWrong, checkWrong, modelOf, emptyBlock}
+use Rattle.lingua.specs.Format.{File, profile, blockCount, marker, blockAt, everyBelow, lengthWrong, markerWrong, headerFits, headerWrong, blockCheckWrong, modelOf, emptyBlock}
 use Rattle.lingua.specs.Errors.{no-error, bad-length, bad-marker, bad-header, bad-check}
 use Rattle.lingua.specs.Value.{allOf}
 use Rattle.lingua.specs.Refusal.{lowest, fileRules}
@@ -118,16 +118,16 @@ module _ (f : File) (file : List ℕ) where
       lowest-skip bad-length (lengthWrong f file) _ a ∙ lowest-skip bad-marker (markerWrong f file) _ b
       ∙ lowest-first bad-header (headerWrong f file) _ d refl
 
-  pub refused-check : lengthWrong f file ≡ false → markerWrong f file ≡ false → headerWrong f file ≡ false → checkWrong file ≡ true
+  pub refused-check : lengthWrong f file ≡ false → markerWrong f file ≡ false → headerWrong f file ≡ false → blockCheckWrong file ≡ true
       → lowest (fileRules f file) ≡ bad-check
   unfolding fileRules allOf
   refused-check a b d e =
       lowest-skip bad-length (lengthWrong f file) _ a ∙ lowest-skip bad-marker (markerWrong f file) _ b
-      ∙ lowest-skip bad-header (headerWrong f file) _ d ∙ lowest-first bad-check (checkWrong file) _ e refl
+      ∙ lowest-skip bad-header (headerWrong f file) _ d ∙ lowest-first bad-check (blockCheckWrong file) _ e refl
 
-  pub refused-not : lengthWrong f file ≡ false → markerWrong f file ≡ false → headerWrong f file ≡ false → checkWrong file ≡ false
+  pub refused-not : lengthWrong f file ≡ false → markerWrong f file ≡ false → headerWrong f file ≡ false → blockCheckWrong file ≡ false
       → lowest (fileRules f file) ≡ no-error
   unfolding fileRules
   refused-not a b d e =
       lowest-skip bad-length (lengthWrong f file) _ a ∙ lowest-skip bad-marker (markerWrong f file) _ b
-      ∙ lowest-skip bad-header (headerWrong f file) _ d ∙ lowest-skip bad-check (checkWrong file) _ e ∙ lowest-nil
+      ∙ lowest-skip bad-header (headerWrong f file) _ d ∙ lowest-skip bad-check (blockCheckWrong file) _ e ∙ lowest-nil

@@ -19,7 +19,7 @@ ghost use lib.ListN.{length, take};
 ghost use Rattle.lingua.specs.Numbers.{block-bytes, check-place};
 ghost use Rattle.lingua.specs.Compute.{sameText};
 ghost use Rattle.lingua.specs.Rows.{word32};
-ghost use Rattle.lingua.specs.Format.{marker, allZero, emptyBlock, blockCheck, lengthWrong, markerWrong, headerWrong, checkWrong};
+ghost use Rattle.lingua.specs.Format.{marker, allZero, emptyBlock, blockCheck, lengthWrong, markerWrong, headerWrong, blockCheckWrong};
 ghost use Rattle.lingua.specs.Refusal.{lowest, fileRules};
 ghost use Rattle.lingua.specs.Answers.{fileMeaning};
 ghost use Rattle.blocks.specs.Blocks.{headerIs};
@@ -152,7 +152,7 @@ fn check_fits(block: &[u8]) -> bool
 }
 
 pub fn check_wrong(file: &[u8]) -> bool
-    ensures { λ r. ⌜ r ≡ checkWrong (now (file .entry)) ⌝ }
+    ensures { λ r. ⌜ r ≡ blockCheckWrong (now (file .entry)) ⌝ }
 {
     let count = file.len() / BLOCK_BYTES;
     let mut k = 0;

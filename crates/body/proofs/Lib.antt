@@ -13,6 +13,5 @@ pub mod Halves
 pub mod Bounds
 pub mod Selecting
 pub mod Expanding
-pub mod Choices
 pub mod Results
 pub mod Offsets

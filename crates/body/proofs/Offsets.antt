@@ -91,7 +91,7 @@ changed n (record-of fs) c d e =
     let q = required (sameBody (p .0) c) no-coherence (ok (record-of fs)) d (p .2) in
     ok-same (q .1)
 
-binary-second : (o : Binary) (b c d : Body) → binaryBody o b c ≡ ok d → size d ≤ body-cells → Second (binaryOffset o b c) (binarySecond o d)
+binary-second : (o : Binary) (b c d : Body) → binaryBody o b c ≡ ok d → size d ≤ body-cells → Second (binaryOffset o b c) (binarySecond o b c d)
 unfolding binaryOffset binarySecond
 binary-second add b c d e h = none-is 0 refl
 binary-second subtract b c d e h = none-is 0 refl
@@ -124,5 +124,5 @@ by-types t (fail n) o second h f = record { some-error = h .fit; error = ap (λ 
 pub unary-is : (t : Half-typed) (o : Unary) (x : List ℕ) (b : Body) → Holds x b → Types t (unaryBody o b) (unaryOffset o b) → Half t (unaryBody o b) (λ d. unarySecond o b)
 unary-is t o x b h k = by-types t (unaryBody o b) (unaryOffset o b) _ k (λ d e s. unary-second o b (h .few-cells))
 
-pub binary-is : (t : Half-typed) (o : Binary) (b c : Body) → Types t (binaryBody o b c) (binaryOffset o b c) → Half t (binaryBody o b c) (λ d. binarySecond o d)
+pub binary-is : (t : Half-typed) (o : Binary) (b c : Body) → Types t (binaryBody o b c) (binaryOffset o b c) → Half t (binaryBody o b c) (λ d. binarySecond o b c d)
 binary-is t o b c k = by-types t (binaryBody o b c) (binaryOffset o b c) _ k (λ d e s. binary-second o b c d e s)

@@ -2,13 +2,9 @@
 use mathlib.Core.Path.{_≡_}
 use mathlib.Core.List.{List, [], _∷_, _++_}
 use Prim.Native.Nat.{ℕ, _≤_}
-use Rattle.lingua.specs.Numbers.{body-cells, body-nodes}
+use Rattle.lingua.specs.Numbers.{body-cells, body-nodes, body-bytes}
 use Rattle.lingua.specs.Body.{Body, boolean, number, word, list-of, record-of, Attributes, end, attribute, size, nodes, countAttributes}
 use Rattle.lingua.specs.Value.{pad}
-
--- a body's bytes in the code
-abbrev pub body-bytes : ℕ
-body-bytes = 96
 
 -- ---- the first byte of each kind of body
 abbrev pub boolean-tag : ℕ

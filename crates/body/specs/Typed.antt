@@ -4,12 +4,12 @@ use mathlib.Core.Option.{Option, some, none}
 use Prim.Native.Nat.{ℕ, _≤_}
 use lib.Dec.{eqb}
 use lib.ListN.{replicate}
-use Rattle.lingua.specs.Numbers.{body-cells, body-nodes}
+use Rattle.lingua.specs.Numbers.{body-cells, body-nodes, body-bytes}
 use Rattle.lingua.specs.Outcome.{ok, fail, Result, if_then_else_}
 use Rattle.lingua.specs.Body.{Body, boolean, number, word, Attributes, attributesOf, attributeOffset, insertAttribute, size, nodes}
-use Rattle.lingua.specs.Operation.{Unary, negation, make-record, select, make-list, top, pop, Binary, add, subtract, multiply, divide, less, equal, glue, expand, change, push, unaryBody, binaryBody}
+use Rattle.lingua.specs.Operation.{Unary, negation, make-record, select, make-list, top, pop, Binary, add, subtract, multiply, divide, less, equal, glue, expand, change, push}
 use Rattle.body.specs.declared.typed.Typed.{Typed}
-use Rattle.body.specs.Encode.{encoded, body-bytes}
+use Rattle.body.specs.Encode.{encoded}
 
 -- no error, the body, its cells and the attribute's offset; or the error's number
 unfoldable pub typed : Result Body → ℕ → Typed
@@ -59,13 +59,3 @@ binaryOffset glue b c = 0
 binaryOffset (expand n) b c = offsetAfter n c (attributesOf b)
 binaryOffset (change n) b c = offsetIn n (attributesOf b)
 binaryOffset push b c = 0
-
--- ---- the body of a type row, by its kind, from the bodies that it names (document 01, section 2)
-unfoldable pub typeBody : ℕ → ℕ → Body → Body → Result Body
-typeBody kind n b c =
-    if eqb kind 4 then unaryBody make-list b else
-    (if eqb kind 5 then unaryBody (make-record n) b else
-    (if eqb kind 6 then binaryBody (expand n) b c else ok (simpleOf kind)))
-
-unfoldable pub typeOffset : ℕ → ℕ → Body → Body → ℕ
-typeOffset kind n b c = if eqb kind 6 then binaryOffset (expand n) b c else 0

@@ -24,6 +24,7 @@ use lingua::errors::NOT_COMPARABLE;
 use lingua::errors::NUMBER_EXPECTED;
 use lingua::errors::RECORD_EXPECTED;
 use lingua::errors::WORD_EXPECTED;
+use lingua::sizes::BODY_BYTES;
 ghost use Prim.Native.Nat.{_≤_};
 ghost use Rattle.lingua.specs.Body.{Body};
 ghost use Rattle.lingua.specs.Operation.{numbersTo, equal, glue, expand, change, push, binaryBody};
@@ -31,7 +32,7 @@ ghost use Rattle.body.specs.Encode.{Holds, Held};
 ghost use Rattle.body.specs.Typed.{Types, simpleOf, binaryOffset};
 
 // Kinds 5 to 9: two numbers give a body of the tag.
-pub fn numbers(tag: u8, x: [u8; 96], y: [u8; 96]) -> Typed
+pub fn numbers(tag: u8, x: [u8; BODY_BYTES], y: [u8; BODY_BYTES]) -> Typed
     requires { ⌜ 1 ≤ tag ⌝ }
     requires { ⌜ tag ≤ 3 ⌝ }
     ensures { λ r. ⌜ ((b c : Body) → Holds x b → Holds y c → Types r (numbersTo (simpleOf tag) b c) 0) ⌝ }
@@ -46,7 +47,7 @@ pub fn numbers(tag: u8, x: [u8; 96], y: [u8; 96]) -> Typed
 }
 
 // Kind 10.
-pub fn equal(x: [u8; 96], y: [u8; 96]) -> Typed
+pub fn equal(x: [u8; BODY_BYTES], y: [u8; BODY_BYTES]) -> Typed
     ensures { λ r. ⌜ ((b c : Body) → Holds x b → Holds y c → Types r (binaryBody equal b c) 0) ⌝ }
 {
     if WORD < x[0] {
@@ -59,7 +60,7 @@ pub fn equal(x: [u8; 96], y: [u8; 96]) -> Typed
 }
 
 // Kind 13.
-pub fn glue(x: [u8; 96], y: [u8; 96]) -> Typed
+pub fn glue(x: [u8; BODY_BYTES], y: [u8; BODY_BYTES]) -> Typed
     ensures { λ r. ⌜ ((b c : Body) → Holds x b → Holds y c → Types r (binaryBody glue b c) 0) ⌝ }
 {
     if x[0] != WORD {
@@ -72,7 +73,7 @@ pub fn glue(x: [u8; 96], y: [u8; 96]) -> Typed
 }
 
 // Kind 17. An attribute that is there already comes before a record that gets too large.
-pub fn expand(n: u8, x: [u8; 96], y: [u8; 96]) -> Typed
+pub fn expand(n: u8, x: [u8; BODY_BYTES], y: [u8; BODY_BYTES]) -> Typed
     requires { ⌜ Held x ⌝ }
     requires { ⌜ Held y ⌝ }
     ensures { λ r. ⌜ ((b c : Body) → Holds x b → Holds y c → Types r (binaryBody (expand n) b c) (binaryOffset (expand n) b c)) ⌝ }
@@ -103,7 +104,7 @@ pub fn expand(n: u8, x: [u8; 96], y: [u8; 96]) -> Typed
 }
 
 // Kind 19.
-pub fn change(n: u8, x: [u8; 96], y: [u8; 96]) -> Typed
+pub fn change(n: u8, x: [u8; BODY_BYTES], y: [u8; BODY_BYTES]) -> Typed
     requires { ⌜ Held x ⌝ }
     ensures { λ r. ⌜ ((b c : Body) → Holds x b → Holds y c → Types r (binaryBody (change n) b c) (binaryOffset (change n) b c)) ⌝ }
 {
@@ -128,7 +129,7 @@ pub fn change(n: u8, x: [u8; 96], y: [u8; 96]) -> Typed
 }
 
 // Kind 21.
-pub fn push(x: [u8; 96], y: [u8; 96]) -> Typed
+pub fn push(x: [u8; BODY_BYTES], y: [u8; BODY_BYTES]) -> Typed
     requires { ⌜ Held x ⌝ }
     ensures { λ r. ⌜ ((b c : Body) → Holds x b → Holds y c → Types r (binaryBody push b c) 0) ⌝ }
 {

@@ -1,5 +1,6 @@
 // Where an attribute stands in a record, and where a new one goes.
 use crate::walk::measure_at;
+use lingua::sizes::BODY_BYTES;
 ghost use mathlib.Core.Path.{_≡_};
 ghost use Prim.Native.Nat.{_+_};
 ghost use Rattle.lingua.specs.Body.{Attributes, record-of};
@@ -14,7 +15,7 @@ pub struct Found {
 }
 
 // The offset counts the attributes that were passed, and not the one that is found.
-pub fn find(body: [u8; 96], n: u8) -> Found
+pub fn find(body: [u8; BODY_BYTES], n: u8) -> Found
     requires { ⌜ HeldRecord body ⌝ }
     ensures { λ r. ⌜ ((fs : Attributes) → Holds body (record-of fs) → FoundIs r body n fs) ⌝ }
 {
@@ -42,7 +43,7 @@ pub fn find(body: [u8; 96], n: u8) -> Found
 }
 
 // Where attribute n goes, so that the numbers still ascend: before the first that is larger.
-pub fn place(body: [u8; 96], n: u8) -> usize
+pub fn place(body: [u8; BODY_BYTES], n: u8) -> usize
     requires { ⌜ HeldRecord body ⌝ }
     ensures { λ r. ⌜ ((fs : Attributes) → Holds body (record-of fs) → r ≡ 2 + bytesBelow n fs) ⌝ }
 {

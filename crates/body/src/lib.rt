@@ -5,6 +5,5 @@ pub mod make;
 pub mod operation;
 pub mod parts;
 pub mod typed;
-pub mod types;
 pub mod unary;
 pub mod walk;

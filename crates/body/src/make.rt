@@ -6,37 +6,42 @@ use crate::walk::LIST;
 use crate::walk::RECORD;
 use crate::walk::measure_at;
 use crate::walk::measure_body;
+use lingua::sizes::BODY_BYTES;
 ghost use mathlib.Core.Path.{_≡_};
 ghost use mathlib.Core.List.{[], _∷_};
 ghost use Prim.Native.Nat.{_+_, _<_};
+ghost use Rattle.lingua.specs.Numbers.{body-bytes};
 ghost use Rattle.lingua.specs.Body.{Body, list-of, record-of, Attributes, end, attribute, nodes, insertAttribute};
 ghost use Rattle.lingua.specs.Value.{pad};
-ghost use Rattle.body.specs.Encode.{encoded, Holds, body-bytes};
+ghost use Rattle.body.specs.Encode.{encoded, Holds};
 ghost use Rattle.body.specs.Walk.{At, SomeAt};
 ghost use Rattle.body.specs.Find.{Room};
 
+// the bytes past a tag
+const PAST_TAG: usize = BODY_BYTES - 1;
+
 // A simple body is its tag alone.
-pub fn simple(tag: u8) -> [u8; 96]
+pub fn simple(tag: u8) -> [u8; BODY_BYTES]
     ensures { λ r. ⌜ r ≡ pad body-bytes 0 (tag ∷ []) ⌝ }
 {
-    let mut out = [0u8; 96];
+    let mut out = [0u8; BODY_BYTES];
     out[0] = tag;
     out
 }
 
 // The last byte that falls out is a zero: no body fills all 96.
-pub fn list_of(body: [u8; 96]) -> [u8; 96]
+pub fn list_of(body: [u8; BODY_BYTES]) -> [u8; BODY_BYTES]
     ensures { λ r. ⌜ ((b : Body) → Holds body b → r ≡ encoded (list-of b)) ⌝ }
 {
-    let mut out = [0u8; 96];
+    let mut out = [0u8; BODY_BYTES];
     out[0] = LIST;
-    pasted(out, 1, body, 0, 95)
+    pasted(out, 1, body, 0, PAST_TAG)
 }
 
-pub fn record_of(n: u8, body: [u8; 96]) -> [u8; 96]
+pub fn record_of(n: u8, body: [u8; BODY_BYTES]) -> [u8; BODY_BYTES]
     ensures { λ r. ⌜ ((b : Body) → Holds body b → nodes b < 32 → r ≡ encoded (record-of (attribute n b end))) ⌝ }
 {
-    let mut out = [0u8; 96];
+    let mut out = [0u8; BODY_BYTES];
     out[0] = RECORD;
     out[1] = 1;
     out[2] = n;
@@ -44,14 +49,14 @@ pub fn record_of(n: u8, body: [u8; 96]) -> [u8; 96]
 }
 
 // A list's element.
-pub fn element(body: [u8; 96]) -> [u8; 96]
+pub fn element(body: [u8; BODY_BYTES]) -> [u8; BODY_BYTES]
     ensures { λ r. ⌜ ((b : Body) → Holds body (list-of b) → Holds r b) ⌝ }
 {
-    part(body, 1, 95)
+    part(body, 1, PAST_TAG)
 }
 
 // The body that stands at a place, by itself.
-pub fn body_at(body: [u8; 96], at: usize) -> [u8; 96]
+pub fn body_at(body: [u8; BODY_BYTES], at: usize) -> [u8; BODY_BYTES]
     requires { ⌜ SomeAt body at ⌝ }
     ensures { λ r. ⌜ ((b : Body) → At body at b → r ≡ encoded b) ⌝ }
 {
@@ -60,7 +65,7 @@ pub fn body_at(body: [u8; 96], at: usize) -> [u8; 96]
 }
 
 // A record with one attribute more, between those below it and those above.
-pub fn insert(body: [u8; 96], n: u8, added: [u8; 96]) -> [u8; 96]
+pub fn insert(body: [u8; BODY_BYTES], n: u8, added: [u8; BODY_BYTES]) -> [u8; BODY_BYTES]
     requires { ⌜ Room body added ⌝ }
     ensures { λ r. ⌜ ((fs : Attributes) (c : Body) → Holds body (record-of fs) → Holds added c → r ≡ encoded (record-of (insertAttribute n c fs))) ⌝ }
 {
@@ -69,7 +74,7 @@ pub fn insert(body: [u8; 96], n: u8, added: [u8; 96]) -> [u8; 96]
     let extra = measure_body(added);
     let end = whole.next;
     let more = extra.next;
-    let mut head = [0u8; 96];
+    let mut head = [0u8; BODY_BYTES];
     head[0] = RECORD;
     head[1] = body[1] + 1;
     let mut below = pasted(head, 2, body, 2, at - 2);

@@ -16,6 +16,7 @@ use crate::walk::BOOLEAN;
 use crate::walk::NUMBER;
 use lingua::operations::BinaryOperation;
 use lingua::operations::UnaryOperation;
+use lingua::sizes::BODY_BYTES;
 ghost use Rattle.lingua.specs.Body.{Body};
 ghost use Rattle.lingua.specs.Operation.{unaryBody, binaryBody};
 ghost use Rattle.lingua.specs.Operations.{unaryMeaning, binaryMeaning};
@@ -23,7 +24,7 @@ ghost use Rattle.lingua.specs.Typing.{unarySecond, binarySecond};
 ghost use Rattle.body.specs.Encode.{Holds, Held};
 ghost use Rattle.body.specs.Half.{Half};
 
-pub fn unary_half(o: UnaryOperation, x: [u8; 96]) -> Typed
+pub fn unary_half(o: UnaryOperation, x: [u8; BODY_BYTES]) -> Typed
     requires { ⌜ Held x ⌝ }
     ensures { λ r. ⌜ ((b : Body) → Holds x b → Half r (unaryBody (unaryMeaning o) b) (λ d. unarySecond (unaryMeaning o) b)) ⌝ }
 {
@@ -37,10 +38,10 @@ pub fn unary_half(o: UnaryOperation, x: [u8; 96]) -> Typed
     }
 }
 
-pub fn binary_half(o: BinaryOperation, x: [u8; 96], y: [u8; 96]) -> Typed
+pub fn binary_half(o: BinaryOperation, x: [u8; BODY_BYTES], y: [u8; BODY_BYTES]) -> Typed
     requires { ⌜ Held x ⌝ }
     requires { ⌜ Held y ⌝ }
-    ensures { λ r. ⌜ ((b c : Body) → Holds x b → Holds y c → Half r (binaryBody (binaryMeaning o) b c) (λ d. binarySecond (binaryMeaning o) d)) ⌝ }
+    ensures { λ r. ⌜ ((b c : Body) → Holds x b → Holds y c → Half r (binaryBody (binaryMeaning o) b c) (λ d. binarySecond (binaryMeaning o) b c d)) ⌝ }
 {
     match o {
         BinaryOperation::Add => numbers(NUMBER, x, y),

@@ -1,16 +1,24 @@
 // Copies of parts of a body's bytes, and the comparison of two bodies.
+use lingua::sizes::BODY_BYTES;
 ghost use mathlib.Core.Path.{_≡_};
 ghost use Prim.Native.Nat.{_+_, _≤_};
 ghost use lib.ListN.{take, drop};
 ghost use lib.Seq.{paste};
+ghost use Rattle.lingua.specs.Numbers.{body-bytes};
 ghost use Rattle.lingua.specs.Body.{Body, sameBody};
 ghost use Rattle.lingua.specs.Value.{pad};
-ghost use Rattle.body.specs.Encode.{Holds, body-bytes};
+ghost use Rattle.body.specs.Encode.{Holds};
 
 // The bytes with n of another array's, from a place of it on, at a place.
-pub fn pasted(body: [u8; 96], at: usize, other: [u8; 96], from: usize, n: usize) -> [u8; 96]
-    requires { ⌜ at + n ≤ 96 ⌝ }
-    requires { ⌜ from + n ≤ 96 ⌝ }
+pub fn pasted(
+    body: [u8; BODY_BYTES],
+    at: usize,
+    other: [u8; BODY_BYTES],
+    from: usize,
+    n: usize,
+) -> [u8; BODY_BYTES]
+    requires { ⌜ at + n ≤ body-bytes ⌝ }
+    requires { ⌜ from + n ≤ body-bytes ⌝ }
     ensures { λ r. ⌜ r ≡ paste body at (drop from other) n ⌝ }
 {
     let mut out = body;
@@ -23,19 +31,19 @@ pub fn pasted(body: [u8; 96], at: usize, other: [u8; 96], from: usize, n: usize)
 }
 
 // The n bytes from a place on, zeros after: of a whole body, that body by itself.
-pub fn part(body: [u8; 96], from: usize, n: usize) -> [u8; 96]
-    requires { ⌜ from + n ≤ 96 ⌝ }
+pub fn part(body: [u8; BODY_BYTES], from: usize, n: usize) -> [u8; BODY_BYTES]
+    requires { ⌜ from + n ≤ body-bytes ⌝ }
     ensures { λ r. ⌜ r ≡ pad body-bytes 0 (take n (drop from body)) ⌝ }
 {
-    pasted([0u8; 96], 0, body, from, n)
+    pasted([0u8; BODY_BYTES], 0, body, from, n)
 }
 
 // Two bodies are equal where all their bytes are, since the encoding is injective.
-pub fn same(x: [u8; 96], y: [u8; 96]) -> bool
+pub fn same(x: [u8; BODY_BYTES], y: [u8; BODY_BYTES]) -> bool
     ensures { λ r. ⌜ ((b c : Body) → Holds x b → Holds y c → r ≡ sameBody b c) ⌝ }
 {
     let mut i = 0;
-    while i < 96 {
+    while i < BODY_BYTES {
         if x[i] != y[i] {
             return false;
         }

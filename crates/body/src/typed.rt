@@ -1,8 +1,10 @@
 // The answer of an operation on bodies, and what the operations share.
 use crate::make::simple;
+use lingua::sizes::BODY_BYTES;
 use lingua::sizes::BODY_CELLS;
 use lingua::sizes::BODY_DEPTH;
 use lingua::sizes::BODY_NODES;
+use lingua::sizes::RECORD_ATTRIBUTES;
 ghost use mathlib.Core.Path.{_≡_};
 ghost use mathlib.Core.Bool.{_||_};
 ghost use Prim.Native.Nat.{ℕ, _≤_};
@@ -11,13 +13,10 @@ ghost use Rattle.lingua.specs.Numbers.{body-cells, body-nodes, body-depth, reco
 ghost use Rattle.lingua.specs.Outcome.{ok, fail};
 ghost use Rattle.body.specs.Typed.{Types, simpleOf};
 
-// document 01's bound on attributes, as a byte
-const ATTRIBUTES: u8 = 8;
-
 // The result's body with its cells, and the attribute's cell offset of 17 to 19; or a type error.
 pub struct Typed {
     pub error: u8,
-    pub body: [u8; 96],
+    pub body: [u8; BODY_BYTES],
     pub cells: usize,
     pub offset: usize,
 }
@@ -28,7 +27,7 @@ pub fn failed(error: u8) -> Typed
 {
     Typed {
         error: error,
-        body: [0u8; 96],
+        body: [0u8; BODY_BYTES],
         cells: 0,
         offset: 0,
     }
@@ -61,5 +60,5 @@ pub fn too_large(cells: usize, nodes: usize, depth: usize, width: u8) -> bool
     if BODY_DEPTH < depth {
         return true;
     }
-    ATTRIBUTES < width
+    RECORD_ATTRIBUTES < width
 }

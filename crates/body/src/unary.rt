@@ -17,6 +17,8 @@ use lingua::errors::BOOLEAN_EXPECTED;
 use lingua::errors::LIST_EXPECTED;
 use lingua::errors::NO_SUCH_ATTRIBUTE;
 use lingua::errors::RECORD_EXPECTED;
+use lingua::sizes::BODY_BYTES;
+use lingua::sizes::LIST_PLACES;
 ghost use mathlib.Core.Path.{_≡_};
 ghost use Rattle.lingua.specs.Body.{Body, isBoolean};
 ghost use Rattle.lingua.specs.Operation.{negation, make-record, select, make-list, top, pop, unaryBody};
@@ -24,7 +26,7 @@ ghost use Rattle.body.specs.Encode.{Holds, Held};
 ghost use Rattle.body.specs.Typed.{Types, unaryOffset};
 
 // What a test and a yoke are asked.
-pub fn is_boolean(x: [u8; 96]) -> bool
+pub fn is_boolean(x: [u8; BODY_BYTES]) -> bool
     ensures { λ r. ⌜ ((b : Body) → Holds x b → r ≡ isBoolean b) ⌝ }
 {
     if x[0] == BOOLEAN {
@@ -34,7 +36,7 @@ pub fn is_boolean(x: [u8; 96]) -> bool
 }
 
 // Kind 14.
-pub fn negation(x: [u8; 96]) -> Typed
+pub fn negation(x: [u8; BODY_BYTES]) -> Typed
     ensures { λ r. ⌜ ((b : Body) → Holds x b → Types r (unaryBody negation b) 0) ⌝ }
 {
     if x[0] != BOOLEAN {
@@ -44,7 +46,7 @@ pub fn negation(x: [u8; 96]) -> Typed
 }
 
 // Kind 16. The bounds are asked before the record is made: within them it fits its 96 bytes.
-pub fn make_record(n: u8, x: [u8; 96]) -> Typed
+pub fn make_record(n: u8, x: [u8; BODY_BYTES]) -> Typed
     requires { ⌜ Held x ⌝ }
     ensures { λ r. ⌜ ((b : Body) → Holds x b → Types r (unaryBody (make-record n) b) 0) ⌝ }
 {
@@ -62,7 +64,7 @@ pub fn make_record(n: u8, x: [u8; 96]) -> Typed
 }
 
 // Kind 18.
-pub fn select(n: u8, x: [u8; 96]) -> Typed
+pub fn select(n: u8, x: [u8; BODY_BYTES]) -> Typed
     requires { ⌜ Held x ⌝ }
     ensures { λ r. ⌜ ((b : Body) → Holds x b → Types r (unaryBody (select n) b) (unaryOffset (select n) b)) ⌝ }
 {
@@ -84,12 +86,12 @@ pub fn select(n: u8, x: [u8; 96]) -> Typed
 }
 
 // Kind 20.
-pub fn make_list(x: [u8; 96]) -> Typed
+pub fn make_list(x: [u8; BODY_BYTES]) -> Typed
     requires { ⌜ Held x ⌝ }
     ensures { λ r. ⌜ ((b : Body) → Holds x b → Types r (unaryBody make-list b) 0) ⌝ }
 {
     let m = measure_body(x);
-    let cells = 1 + 8 * m.cells;
+    let cells = 1 + LIST_PLACES * m.cells;
     if too_large(cells, 1 + m.nodes, 1 + m.depth, 0) {
         return failed(BODY_TOO_LARGE);
     }
@@ -103,7 +105,7 @@ pub fn make_list(x: [u8; 96]) -> Typed
 }
 
 // Kind 22.
-pub fn top(x: [u8; 96]) -> Typed
+pub fn top(x: [u8; BODY_BYTES]) -> Typed
     requires { ⌜ Held x ⌝ }
     ensures { λ r. ⌜ ((b : Body) → Holds x b → Types r (unaryBody top b) 0) ⌝ }
 {
@@ -121,7 +123,7 @@ pub fn top(x: [u8; 96]) -> Typed
 }
 
 // Kind 23.
-pub fn pop(x: [u8; 96]) -> Typed
+pub fn pop(x: [u8; BODY_BYTES]) -> Typed
     requires { ⌜ Held x ⌝ }
     ensures { λ r. ⌜ ((b : Body) → Holds x b → Types r (unaryBody pop b) 0) ⌝ }
 {

@@ -1,4 +1,6 @@
 // Measuring a body by a walk of its bytes in preorder.
+use lingua::sizes::BODY_BYTES;
+use lingua::sizes::LIST_PLACES;
 ghost use mathlib.Core.Path.{_≡_};
 ghost use Prim.Native.Nat.{ℕ, max};
 ghost use Rattle.lingua.specs.Body.{Body, Attributes, countAttributes};
@@ -33,7 +35,7 @@ pub fn larger(a: usize, b: usize) -> usize
 }
 
 // The body at a place.
-pub fn measure_at(body: [u8; 96], at: usize) -> Measure
+pub fn measure_at(body: [u8; BODY_BYTES], at: usize) -> Measure
     requires { ⌜ SomeAt body at ⌝ }
     ensures { λ r. ⌜ ((b : Body) → At body at b → Measured r at b) ⌝ }
 {
@@ -41,7 +43,7 @@ pub fn measure_at(body: [u8; 96], at: usize) -> Measure
     if tag == LIST {
         let e = measure_at(body, at + 1);
         return Measure {
-            cells: 1 + 8 * e.cells,
+            cells: 1 + LIST_PLACES * e.cells,
             nodes: 1 + e.nodes,
             depth: 1 + e.depth,
             next: e.next,
@@ -66,7 +68,7 @@ pub fn measure_at(body: [u8; 96], at: usize) -> Measure
 }
 
 // The n attributes at a place, taken together.
-fn attributes_at(body: [u8; 96], at: usize, n: u8) -> Measure
+fn attributes_at(body: [u8; BODY_BYTES], at: usize, n: u8) -> Measure
     requires { ⌜ SomeAttributesAt body at n ⌝ }
     ensures { λ r. ⌜ ((fs : Attributes) → AttributesAt body at fs → n ≡ countAttributes fs → AttributesMeasured r at fs) ⌝ }
 {
@@ -89,7 +91,7 @@ fn attributes_at(body: [u8; 96], at: usize, n: u8) -> Measure
     }
 }
 
-pub fn measure_body(body: [u8; 96]) -> Measure
+pub fn measure_body(body: [u8; BODY_BYTES]) -> Measure
     requires { ⌜ Held body ⌝ }
     ensures { λ r. ⌜ ((b : Body) → Holds body b → Measured r 0 b) ⌝ }
 {

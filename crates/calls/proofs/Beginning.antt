@@ -27,7 +27,7 @@ use Rattle.safety.specs.Passed.{reads-number}
 use Rattle.safety.specs.Once.{profile-laid-out, rows-laid-out}
 use Rattle.rules.specs.Tables.{IsTable}
 use Rattle.rules.specs.declared.tables.Table.{Table}
-use Rattle.profile.specs.Accepted.{counts}
+use Rattle.rules.specs.Accepted.{counts}
 use Rattle.profile.specs.Yokes.{YokeOf, every-yoke}
 use Rattle.run.specs.Begun.{startStore, Begun}
 use Rattle.run.specs.Kept.{BodiesKept}

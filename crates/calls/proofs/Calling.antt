@@ -13,22 +13,22 @@ use Rattle.lingua.specs.Run.{Progress, run}
 use Rattle.lingua.specs.Typing.{TypeError, Entry, checkProfile, layoutOf}
 use Rattle.lingua.specs.Trees.{profileOf}
 use Rattle.lingua.specs.Format.{rowsOf}
-use Rattle.lingua.specs.Refusal.{checkRefusal, checkedRefusal, erasedRefusal, lowest, pairRules}
+use Rattle.lingua.specs.Refusal.{typeCheckRefusal, checkedRefusal, erasedRefusal, lowest, pairRules}
 use Rattle.lingua.specs.Answers.{refused, runMeaning}
 use Rattle.lingua.specs.declared.RunAnswer.{RunAnswer}
 use Rattle.lingua.specs.declared.RunAnswer.the-variants as run-answer
-use Rattle.lingua.specs.Calls.{RunCall, ErasedCall, readingsOf, ran, runOf, runUnless, checkedCall, withLayout, checkVerdict, checkUnless, checkCall, erasedUnless, erasedCall, runResult, erasedResult}
+use Rattle.lingua.specs.Calls.{RunCall, ErasedCall, readingsOf, ran, runOf, runUnless, checkedCall, withLayout, typeCheckVerdict, typeCheckUnless, typeCheckCall, erasedUnless, erasedCall, runResult, erasedResult}
 use Rattle.safety.specs.Accepted.{AcceptedRows, accepted-pair}
 use Rattle.safety.specs.Limited.{accepted-limited}
 use Rattle.safety.specs.TwoRuns.{Passes, passed-layout}
-use Rattle.accept.specs.declared.Pair.{Pair}
+use Rattle.pair.specs.declared.Pair.{Pair}
+use Rattle.pair.proofs.Given.{rows-accepted}
 use Rattle.typecheck.specs.declared.verdicts.Verdict.{Verdict}
 use Rattle.typecheck.specs.Verdicts.{Concludes}
 use Rattle.walk.specs.Meaning.{Readable}
 use Rattle.calls.specs.Taken.{RunTaken, RunIs}
 use Rattle.calls.specs.Ways.{Startable, NumbersLimited, PassedRows, erasedVerdict, erasedRows}
 use Rattle.calls.proofs.Refusing.{short-layout, run-refuses, type-error-refuses, none-refuses}
-use Rattle.calls.proofs.Taking.{rows-accepted}
 
 some-number : (n : ℕ) → (n ≡ 0 → ⊥) → (m : ℕ) × (n ≡ suc m)
 some-number zero k = absurd (k refl)
@@ -38,7 +38,7 @@ some-number (suc m) k = (m, refl)
 module _ {prof lims who : List ℕ} {numbers cells : List ℤ} {states areas others bodies : List ℕ} {p : Pair} (t : RunTaken p prof lims who numbers cells states areas others bodies) where
   pub startable : Startable (take (p .rows) areas) who numbers cells states
   startable = record {
-    accepted = rows-accepted (accepted-pair prof lims (t .accepted)) (t .files);
+    accepted = rows-accepted (t .files) (t .accepted);
     readable = subst (λ (rows : List ℕ). Readable rows who numbers) (sym (t .files .rows)) (t .readable);
     long-cells = t .long-cells;
     long-states = t .long-states;

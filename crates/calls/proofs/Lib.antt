@@ -3,3 +3,4 @@ pub mod Taking
 pub mod Beginning
 pub mod Calling
 pub mod Copying
+pub mod Checking

@@ -1,32 +1,18 @@
 -- The ways in which taking a run's inputs ends: refused by its buffers, by the files or by its readings, or taken. Assumes nothing.
-use mathlib.Core.Path.{_≡_, refl, sym, ap, _∙_, subst}
+use mathlib.Core.Path.{_≡_, refl, sym, ap, _∙_}
 use mathlib.Core.Bool.{Bool, true, false}
 use mathlib.Core.List.{List}
 use Prim.Native.Nat.{ℕ, suc}
 use native.Mathlib.Omega.{arith}
 use lib.IntN.{ℤ}
 use lib.ListN.{length, take}
-use Rattle.lingua.specs.Numbers.{cells-length, states-length, type-section}
-use Rattle.lingua.specs.Rows.{tableCount}
+use Rattle.lingua.specs.Numbers.{cells-length, states-length}
 use Rattle.lingua.specs.Format.{rowsOf}
 use Rattle.lingua.specs.Refusal.{readingWrong, checkedRefusal}
-use Rattle.safety.specs.Accepted.{AcceptedRows, accepted-pair}
-use Rattle.profile.specs.Types.{BodiesBelow}
-use Rattle.accept.specs.Pair.{TakenPair, PairIs}
-use Rattle.accept.specs.declared.Pair.{Pair}
+use Rattle.pair.specs.Pair.{PairIs}
+use Rattle.pair.specs.declared.Pair.{Pair}
 use Rattle.calls.specs.Taken.{RunTaken, RunIs}
 use Rattle.calls.proofs.Refusing.{short-inputs, short-cells, short-states, files-refused, inputs-refused, none-refused}
-
--- ---- the rows of files that are taken
-module _ {prof lims areas others bodies : List ℕ} {p : Pair} (accepted : AcceptedRows (rowsOf prof)) (h : TakenPair p prof lims areas others bodies) where
-  pub rows-accepted : AcceptedRows (take (p .rows) areas)
-  rows-accepted = subst (λ (rows : List ℕ). AcceptedRows rows) (sym (h .rows)) accepted
-
-  pub bodies-held : BodiesBelow (take (p .rows) areas) bodies (tableCount (take (p .rows) areas) type-section)
-  bodies-held = subst (λ (rows : List ℕ). BodiesBelow rows bodies (tableCount rows type-section)) (sym (h .rows)) (h .held)
-
-pub pair-accepted : {prof lims areas others bodies : List ℕ} {p : Pair} → PairIs p prof lims areas others bodies → p .refusal ≡ 0 → AcceptedRows (rowsOf prof)
-pair-accepted {prof} {lims} h z = accepted-pair prof lims (sym (h .refusal) ∙ z)
 
 -- ---- refused
 module _ (prof lims who : List ℕ) (numbers cells : List ℤ) (states areas others bodies : List ℕ) where

@@ -8,8 +8,8 @@ use Rattle.lingua.specs.Numbers.{cells-length, states-length}
 use Rattle.lingua.specs.Errors.{no-error}
 use Rattle.lingua.specs.Format.{rowsOf}
 use Rattle.lingua.specs.Refusal.{lowest, pairRules, checkedRefusal}
-use Rattle.accept.specs.Pair.{TakenPair}
-use Rattle.accept.specs.declared.Pair.{Pair}
+use Rattle.pair.specs.Pair.{TakenPair}
+use Rattle.pair.specs.declared.Pair.{Pair}
 use Rattle.walk.specs.Meaning.{Readable}
 
 -- where no rule applies: buffers of the listed lengths, both files' rows, and readings for number variables

@@ -17,7 +17,7 @@ use Rattle.lingua.specs.Trees.{declarationAt, profileOf}
 use Rattle.lingua.specs.Answers.{refused}
 use Rattle.lingua.specs.Calls.{ErasedCall, readingsOf, ran, withLayout}
 use Rattle.safety.specs.Accepted.{AcceptedRows}
-use Rattle.profile.specs.Types.{BodiesBelow}
+use Rattle.rules.specs.Types.{BodiesBelow}
 use Rattle.walk.specs.Meaning.{Readable}
 
 -- what a run of accepted rows asks: lent memory of the listed lengths, and readings for number variables

@@ -5,22 +5,26 @@ use lingua::RunAnswer;
 use lingua::errors::BAD_BUFFER;
 use lingua::errors::NO_ERROR;
 use lingua::errors::TYPE_ERROR_FOUND;
+use lingua::sizes::AREA_BYTES;
+use lingua::sizes::AREAS_LENGTH;
 use lingua::sizes::LAYOUT_LENGTH;
+use lingua::sizes::LIMIT_CELLS_LENGTH;
+use lingua::sizes::TYPE_BODIES_LENGTH;
+use rules::tables::Table;
 use rules::tables::Tables;
-use rules::tables::tables_of;
 use run::start::start;
 use typecheck::whole::check_profile;
-use walk::whole::run;
 use walk::way::Way;
+use walk::whole::run;
 ghost use mathlib.Core.Path.{_≡_};
 ghost use lib.ListN.{length};
-ghost use Rattle.lingua.specs.Numbers.{layout-length, type-section};
+ghost use Rattle.lingua.specs.Numbers.{layout-length, type-section, limit-section};
 ghost use Rattle.lingua.specs.Rows.{tableCount};
 ghost use Rattle.lingua.specs.Run.{run as meaning};
 ghost use Rattle.lingua.specs.Trees.{profileOf};
 ghost use Rattle.lingua.specs.Calls.{readingsOf, ran, runResult, erasedCall, erasedResult};
-ghost use Rattle.rules.specs.Tables.{AreTables};
-ghost use Rattle.profile.specs.Types.{BodiesBelow};
+ghost use Rattle.rules.specs.Tables.{IsTable, AreTables};
+ghost use Rattle.rules.specs.Types.{BodiesBelow};
 ghost use Rattle.calls.specs.Ways.{Startable, NumbersLimited, PassedRows, erasedRows};
 
 // The run of passed rows, with the layout table and no body.
@@ -28,6 +32,7 @@ fn passed_rows(
     rows: &[u8],
     tables: Tables,
     limits: &[u8],
+    named: Table,
     layout: &[u16],
     who: &[u16],
     numbers: &[i64],
@@ -36,14 +41,12 @@ fn passed_rows(
     states: &mut [u16],
 ) -> RunAnswer
     requires { ⌜ Startable (now rows) (now who) (now numbers) (now cells) (now states) ⌝ }
-    requires { ⌜ AreTables (now rows) tables ⌝ }
+    requires { ⌜ AreTables (now rows) tables × IsTable (now limits) limit-section named ⌝ }
     requires { ⌜ PassedRows (now rows) (now limits) (now layout) × NumbersLimited (now rows) (now limits) ⌝ }
     ensures { λ r. ⌜ runResult r (now (cells .exit)) (now (states .exit)) ≡ ran budget (meaning (profileOf (now (rows .entry)) (now (limits .entry))) (readingsOf (now (who .entry)) (now (numbers .entry))) budget) ⌝ }
 {
     let declarations = tables.declarations;
-    let others = tables_of(limits);
-    let named = others.limits;
-    let mut kept = [0i64; 48];
+    let mut kept = [0i64; LIMIT_CELLS_LENGTH];
     let bodies = [0u8; 0];
     start(
         rows,
@@ -76,7 +79,7 @@ fn copy_table(table: &[u16], layout: &mut [u16])
     ensures { λ _. ⌜ now (layout .exit) ≡ now (table .entry) ⌝ }
 {
     let mut i = 0;
-    while i < 1024 {
+    while i < LAYOUT_LENGTH {
         layout[i] = table[i];
         i += 1;
     }
@@ -85,7 +88,9 @@ fn copy_table(table: &[u16], layout: &mut [u16])
 // The type check works on a table of its own: rule 17 leaves the caller's as it was.
 fn erased_rows(
     rows: &[u8],
+    tables: Tables,
     limits: &[u8],
+    named: Table,
     bodies: &[u8],
     who: &[u16],
     numbers: &[i64],
@@ -95,12 +100,12 @@ fn erased_rows(
     layout: &mut [u16],
 ) -> RunAnswer
     requires { ⌜ Startable (now rows) (now who) (now numbers) (now cells) (now states) ⌝ }
+    requires { ⌜ AreTables (now rows) tables × IsTable (now limits) limit-section named ⌝ }
     requires { ⌜ BodiesBelow (now rows) (now bodies) (tableCount (now rows) type-section) ⌝ }
     requires { ⌜ (length (now layout) ≡ layout-length) × NumbersLimited (now rows) (now limits) ⌝ }
     ensures { λ r. ⌜ erasedResult r (now (cells .exit)) (now (states .exit)) (now (layout .exit)) ≡ erasedRows (now (rows .entry)) (now (limits .entry)) (now (who .entry)) (now (numbers .entry)) budget (now (cells .entry)) (now (states .entry)) (now (layout .entry)) ⌝ }
 {
-    let tables = tables_of(rows);
-    let mut table = [0u16; 1024];
+    let mut table = [0u16; LAYOUT_LENGTH];
     let verdict = check_profile(rows, tables, bodies, &mut table);
     if verdict.error != NO_ERROR {
         return RunAnswer::Refused(TYPE_ERROR_FOUND);
@@ -110,6 +115,7 @@ fn erased_rows(
         rows,
         tables,
         limits,
+        named,
         layout,
         who,
         numbers,
@@ -134,9 +140,9 @@ pub fn run_erased(
     if layout.len() != LAYOUT_LENGTH {
         return RunAnswer::Refused(BAD_BUFFER);
     }
-    let mut areas = [0u8; 8500];
-    let mut others = [0u8; 8500];
-    let mut bodies = [0u8; 3072];
+    let mut areas = [0u8; AREAS_LENGTH];
+    let mut others = [0u8; AREA_BYTES];
+    let mut bodies = [0u8; TYPE_BODIES_LENGTH];
     let pair = take_run(
         profile,
         limits,
@@ -154,9 +160,13 @@ pub fn run_erased(
     }
     let n = pair.rows;
     let m = pair.limits;
+    let tables = pair.tables;
+    let named = pair.named;
     erased_rows(
         &areas[..n],
+        tables,
         &others[..m],
+        named,
         &bodies,
         who,
         numbers,

@@ -1,5 +1,7 @@
-// The runs as public calls, on two whole files each.
+// What hosts and programs call: the reader, the writer, the type check and both runs. Any bytes and any buffers may be handed in.
 pub mod both; // both.rt: both runs of one profile
 pub mod checked_run; // checked_run.rt: the checked run
 pub mod erased_run; // erased_run.rt: the erased run
+pub mod files; // files.rt: the reader and the writer
 mod taken; // taken.rt: what every run asks before it starts
+pub mod types; // types.rt: the type check

@@ -1,42 +1,15 @@
 // What every run asks before it starts: its buffers' lengths, both files, and readings for number variables.
-use accept::Pair;
-use accept::take_pair;
 use lingua::errors::BAD_BUFFER;
 use lingua::errors::BAD_READING;
 use lingua::errors::NO_ERROR;
 use lingua::sizes::CELLS_LENGTH;
 use lingua::sizes::STATES_LENGTH;
+use pair::Pair;
+use pair::refused;
+use pair::take_pair;
 use profile::agreement::reading_wrong;
-use rules::tables::tables_of;
-ghost use mathlib.Core.Path.{_≡_};
-ghost use lib.ListN.{length};
-ghost use Rattle.lingua.specs.Numbers.{type-section};
-ghost use Rattle.lingua.specs.Rows.{tableCount};
-ghost use Rattle.lingua.specs.Refusal.{readingWrong};
-ghost use Rattle.safety.specs.Accepted.{AcceptedRows};
-ghost use Rattle.profile.specs.Types.{BodiesBelow};
+ghost use Rattle.pair.specs.Pair.{Room};
 ghost use Rattle.calls.specs.Taken.{RunIs};
-
-// Rule 16, on accepted rows.
-fn inputs_wrong(rows: &[u8], bodies: &[u8], who: &[u16]) -> bool
-    requires { ⌜ AcceptedRows (now rows) ⌝ }
-    requires { ⌜ BodiesBelow (now rows) (now bodies) (tableCount (now rows) type-section) ⌝ }
-    ensures { λ r. ⌜ r ≡ readingWrong (now (rows .entry)) (now (who .entry)) ⌝ }
-{
-    let tables = tables_of(rows);
-    let declarations = tables.declarations;
-    reading_wrong(rows, declarations, bodies, who)
-}
-
-fn refused(number: u8) -> Pair
-    ensures { λ r. ⌜ r .refusal ≡ number ⌝ }
-{
-    Pair {
-        refusal: number,
-        rows: 0,
-        limits: 0,
-    }
-}
 
 // The lowest rule of 1 to 16 that applies; where none does, both files' rows lie in their areas, with the bodies of the type rows.
 pub fn take_run(
@@ -50,7 +23,7 @@ pub fn take_run(
     others: &mut [u8],
     bodies: &mut [u8],
 ) -> Pair
-    requires { ⌜ (length (now areas) ≡ 8500) × (length (now others) ≡ 8500) × (length (now bodies) ≡ 3072) ⌝ }
+    requires { ⌜ Room (now areas) (now others) (now bodies) ⌝ }
     ensures { λ r. ⌜ RunIs r (now (profile .entry)) (now (limits .entry)) (now (who .entry)) (now (numbers .entry)) (now (cells .entry)) (now (states .entry)) (now (areas .exit)) (now (others .exit)) (now (bodies .exit)) ⌝ }
 {
     if who.len() != numbers.len() {
@@ -67,7 +40,9 @@ pub fn take_run(
         return pair;
     }
     let n = pair.rows;
-    if inputs_wrong(&areas[..n], bodies, who) {
+    let tables = pair.tables;
+    let declarations = tables.declarations;
+    if reading_wrong(&areas[..n], declarations, bodies, who) {
         return refused(BAD_READING);
     }
     pair

@@ -1,17 +1,16 @@
 -- The range of numbers, and that sums, differences, products and quotients of numbers in range fit 64 bits.
 -- Assumes nothing.
-use mathlib.Core.Path.{_≡_, refl, sym, ap, _∙_}
+use mathlib.Core.Path.{_≡_, refl, ap}
 use mathlib.Core.Bool.{Bool, true, false, _&&_, cond}
 use Prim.Native.Nat.{ℕ, zero, suc, _+_, _-_, _*_, _/_, _≤_, _<_}
 use native.Mathlib.Nat.{mul-le-mul-left, mul-le-mul-right, le-trans, div-le-self}
 use native.Mathlib.Omega.{arith}
-use borrow.Author.Tests.{ltb-true, ltb-false, leb-true, eqb-true, eqb-false, eq-eqb, ne-eqb, lt-leb, le-leb}
-use lib.Dec.{ltb, leb, eqb}
+use borrow.Author.Tests.{ltb-true, ltb-false, leb-true, eq-eqb, ne-eqb, lt-leb, le-leb}
+use lib.Dec.{ltb, leb}
 use lib.IntN.{ℤ, pos, negsuc, negℤ, natAbs, _+ℤ_, _-ℤ_, _*ℤ_}
 use lib.Signed.{mag, ltZ, quotZ}
 use mir.Syntax.{w64}
-use mir.Val.{SFits, toZ, ofZ}
-use mir.ValLaws.{toZ-ofZ}
+use mir.Val.{SFits, ofZ}
 use Rattle.lingua.specs.Value.{inRange, asWhole}
 use Rattle.lingua.specs.Compute.{ranged, divided, quotient, sameNumber}
 use Rattle.cells.specs.Image.{image}
@@ -136,15 +135,6 @@ other-number (pos m) (pos n) f = ne-eqb m n (λ e. f (ap pos e))
 other-number (pos m) (negsuc n) f = refl
 other-number (negsuc m) (pos n) f = refl
 other-number (negsuc m) (negsuc n) f = ne-eqb m n (λ e. f (ap negsuc e))
-
--- the bits of two numbers are equal where the numbers are
-pub same-bits : (x y : ℤ) → SFits w64 x → SFits w64 y → eqb (ofZ w64 x) (ofZ w64 y) ≡ sameNumber x y
-same-bits x y f g = by-test (eqb (ofZ w64 x) (ofZ w64 y)) refl
-  where
-    by-test : (t : Bool) → eqb (ofZ w64 x) (ofZ w64 y) ≡ t → eqb (ofZ w64 x) (ofZ w64 y) ≡ sameNumber x y
-    by-test true e =
-        e ∙ sym (same-number x y (sym (toZ-ofZ w64 x f) ∙ ap (toZ w64) (eqb-true (ofZ w64 x) (ofZ w64 y) e) ∙ toZ-ofZ w64 y g))
-    by-test false e = e ∙ sym (other-number x y (λ p. eqb-false (ofZ w64 x) (ofZ w64 y) e (ap (ofZ w64) p)))
 
 -- ---- the two ways in which a division ends
 pub divide-zero : (x y : ℤ) → y ≡ pos 0 → Error 2 ≡ image (divided x y)

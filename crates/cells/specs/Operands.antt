@@ -34,7 +34,7 @@ pub record Operands (o : Binary) (stack : List ℤ) (cells others offset : ℕ) 
   pub half : binaryBody o b c ≡ ok d
   pub cells-are : size b ≡ cells
   pub others-are : size c ≡ others
-  pub offset-is : binarySecond o d ≡ offset
+  pub offset-is : binarySecond o b c d ≡ offset
   pub small : size b ≤ body-cells
   pub small-other : size c ≤ body-cells
   pub lies : Lies stack first-place b x

@@ -78,10 +78,10 @@ pub fn binary(
     let x = stack[0];
     let y = stack[BODY_CELLS];
     match operation {
-        BinaryOperation::Add => return put(stack, arith::add(x, y)),
-        BinaryOperation::Subtract => return put(stack, arith::subtract(x, y)),
-        BinaryOperation::Multiply => return put(stack, arith::multiply(x, y)),
-        BinaryOperation::Divide => return put(stack, arith::divide(x, y)),
+        BinaryOperation::Add => return put(stack, crate::arith::add(x, y)),
+        BinaryOperation::Subtract => return put(stack, crate::arith::subtract(x, y)),
+        BinaryOperation::Multiply => return put(stack, crate::arith::multiply(x, y)),
+        BinaryOperation::Divide => return put(stack, crate::arith::divide(x, y)),
         BinaryOperation::Less => simple::less(stack),
         BinaryOperation::Equal => simple::equal(stack),
         BinaryOperation::Glue => return words::glue(stack),

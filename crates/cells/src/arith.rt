@@ -6,9 +6,8 @@ use lingua::sizes::LOWEST_NUMBER;
 ghost use mathlib.Core.Path.{_≡_};
 ghost use mathlib.Core.Bool.{true};
 ghost use lib.IntN.{pos, _+ℤ_, _-ℤ_, _*ℤ_};
-ghost use lib.Signed.{ltZ};
 ghost use Rattle.lingua.specs.Value.{inRange};
-ghost use Rattle.lingua.specs.Compute.{ranged, divided, quotient, sameNumber};
+ghost use Rattle.lingua.specs.Compute.{ranged, divided, quotient};
 ghost use Rattle.cells.specs.Image.{image};
 
 // A number, or the number of a run error.
@@ -75,16 +74,4 @@ pub fn divide(x: i64, y: i64) -> Number
         return Number::Error(DIVISION_BY_ZERO);
     }
     Number::Whole(quotient(x, y))
-}
-
-pub fn less(x: i64, y: i64) -> bool
-    ensures { λ r. ⌜ r ≡ ltZ x y ⌝ }
-{
-    x < y
-}
-
-pub fn equal(x: i64, y: i64) -> bool
-    ensures { λ r. ⌜ r ≡ sameNumber x y ⌝ }
-{
-    x == y
 }

@@ -2,7 +2,7 @@
 use mathlib.Core.Path.{_≡_, refl, sym, ap, _∙_, subst}
 use mathlib.Core.Bool.{Bool, true, false, _&&_}
 use mathlib.Core.List.{List}
-use Prim.Native.Nat.{ℕ, _+_, _*_, _≤_, _<_}
+use Prim.Native.Nat.{ℕ, _≤_, _<_}
 use native.Mathlib.Omega.{arith}
 use lib.IntN.{ℤ, pos}
 use lib.ListN.{length, getD}
@@ -12,7 +12,7 @@ use Rattle.lingua.specs.Body.{Body, size, isNumber, sameBody}
 use Rattle.lingua.specs.Value.{Value, Fits, fit-truth, fit-whole, fit-text, fit-items, fit-fields, asWhole, Composite}
 use Rattle.lingua.specs.Expression.{Yoke}
 use Rattle.lingua.specs.Evaluation.{truthOr, evalYoke}
-use Rattle.lingua.specs.Store.{Variable, variableAt, contents, within, admitted}
+use Rattle.lingua.specs.Store.{Variable, variableAt, contents, within, admitted, yokeAt}
 use Rattle.lingua.specs.Trees.{yokeTree}
 use Rattle.laws.specs.Outcomes.{is-number, false-is-true}
 use Rattle.rules.specs.declared.tables.Table.{Table}
@@ -50,11 +50,11 @@ other-whole {value} {body} {x} h f = none-whole (h .lies .fit) (tags.not-number 
 
 -- ---- the current yoke
 module _ {rows : List ℕ} {t : Table} {variables : List ℕ} {limits cells : List ℤ} {states : List ℕ} {vs : List Variable} (h : Running rows t variables limits (lent cells states) vs) (n : ℕ) (lt : n < length vs) where
-  pub yoke-there : getD states (2 * n + 1) 0 ≤ t .count
-  yoke-there = omega (arith, Parts.yoke-there (memory-of (h .world .stored)) n lt (h .yokes n lt), h .world .table .count)
+  pub yoke-there : {k : ℕ} → k ≡ yokeAt states n → k ≤ t .count
+  yoke-there e = omega (arith, e, Parts.yoke-there (memory-of (h .world .stored)) n lt (h .yokes n lt), h .world .table .count)
 
-  pub own-yoke : (x : Composite) → evalYoke (yokeTree rows (getD states (2 * n + 1) 0)) (contents vs) x ≡ evalYoke (variableAt vs n .current) (contents vs) x
-  own-yoke x = ap (λ (y : Yoke). evalYoke y (contents vs) x) (Parts.own-yoke (memory-of (h .world .stored)) n lt (h .yokes n lt))
+  pub own-yoke : {k : ℕ} → k ≡ yokeAt states n → (x : Composite) → evalYoke (yokeTree rows k) (contents vs) x ≡ evalYoke (variableAt vs n .current) (contents vs) x
+  own-yoke e x = ap (λ (y : Yoke). evalYoke y (contents vs) x) (ap (yokeTree rows) e ∙ Parts.own-yoke (memory-of (h .world .stored)) n lt (h .yokes n lt))
 
 -- ---- the checks
 module _ (vs : List Variable) (v : Variable) (x : Composite) {y : Evaluated} {s : List ℤ} (g : Gives y s (evalYoke (v .current) (contents vs) x)) where

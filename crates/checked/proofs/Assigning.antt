@@ -9,7 +9,7 @@ use Rattle.lingua.specs.Numbers.{body-cells}
 use Rattle.lingua.specs.Outcome.{ok, fail, Result, _>>=_, _>>_}
 use Rattle.lingua.specs.Body.{size}
 use Rattle.lingua.specs.Value.{Composite}
-use Rattle.lingua.specs.Store.{Variable, variableAt, withContent, admitted, assigned}
+use Rattle.lingua.specs.Store.{Variable, variableAt, withContent, admitted, assigned, fillAt}
 use Rattle.safety.specs.Stored.{admitted-shows}
 use Rattle.rules.specs.declared.tables.Table.{Table}
 use Rattle.checked.specs.declared.answer.Evaluated.{Evaluated}
@@ -41,7 +41,7 @@ module _ {x : Evaluated} {s : List ℤ} {o : Result Composite} (vs : List Variab
 
   pub stores : {rows : List ℕ} {t : Table} {variables : List ℕ} {limits cells : List ℤ} {states : List ℕ} → Running rows t variables limits (lent cells states) vs → n < length vs → e ≡ 0
       → (value after : List ℤ) (words : List ℕ) → value ≡ take body-cells s
-      → after ≡ take (body-cells * n) cells ++ (paste (take body-cells (drop (body-cells * n) cells)) 0 value (x .cells) ++ drop (body-cells * n + body-cells) cells) → words ≡ set states (2 * n) 1
+      → after ≡ take (body-cells * n) cells ++ (paste (take body-cells (drop (body-cells * n) cells)) 0 value (x .cells) ++ drop (body-cells * n + body-cells) cells) → words ≡ fillAt states n
       → Assigns 0 rows t variables limits (lent cells states) (lent after words) (o >>= assigned vs n)
   stores {rows} {t} {variables} {limits} {cells} {states} w lt z value after words v c q =
       let g = admits .answer z in

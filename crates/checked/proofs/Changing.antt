@@ -1,12 +1,12 @@
 -- Yoke change: only the variable's second state word changes. Assumes nothing.
-use mathlib.Core.Path.{_≡_, refl, ap}
+use mathlib.Core.Path.{_≡_, refl, ap, _∙_}
 use mathlib.Core.List.{List}
-use Prim.Native.Nat.{ℕ, _+_, _*_, _≤_, _<_}
+use Prim.Native.Nat.{ℕ, _≤_, _<_}
 use native.Mathlib.Omega.{arith}
 use lib.IntN.{ℤ}
 use lib.ListN.{length, set}
 use Rattle.lingua.specs.Outcome.{ok, Result, _>>_}
-use Rattle.lingua.specs.Store.{Variable, variableAt, withYoke, yokeHolds, yokeChanged}
+use Rattle.lingua.specs.Store.{Variable, variableAt, withYoke, yokeHolds, yokeChanged, setYokeAt}
 use Rattle.lingua.specs.Trees.{yokeTree}
 use Rattle.rules.specs.declared.tables.Table.{Table}
 use Rattle.run.specs.Reached.{lent}
@@ -21,9 +21,9 @@ module _ {rows : List ℕ} {t : Table} {variables : List ℕ} {limits cells : Li
   unfolding yokeChanged
   not-changed f = keeps e f (ap (λ (p : Result (Unit {0})). p >> ok (set vs n (withYoke (variableAt vs n) (yokeTree rows y)))) (admits .error f))
 
-  pub changed : e ≡ 0 → y ≤ t .count → Assigns 0 rows t variables limits (lent cells states) (lent cells (set states (2 * n + 1) y)) (yokeChanged vs n (yokeTree rows y))
+  pub changed : e ≡ 0 → y ≤ t .count → (words : List ℕ) → words ≡ setYokeAt states n y → Assigns 0 rows t variables limits (lent cells states) (lent cells words) (yokeChanged vs n (yokeTree rows y))
   unfolding yokeChanged
-  changed z l =
+  changed z l words q =
       stores-as (set vs n (withYoke (variableAt vs n) (yokeTree rows y)))
       (ap (λ (p : Result (Unit {0})). p >> ok (set vs n (withYoke (variableAt vs n) (yokeTree rows y)))) (admits .answer z))
-      (yoke-running w n lt (yokeTree rows y) (record { number = y; there = omega (arith, l, w .world .table .count); is = refl }) (set states (2 * n + 1) y) (cells-kept vs n (yokeTree rows y) (w .world .stored .cells-are)) (words-changed rows vs n lt y (w .world .stored .states-are)))
+      (yoke-running w n lt (yokeTree rows y) (record { number = y; there = omega (arith, l, w .world .table .count); is = refl }) words (cells-kept vs n (yokeTree rows y) (w .world .stored .cells-are)) (q ∙ words-changed rows vs n lt y (w .world .stored .states-are)))

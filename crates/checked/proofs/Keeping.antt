@@ -6,6 +6,7 @@ use Prim.Native.Nat.{ℕ, _*_, _<_}
 use native.Mathlib.Omega.{arith}
 use lib.IntN.{ℤ}
 use lib.ListN.{length, take, drop, set, length-set}
+use Rattle.lingua.specs.Numbers.{body-bytes}
 use Rattle.lingua.specs.Body.{Body}
 use Rattle.lingua.specs.Value.{Composite}
 use Rattle.lingua.specs.Expression.{Yoke}
@@ -13,7 +14,7 @@ use Rattle.lingua.specs.Store.{Variable, variableAt, withContent, withYoke, cel
 use Rattle.safety.specs.Constants.{Fitting}
 use Rattle.safety.specs.Stored.{replaced}
 use Rattle.rules.specs.declared.tables.Table.{Table}
-use Rattle.body.specs.Encode.{Holds, body-bytes}
+use Rattle.body.specs.Encode.{Holds}
 use Rattle.profile.specs.Yokes.{YokeOf}
 use Rattle.run.specs.Reached.{lent}
 use Rattle.run.proofs.Storing.{limits-kept, yokes-kept}

@@ -110,7 +110,7 @@ pub record BothHalved (o : Binary) (x y : Evaluated) (t : Typed) (s : List ℤ) 
   pub holds : Holds (t .body) body
   pub size-is : t .cells ≡ size body
 
-module _ (o : Binary) (x y : Evaluated) (t : Typed) (s : List ℤ) (half : (b c : Body) → Holds (x .body) b → Holds (y .body) c → Half t (binaryBody o b c) (λ d. binarySecond o d)) where
+module _ (o : Binary) (x y : Evaluated) (t : Typed) (s : List ℤ) (half : (b c : Body) → Holds (x .body) b → Holds (y .body) c → Half t (binaryBody o b c) (λ d. binarySecond o b c d)) where
   pub both-halved : {p q : Result Composite} → Gives x s p → Gives y (drop body-cells s) q → x .error ≡ 0 → y .error ≡ 0 → t .error ≡ 0 → BothHalved o x y t s p q
   both-halved h k e f z =
       let a = h .answer e in

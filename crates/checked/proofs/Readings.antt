@@ -7,11 +7,11 @@ use native.Mathlib.Omega.{arith}
 use lib.IntN.{ℤ}
 use lib.ListN.{length, set}
 use lib.Signed.{leZ}
-use Rattle.lingua.specs.Numbers.{lowest-number, highest-number}
+use Rattle.lingua.specs.Numbers.{lowest-number, highest-number, body-bytes}
 use Rattle.lingua.specs.Outcome.{ok}
 use Rattle.lingua.specs.Body.{number, size, nodes}
 use Rattle.lingua.specs.Value.{whole, pad, composite}
-use Rattle.body.specs.Encode.{bytes, encoded, Holds, body-bytes}
+use Rattle.body.specs.Encode.{bytes, encoded, Holds}
 use Rattle.cells.proofs.Singles.{put-number}
 use Rattle.checked.specs.declared.answer.Evaluated.{Evaluated}
 use Rattle.run.proofs.Readings.{in-range}

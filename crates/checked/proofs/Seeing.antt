@@ -15,21 +15,21 @@ use Rattle.laws.specs.Outcomes.{false-is-true}
 use Rattle.body.specs.Encode.{Holds}
 use Rattle.cells.proofs.Walking.{more, answers-snoc, all-snoc}
 use Rattle.checked.specs.declared.answer.Evaluated.{Evaluated}
-use Rattle.checked.specs.declared.seen.Seen.{Seen}
+use Rattle.checked.specs.declared.tally.Tally.{Tally}
 use Rattle.checked.specs.Meaning.{Answers, Gives, AllSeen, Sees}
 use Rattle.checked.proofs.Giving.{truth-zero, truth-other}
 
 -- ---- nothing seen yet
-pub sees-none : (s : Seen) → s .error ≡ 0 → s .booleans ≡ true → s .all ≡ true → Sees s []
+pub sees-none : (s : Tally) → s .error ≡ 0 → s .booleans ≡ true → s .all ≡ true → Sees s []
 unfolding allAnswers allOf
 sees-none s e b t = record { answers = λ z. record { values = []; are = refl; booleans = b; all = λ k. t }; error = λ f. absurd (f e) }
 
 -- ---- one result more
-module _ {s : Seen} {x : Evaluated} {stack : List ℤ} {rs : List (Result Composite)} {o : Result Composite} (h : Sees s rs) (g : Gives x stack o) where
+module _ {s : Tally} {x : Evaluated} {stack : List ℤ} {rs : List (Result Composite)} {o : Result Composite} (h : Sees s rs) (g : Gives x stack o) where
   pub sees-failed : (s .error ≡ 0 → ⊥) → Sees s (rs ++ (o ∷ []))
   sees-failed e = record { answers = λ z. absurd (e z); error = λ f. answers-snoc rs o ∙ ap (λ (m : Result (List Composite)). more m o) (h .error e) }
 
-  pub sees-error : (r : Seen) → s .error ≡ 0 → (x .error ≡ 0 → ⊥) → r .error ≡ x .error → Sees r (rs ++ (o ∷ []))
+  pub sees-error : (r : Tally) → s .error ≡ 0 → (x .error ≡ 0 → ⊥) → r .error ≡ x .error → Sees r (rs ++ (o ∷ []))
   sees-error r e f q =
       let a = h .answers e in
       record {
@@ -47,7 +47,7 @@ module _ {s : Seen} {x : Evaluated} {stack : List ℤ} {rs : List (Result Compos
       ∙ ap (λ (m : Result (List Composite)). more m o) (a .are)
       ∙ ap (λ (p : Result Composite). p >>= λ y. ok (a .values ++ (y ∷ []))) (b .is)
 
-  pub sees-other : (r : Seen) (t : Bool) → s .error ≡ 0 → x .error ≡ 0 → ((b : Body) → Holds (x .body) b → t ≡ isBoolean b) → t ≡ false → r .error ≡ 0 → r .booleans ≡ false → Sees r (rs ++ (o ∷ []))
+  pub sees-other : (r : Tally) (t : Bool) → s .error ≡ 0 → x .error ≡ 0 → ((b : Body) → Holds (x .body) b → t ≡ isBoolean b) → t ≡ false → r .error ≡ 0 → r .booleans ≡ false → Sees r (rs ++ (o ∷ []))
   sees-other r t e f k q z w =
       let a = h .answers e in
       let b = g .answer f in
@@ -62,7 +62,7 @@ module _ {s : Seen} {x : Evaluated} {stack : List ℤ} {rs : List (Result Compos
         error = λ u. absurd (u z);
       }
 
-  sees-truth : (r : Seen) (t w : Bool) → s .error ≡ 0 → (f : x .error ≡ 0) → ((b : Body) → Holds (x .body) b → t ≡ isBoolean b) → t ≡ true → asTruth (g .answer f .value .value) ≡ w → r .error ≡ 0 → r .booleans ≡ s .booleans → r .all ≡ (s .all && w) → Sees r (rs ++ (o ∷ []))
+  sees-truth : (r : Tally) (t w : Bool) → s .error ≡ 0 → (f : x .error ≡ 0) → ((b : Body) → Holds (x .body) b → t ≡ isBoolean b) → t ≡ true → asTruth (g .answer f .value .value) ≡ w → r .error ≡ 0 → r .booleans ≡ s .booleans → r .all ≡ (s .all && w) → Sees r (rs ++ (o ∷ []))
   sees-truth r t w e f k q v z u i =
       let a = h .answers e in
       let b = g .answer f in
@@ -82,13 +82,13 @@ module _ {s : Seen} {x : Evaluated} {stack : List ℤ} {rs : List (Result Compos
       let b = g .answer f in
       sees-truth s t true e f k q (truth-other (sym (k (b .value .body) (b .holds)) ∙ q) (b .lies) z) e refl (sym (and-true (s .all)))
 
-  pub sees-false : (r : Seen) (t : Bool) → s .error ≡ 0 → x .error ≡ 0 → ((b : Body) → Holds (x .body) b → t ≡ isBoolean b) → t ≡ true → ofZ w64 (getD stack 0 (pos 0)) ≡ 0 → r .error ≡ 0 → r .booleans ≡ s .booleans → r .all ≡ false → Sees r (rs ++ (o ∷ []))
+  pub sees-false : (r : Tally) (t : Bool) → s .error ≡ 0 → x .error ≡ 0 → ((b : Body) → Holds (x .body) b → t ≡ isBoolean b) → t ≡ true → ofZ w64 (getD stack 0 (pos 0)) ≡ 0 → r .error ≡ 0 → r .booleans ≡ s .booleans → r .all ≡ false → Sees r (rs ++ (o ∷ []))
   sees-false r t e f k q z u v w =
       let b = g .answer f in
       sees-truth r t false e f k q (truth-zero (sym (k (b .value .body) (b .holds)) ∙ q) (b .lies) z) u v (w ∙ sym (and-false (s .all)))
 
 -- ---- in the end
-module _ {s : Seen} {rs : List (Result Composite)} (h : Sees s rs) where
+module _ {s : Tally} {rs : List (Result Composite)} (h : Sees s rs) where
   pub seen-error : (s .error ≡ 0 → ⊥) → allTrue rs ≡ fail (s .error)
   unfolding allTrue
   seen-error e = ap (λ (m : Result (List Composite)). m >>= λ xs. require (allOf (λ x. isBoolean (x .body)) xs) yoke-expected >> ok (booleanOf (allOf (λ x. asTruth (x .value)) xs))) (h .error e)

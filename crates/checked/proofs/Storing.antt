@@ -1,5 +1,6 @@
 -- Constants, variables and the current value: their cells at the stack's front. Assumes nothing.
 use mathlib.Core.Path.{_≡_, refl, sym, ap, _∙_, subst}
+use mathlib.Core.Bool.{true, false}
 use mathlib.Core.List.{List, [], _∷_, _++_}
 use mathlib.Core.Option.{Option}
 use Prim.Native.Nat.{ℕ, _+_, _*_, _≤_, _<_}
@@ -13,7 +14,7 @@ use Rattle.lingua.specs.Errors.{not-filled}
 use Rattle.lingua.specs.Outcome.{ok, fail, Result, orFail}
 use Rattle.lingua.specs.Body.{Body, size}
 use Rattle.lingua.specs.Value.{Composite}
-use Rattle.lingua.specs.Store.{Variable, variableAt, contents}
+use Rattle.lingua.specs.Store.{Variable, variableAt, contents, filledAt}
 use Rattle.laws.specs.Lengths.{length-cells}
 use Rattle.safety.specs.TypeSound.{VariablesFit}
 use Rattle.profile.specs.Constants.{ConstantRow, IsCell}
@@ -73,13 +74,13 @@ unfolding VariablesFit
 memory-of h = record { cells-are = h .cells-are; states-are = h .states-are; few = h .few; small = λ n l. h .bodies n l .few-cells; fit = λ n x e. let f = h .filled n x e in (f .coherent, f .fits) }
 
 module _ {variables : List ℕ} {cells : List ℤ} {states : List ℕ} {vs : List Variable} (h : Stored variables cells states vs) (n : ℕ) (lt : n < length vs) where
-  pub not-filled-is : getD states (2 * n) 0 ≡ 0 → orFail (contents vs n) not-filled ≡ fail not-filled
+  pub not-filled-is : filledAt states n ≡ false → orFail (contents vs n) not-filled ≡ fail not-filled
   not-filled-is e = ap {B = Result Composite} (λ (c : Option Composite). orFail c not-filled) (unfilled-is (memory-of h) n lt e)
 
   pub declared-held : (body : List ℕ) → body ≡ take 96 (drop (96 * n) variables) → Holds body (variableAt vs n .body)
   declared-held body e = subst (λ (b : List ℕ). Holds b (variableAt vs n .body)) (sym e) (h .bodies n lt)
 
-  pub gives-variable : (s after : List ℤ) (body : List ℕ) (m : ℕ) (r : Evaluated) → (getD states (2 * n) 0 ≡ 0 → ⊥) → body ≡ take 96 (drop (96 * n) variables) → m ≡ size (variableAt vs n .body)
+  pub gives-variable : (s after : List ℤ) (body : List ℕ) (m : ℕ) (r : Evaluated) → filledAt states n ≡ true → body ≡ take 96 (drop (96 * n) variables) → m ≡ size (variableAt vs n .body)
       → after ≡ paste s 0 (drop (body-cells * n) cells) m → r .error ≡ 0 → r .body ≡ body → r .cells ≡ m → Gives r after (orFail (contents vs n) not-filled)
   gives-variable s after body m r g b z q e rb rc =
       let x = filled-is (memory-of h) n lt g in

@@ -16,7 +16,7 @@ use Rattle.body.specs.Encode.{Holds, Held}
 use Rattle.body.proofs.Tags as tags
 use Rattle.cells.specs.Stack.{Lies}
 use Rattle.cells.proofs.Walking.{Walked, some-cell, walks, elementAt, element-lies, gathered-more, gathered-all}
-use Rattle.checked.specs.declared.seen.Seen.{Seen}
+use Rattle.checked.specs.declared.tally.Tally.{Tally}
 use Rattle.checked.specs.Meaning.{Current, HasCurrent, Sees}
 
 -- ---- a current value that is no list
@@ -55,10 +55,10 @@ pub element-current : {current : List ℤ} {inner : List ℕ} {b : Body} {x : Va
 element-current lies holds i at w z p l = record { lies = element-lies lies i at w z p l; holds = holds }
 
 -- ---- the results
-pub sees-more : {s : Seen} (g : Value → Result Composite) (x : Value) (i : ℕ) → i < countValues (asItems x) → Sees s (map g (take i (valueList (asItems x))) ++ (g (elementAt x i) ∷ [])) → Sees s (map g (take (i + 1) (valueList (asItems x))))
+pub sees-more : {s : Tally} (g : Value → Result Composite) (x : Value) (i : ℕ) → i < countValues (asItems x) → Sees s (map g (take i (valueList (asItems x))) ++ (g (elementAt x i) ∷ [])) → Sees s (map g (take (i + 1) (valueList (asItems x))))
 sees-more {s} g x i l h = subst (λ (rs : List (Result Composite)). Sees s rs) (sym (gathered-more g x i l)) h
 
-pub sees-all : {s : Seen} (g : Value → Result Composite) (x : Value) (i : ℕ) → i ≡ countValues (asItems x) → Sees s (map g (take i (valueList (asItems x)))) → Sees s (map g (valueList (asItems x)))
+pub sees-all : {s : Tally} (g : Value → Result Composite) (x : Value) (i : ℕ) → i ≡ countValues (asItems x) → Sees s (map g (take i (valueList (asItems x)))) → Sees s (map g (valueList (asItems x)))
 sees-all {s} g x i e h = subst (λ (rs : List (Result Composite)). Sees s rs) (gathered-all g x i e) h
 
 -- ---- the yoke

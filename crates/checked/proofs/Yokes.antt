@@ -4,6 +4,7 @@ use mathlib.Core.Bool.{true}
 use mathlib.Core.List.{List, [], _∷_}
 use Prim.Native.Nat.{ℕ, _-_}
 use lib.IntN.{pos}
+use Rattle.lingua.specs.Numbers.{body-bytes}
 use Rattle.lingua.specs.Outcome.{ok}
 use Rattle.lingua.specs.Body.{boolean, size}
 use Rattle.lingua.specs.Value.{fit-truth, cellsOf, asTruth, pad, Composite}
@@ -11,7 +12,7 @@ use Rattle.lingua.specs.Expression.{Yoke}
 use Rattle.lingua.specs.Evaluation.{Variables, booleanOf, no-current, eval, evalYoke}
 use Rattle.lingua.specs.Trees.{expressionTree, yokeTree}
 use Rattle.profile.specs.Yokes.{always-is, yoke-is}
-use Rattle.body.specs.Encode.{Holds, body-bytes}
+use Rattle.body.specs.Encode.{Holds}
 use Rattle.checked.specs.Meaning.{Current}
 use Rattle.checked.proofs.Giving.{boolean-held}
 

@@ -6,7 +6,7 @@ use mathlib.Core.Option.{Option, some}
 use Prim.Native.Nat.{ℕ, _+_, _-_, _*_, _<_}
 use native.Mathlib.Omega.{arith}
 use lib.IntN.{ℤ}
-use lib.ListN.{length, take, drop, getD}
+use lib.ListN.{length, take, drop}
 use Rattle.lingua.specs.Numbers.{body-cells}
 use Rattle.lingua.specs.Errors.{yoke-expected, yoke-not-satisfied}
 use Rattle.lingua.specs.Outcome.{ok, fail, Result, require, _>>=_}
@@ -14,7 +14,7 @@ use Rattle.lingua.specs.Body.{Body}
 use Rattle.lingua.specs.Value.{Composite}
 use Rattle.lingua.specs.Expression.{Yoke}
 use Rattle.lingua.specs.Evaluation.{truthOr, evalYoke}
-use Rattle.lingua.specs.Store.{Variable, variableAt, contents, yokeHolds}
+use Rattle.lingua.specs.Store.{Variable, variableAt, contents, yokeHolds, filledAt}
 use Rattle.body.specs.Encode.{Holds}
 use Rattle.run.specs.declared.steps.Truth.{Truth}
 use Rattle.run.specs.Reached.{Tells}
@@ -30,7 +30,7 @@ pub record Fetched (variables : List ℕ) (cells : List ℤ) (body : List ℕ) (
   pub is : variableAt vs n .content ≡ some composite
   pub current : Current value body composite
 
-pub fetched : (variables : List ℕ) (cells : List ℤ) (states : List ℕ) (vs : List Variable) (n : ℕ) → Stored variables cells states vs → n < length vs → (body : List ℕ) → body ≡ take 96 (drop (96 * n) variables) → (getD states (2 * n) 0 ≡ 0 → ⊥)
+pub fetched : (variables : List ℕ) (cells : List ℤ) (states : List ℕ) (vs : List Variable) (n : ℕ) → Stored variables cells states vs → n < length vs → (body : List ℕ) → body ≡ take 96 (drop (96 * n) variables) → filledAt states n ≡ true
     → Fetched variables cells body vs n (take (body-cells * n + body-cells - body-cells * n) (drop (body-cells * n) cells))
 fetched variables cells states vs n h lt body e f =
     let m = memory-of h in
@@ -42,7 +42,7 @@ fetched variables cells states vs n h lt body e f =
     }
 
 -- ---- the yoke's answer
-pub none-holds : (variables : List ℕ) (cells : List ℤ) (states : List ℕ) (vs : List Variable) (n : ℕ) → Stored variables cells states vs → n < length vs → (y : Yoke) → getD states (2 * n) 0 ≡ 0 → Admits 0 (yokeHolds vs y (variableAt vs n .content))
+pub none-holds : (variables : List ℕ) (cells : List ℤ) (states : List ℕ) (vs : List Variable) (n : ℕ) → Stored variables cells states vs → n < length vs → (y : Yoke) → filledAt states n ≡ false → Admits 0 (yokeHolds vs y (variableAt vs n .content))
 unfolding yokeHolds
 none-holds variables cells states vs n h lt y e = subst (λ (c : Option Composite). Admits 0 (yokeHolds vs y c)) (sym (unfilled-is (memory-of h) n lt e)) (record { answer = λ z. refl; error = λ f. absurd (f refl) })
 

@@ -3,10 +3,10 @@ use mathlib.Core.Path.{_≡_}
 use mathlib.Core.Bool.{true}
 use mathlib.Core.List.{List}
 use mathlib.Core.Option.{some}
-use Prim.Native.Nat.{ℕ, _*_, _≤_, _<_}
+use Prim.Native.Nat.{ℕ, _+_, _*_, _≤_, _<_}
 use lib.IntN.{ℤ}
 use lib.ListN.{length, take, drop}
-use Rattle.lingua.specs.Numbers.{declaration-section, expression-section, most-variables}
+use Rattle.lingua.specs.Numbers.{body-cells, declaration-section, expression-section, most-variables, body-bytes, limit-cells}
 use Rattle.lingua.specs.Errors.{no-error}
 use Rattle.lingua.specs.Outcome.{ok, fail, Result, allAnswers}
 use Rattle.lingua.specs.Body.{size, isBoolean}
@@ -19,11 +19,11 @@ use Rattle.rules.specs.Tables.{IsTable}
 use Rattle.profile.specs.Variables.{LimitAt}
 use Rattle.profile.specs.Yokes.{YokeOf}
 use Rattle.rules.specs.declared.tables.Table.{Table}
-use Rattle.body.specs.Encode.{Holds, body-bytes}
+use Rattle.body.specs.Encode.{Holds}
 use Rattle.cells.specs.Stack.{Lies, first-place}
 use Rattle.run.specs.Reached.{Lent, Settles}
 use Rattle.checked.specs.declared.answer.Evaluated.{Evaluated}
-use Rattle.checked.specs.declared.seen.Seen.{Seen}
+use Rattle.checked.specs.declared.tally.Tally.{Tally}
 
 -- ---- what is given
 -- a variable's value has its declared body and fits
@@ -73,12 +73,18 @@ pub record Ready (rows : List ℕ) (t : Table) (variables : List ℕ) (cells : L
   pub world : World rows t variables cells states store
   pub has : HasCurrent current body
 
+-- what the evaluation of a row asks: the row is in the table, and its own value and those of all rows below find room
+pub record Asked (row : ℕ) (rows : List ℕ) (t : Table) (variables : List ℕ) (cells : List ℤ) (states : List ℕ) (current : List ℤ) (body : List ℕ) (stack : List ℤ) : Type 0 where
+  pub ready : Ready rows t variables cells states current body
+  pub here : row < t .count
+  pub room : body-cells * (row + 2) ≤ length stack
+
 -- ---- what assignments ask
 -- a store of a run, with the limits of its variables
 pub record Running (rows : List ℕ) (t : Table) (variables : List ℕ) (limits : List ℤ) (l : Lent) (vs : List Variable) : Type 0 where
   pub world : World rows t variables (l .cells) (l .states) vs
-  pub room : 3 * length vs ≤ length limits
-  pub limited : (n : ℕ) → n < length vs → LimitAt limits (3 * n) (variableAt vs n .limit)
+  pub room : limit-cells * length vs ≤ length limits
+  pub limited : (n : ℕ) → n < length vs → LimitAt limits (limit-cells * n) (variableAt vs n .limit)
   pub yokes : (n : ℕ) → n < length vs → YokeOf rows (variableAt vs n .current)
 
 -- some such store, with a variable n
@@ -126,12 +132,12 @@ Assigns r rows t variables limits l after p = Settles r (Running rows t variable
 
 -- ---- what is seen of the results of an all-list yoke
 -- whether all are Booleans, and, where they are, whether all are true
-pub record AllSeen (s : Seen) (rs : List (Result Composite)) : Type 0 where
+pub record AllSeen (s : Tally) (rs : List (Result Composite)) : Type 0 where
   pub values : List Composite
   pub are : allAnswers rs ≡ ok values
   pub booleans : s .booleans ≡ allOf (λ x. isBoolean (x .body)) values
   pub all : s .booleans ≡ true → s .all ≡ allOf (λ x. asTruth (x .value)) values
 
-pub record Sees (s : Seen) (rs : List (Result Composite)) : Type 0 where
+pub record Sees (s : Tally) (rs : List (Result Composite)) : Type 0 where
   pub answers : s .error ≡ no-error → AllSeen s rs
   pub error : (s .error ≡ no-error → ⊥) → allAnswers rs ≡ fail (s .error)

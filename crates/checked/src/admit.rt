@@ -8,8 +8,10 @@ use lingua::errors::NO_COHERENCE;
 use lingua::errors::NO_ERROR;
 use lingua::errors::YOKE_EXPECTED;
 use lingua::errors::YOKE_NOT_SATISFIED;
+use lingua::sizes::BODY_BYTES;
 use rules::tables::Table;
 use run::limits::in_limits;
+use run::words::yoke_of;
 ghost use mathlib.Core.Path.{_≡_};
 ghost use mathlib.Core.List.{List};
 ghost use Prim.Native.Nat.{_+_, _*_, _<_, _≤_};
@@ -22,7 +24,7 @@ ghost use Rattle.run.specs.Memory.{Admits};
 ghost use Rattle.checked.specs.Meaning.{Current, HasCurrent, Running, Checkable};
 
 // A number's cell; for a value of another body 0 stands.
-fn whole(body: [u8; 96], value: &[i64]) -> i64
+fn whole(body: [u8; BODY_BYTES], value: &[i64]) -> i64
     requires { ⌜ HasCurrent (now value) body ⌝ }
     ensures { λ r. ⌜ ((x : Composite) → Current (now (value .entry)) body x → r ≡ asWhole (x .value)) ⌝ }
 {
@@ -42,7 +44,7 @@ pub fn admitted(
     states: &[u16],
     n: usize,
     value: &[i64],
-    body: [u8; 96],
+    body: [u8; BODY_BYTES],
     stack: &mut [i64],
 ) -> u8
     requires { ⌜ Checkable (now rows) t (now variables) (now limits) (lent (now cells) (now states)) n (now value) body ⌝ }
@@ -50,7 +52,7 @@ pub fn admitted(
     ensures { λ r. ⌜ ((vs : List Variable) (x : Composite) → Running (now (rows .entry)) t (now (variables .entry)) (now (limits .entry)) (lent (now (cells .entry)) (now (states .entry))) vs → n < length vs → Current (now (value .entry)) body x
         → Admits r (checks vs (variableAt vs n) x)) ⌝ }
 {
-    let yoke = states[2 * n + 1] as usize;
+    let yoke = yoke_of(states, n);
     let given = eval_yoke(
         rows,
         t,
@@ -69,11 +71,11 @@ pub fn admitted(
     if !same(own, body) {
         return NO_COHERENCE;
     }
-    let told = truth_of(given, YOKE_EXPECTED, stack);
-    if told.error != NO_ERROR {
-        return told.error;
+    let truth = truth_of(given, YOKE_EXPECTED, stack);
+    if truth.error != NO_ERROR {
+        return truth.error;
     }
-    if !told.holds {
+    if !truth.holds {
         return YOKE_NOT_SATISFIED;
     }
     let z = whole(body, value);

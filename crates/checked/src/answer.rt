@@ -3,6 +3,7 @@ use body::make::simple;
 use body::unary::is_boolean;
 use body::walk::BOOLEAN;
 use lingua::errors::NO_ERROR;
+use lingua::sizes::BODY_BYTES;
 use run::steps::Truth;
 ghost use mathlib.Core.Path.{_≡_};
 ghost use Prim.Native.Nat.{_<_};
@@ -16,7 +17,7 @@ ghost use Rattle.checked.specs.Meaning.{Gives};
 // An error, or a value on the stack with its body and the number of its cells.
 pub struct Evaluated {
     pub error: u8,
-    pub body: [u8; 96],
+    pub body: [u8; BODY_BYTES],
     pub cells: usize,
 }
 
@@ -25,7 +26,7 @@ pub fn failed(error: u8) -> Evaluated
 {
     Evaluated {
         error: error,
-        body: [0u8; 96],
+        body: [0u8; BODY_BYTES],
         cells: 0,
     }
 }

@@ -8,62 +8,59 @@ use crate::leaves::copied;
 use crate::leaves::fetch;
 use crate::operate::binary;
 use crate::operate::unary;
-use crate::seen::Seen;
-use crate::seen::concluded;
-use crate::seen::noted;
+use crate::tally::Tally;
+use crate::tally::concluded;
+use crate::tally::tallied;
 use body::make::element;
 use body::walk::LIST;
 use body::walk::measure_body;
 use lingua::errors::BOOLEAN_EXPECTED;
 use lingua::errors::LIST_EXPECTED;
 use lingua::errors::NO_ERROR;
+use lingua::sizes::BODY_BYTES;
 use lingua::sizes::BODY_CELLS;
-use profile::row::ExpressionRow;
 use profile::row::expression_row;
+use rules::decode::ExpressionRow;
 use rules::tables::Table;
 ghost use mathlib.Core.List.{List};
-ghost use Prim.Native.Nat.{_+_, _*_, _<_, _≤_};
-ghost use lib.ListN.{length};
-ghost use Rattle.lingua.specs.Numbers.{body-cells};
+ghost use Prim.Native.Nat.{_<_};
 ghost use Rattle.lingua.specs.Value.{Composite};
 ghost use Rattle.lingua.specs.Store.{Variable, contents};
 ghost use Rattle.lingua.specs.Trees.{expressionTree};
 ghost use Rattle.lingua.specs.Evaluation.{eval as meaning};
 ghost use Rattle.lingua.specs.Expression.{lazy as lazyTree, choice as choiceTree, all-list};
-ghost use Rattle.profile.specs.Row.{connective};
-ghost use Rattle.checked.specs.Meaning.{World, Current, Ready, Gives};
+ghost use Rattle.rules.specs.Decoded.{connective};
+ghost use Rattle.checked.specs.Meaning.{World, Current, Asked, Gives};
 
 // What the expression of a row gives, for a current value of a body.
 pub fn eval(
+    row: usize,
     rows: &[u8],
     t: Table,
     variables: &[u8],
     cells: &[i64],
     states: &[u16],
-    row: usize,
     current: &[i64],
-    body: [u8; 96],
+    body: [u8; BODY_BYTES],
     stack: &mut [i64],
 ) -> Evaluated
-    requires { ⌜ Ready (now rows) t (now variables) (now cells) (now states) (now current) body ⌝ }
-    requires { ⌜ row < t .count ⌝ }
-    requires { ⌜ body-cells * (row + 2) ≤ length (now stack) ⌝ }
+    requires { ⌜ Asked row (now rows) t (now variables) (now cells) (now states) (now current) body (now stack) ⌝ }
     ensures { λ r. ⌜ ((vs : List Variable) (x : Composite) → World (now (rows .entry)) t (now (variables .entry)) (now (cells .entry)) (now (states .entry)) vs → Current (now (current .entry)) body x
         → Gives r (now (stack .exit)) (meaning (expressionTree (now (rows .entry)) row) (contents vs) x)) ⌝ }
 {
     let says = expression_row(rows, t, row);
     match says {
-        ExpressionRow::Constant => constant(rows, t, row, stack),
+        ExpressionRow::Constant(_) => constant(rows, t, row, stack),
         ExpressionRow::Variable(n) => fetch(variables, cells, states, n, stack),
         ExpressionRow::Current => copied(current, body, stack),
         ExpressionRow::Unary(o, a) => {
             let x = eval(
+                a,
                 rows,
                 t,
                 variables,
                 cells,
                 states,
-                a,
                 current,
                 body,
                 &mut *stack,
@@ -72,23 +69,23 @@ pub fn eval(
         }
         ExpressionRow::Binary(o, a, b) => {
             let x = eval(
+                a,
                 rows,
                 t,
                 variables,
                 cells,
                 states,
-                a,
                 current,
                 body,
                 &mut *stack,
             );
             let y = eval(
+                b,
                 rows,
                 t,
                 variables,
                 cells,
                 states,
-                b,
                 current,
                 body,
                 &mut stack[BODY_CELLS..],
@@ -97,12 +94,12 @@ pub fn eval(
         }
         ExpressionRow::Lazy(settling, a, b) => {
             lazy(
+                row,
                 rows,
                 t,
                 variables,
                 cells,
                 states,
-                row,
                 settling,
                 a,
                 b,
@@ -113,12 +110,12 @@ pub fn eval(
         }
         ExpressionRow::Choice(a, b, d) => {
             choice(
+                row,
                 rows,
                 t,
                 variables,
                 cells,
                 states,
-                row,
                 a,
                 b,
                 d,
@@ -129,12 +126,12 @@ pub fn eval(
         }
         ExpressionRow::AllList(a) => {
             all(
+                row,
                 rows,
                 t,
                 variables,
                 cells,
                 states,
-                row,
                 a,
                 current,
                 body,
@@ -146,32 +143,31 @@ pub fn eval(
 
 // Kinds 11 and 12: the second operand is evaluated unless the first settles the result.
 fn lazy(
+    row: usize,
     rows: &[u8],
     t: Table,
     variables: &[u8],
     cells: &[i64],
     states: &[u16],
-    row: usize,
     settling: bool,
     a: usize,
     b: usize,
     current: &[i64],
-    body: [u8; 96],
+    body: [u8; BODY_BYTES],
     stack: &mut [i64],
 ) -> Evaluated
-    requires { ⌜ Ready (now rows) t (now variables) (now cells) (now states) (now current) body ⌝ }
-    requires { ⌜ (a < row) × (b < row) × (row < t .count) ⌝ }
-    requires { ⌜ body-cells * (row + 2) ≤ length (now stack) ⌝ }
+    requires { ⌜ Asked row (now rows) t (now variables) (now cells) (now states) (now current) body (now stack) ⌝ }
+    requires { ⌜ (a < row) × (b < row) ⌝ }
     ensures { λ r. ⌜ ((vs : List Variable) (x : Composite) → World (now (rows .entry)) t (now (variables .entry)) (now (cells .entry)) (now (states .entry)) vs → Current (now (current .entry)) body x
         → Gives r (now (stack .exit)) (meaning (lazyTree row (connective settling) (expressionTree (now (rows .entry)) a) (expressionTree (now (rows .entry)) b)) (contents vs) x)) ⌝ }
 {
     let x = eval(
+        a,
         rows,
         t,
         variables,
         cells,
         states,
-        a,
         current,
         body,
         &mut *stack,
@@ -184,12 +180,12 @@ fn lazy(
         return x;
     }
     let y = eval(
+        b,
         rows,
         t,
         variables,
         cells,
         states,
-        b,
         current,
         body,
         &mut *stack,
@@ -203,62 +199,60 @@ fn lazy(
 
 // Kind 15: the test, then one of the branches.
 fn choice(
+    row: usize,
     rows: &[u8],
     t: Table,
     variables: &[u8],
     cells: &[i64],
     states: &[u16],
-    row: usize,
     test: usize,
     a: usize,
     b: usize,
     current: &[i64],
-    body: [u8; 96],
+    body: [u8; BODY_BYTES],
     stack: &mut [i64],
 ) -> Evaluated
-    requires { ⌜ Ready (now rows) t (now variables) (now cells) (now states) (now current) body ⌝ }
-    requires { ⌜ (test < row) × (a < row) × (b < row) × (row < t .count) ⌝ }
-    requires { ⌜ body-cells * (row + 2) ≤ length (now stack) ⌝ }
+    requires { ⌜ Asked row (now rows) t (now variables) (now cells) (now states) (now current) body (now stack) ⌝ }
+    requires { ⌜ (test < row) × (a < row) × (b < row) ⌝ }
     ensures { λ r. ⌜ ((vs : List Variable) (x : Composite) → World (now (rows .entry)) t (now (variables .entry)) (now (cells .entry)) (now (states .entry)) vs → Current (now (current .entry)) body x
         → Gives r (now (stack .exit)) (meaning (choiceTree row (expressionTree (now (rows .entry)) test) (expressionTree (now (rows .entry)) a) (expressionTree (now (rows .entry)) b)) (contents vs) x)) ⌝ }
 {
     let x = eval(
+        test,
         rows,
         t,
         variables,
         cells,
         states,
-        test,
         current,
         body,
         &mut *stack,
     );
-    let told = truth_of(x, BOOLEAN_EXPECTED, stack);
-    if told.error != NO_ERROR {
-        return failed(told.error);
+    let truth = truth_of(x, BOOLEAN_EXPECTED, stack);
+    if truth.error != NO_ERROR {
+        return failed(truth.error);
     }
-    if told.holds {
-        return eval(rows, t, variables, cells, states, a, current, body, stack);
+    if truth.holds {
+        return eval(a, rows, t, variables, cells, states, current, body, stack);
     }
-    eval(rows, t, variables, cells, states, b, current, body, stack)
+    eval(b, rows, t, variables, cells, states, current, body, stack)
 }
 
 // Kind 25: the inner yoke on each element of the current value, all of them, at their places in the list.
 fn all(
+    row: usize,
     rows: &[u8],
     t: Table,
     variables: &[u8],
     cells: &[i64],
     states: &[u16],
-    row: usize,
     a: usize,
     current: &[i64],
-    body: [u8; 96],
+    body: [u8; BODY_BYTES],
     stack: &mut [i64],
 ) -> Evaluated
-    requires { ⌜ Ready (now rows) t (now variables) (now cells) (now states) (now current) body ⌝ }
-    requires { ⌜ (a < row) × (row < t .count) ⌝ }
-    requires { ⌜ body-cells * (row + 2) ≤ length (now stack) ⌝ }
+    requires { ⌜ Asked row (now rows) t (now variables) (now cells) (now states) (now current) body (now stack) ⌝ }
+    requires { ⌜ a < row ⌝ }
     ensures { λ r. ⌜ ((vs : List Variable) (x : Composite) → World (now (rows .entry)) t (now (variables .entry)) (now (cells .entry)) (now (states .entry)) vs → Current (now (current .entry)) body x
         → Gives r (now (stack .exit)) (meaning (all-list row (expressionTree (now (rows .entry)) a)) (contents vs) x)) ⌝ }
 {
@@ -269,7 +263,7 @@ fn all(
     let m = measure_body(inner);
     let width = m.cells;
     let n = current[0] as usize;
-    let mut seen = Seen {
+    let mut seen = Tally {
         error: NO_ERROR,
         booleans: true,
         all: true,
@@ -278,17 +272,17 @@ fn all(
     let mut i = 0;
     while i < n {
         let x = eval(
+            a,
             rows,
             t,
             variables,
             cells,
             states,
-            a,
             &current[at..at + width],
             inner,
             &mut *stack,
         );
-        seen = noted(seen, x, stack);
+        seen = tallied(seen, x, stack);
         at += width;
         i += 1;
     }

@@ -7,6 +7,7 @@ use lingua::errors::YOKE_EXPECTED;
 use lingua::errors::YOKE_NOT_SATISFIED;
 use lingua::sizes::BODY_CELLS;
 use rules::tables::Table;
+use run::words::is_filled;
 ghost use mathlib.Core.List.{List};
 ghost use Prim.Native.Nat.{_+_, _*_, _<_, _≤_};
 ghost use lib.ListN.{length};
@@ -35,7 +36,7 @@ pub fn yoke_holds(
     ensures { λ r. ⌜ ((vs : List Variable) → World (now (rows .entry)) t (now (variables .entry)) (now (cells .entry)) (now (states .entry)) vs
         → Admits r (yokeHolds vs (yokeTree (now (rows .entry)) y) (variableAt vs n .content))) ⌝ }
 {
-    if states[2 * n] == 0 {
+    if !is_filled(states, n) {
         return NO_ERROR;
     }
     let body = declared(variables, n);
@@ -52,11 +53,11 @@ pub fn yoke_holds(
         body,
         &mut *stack,
     );
-    let told = truth_of(given, YOKE_EXPECTED, stack);
-    if told.error != NO_ERROR {
-        return told.error;
+    let truth = truth_of(given, YOKE_EXPECTED, stack);
+    if truth.error != NO_ERROR {
+        return truth.error;
     }
-    if !told.holds {
+    if !truth.holds {
         return YOKE_NOT_SATISFIED;
     }
     NO_ERROR

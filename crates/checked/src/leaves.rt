@@ -4,16 +4,18 @@ use crate::answer::failed;
 use body::walk::measure_body;
 use lingua::errors::NO_ERROR;
 use lingua::errors::NOT_FILLED;
+use lingua::sizes::BODY_BYTES;
 use lingua::sizes::BODY_CELLS;
 use profile::constants::constant_body;
 use profile::constants::constant_cell;
 use rules::tables::Table;
 use run::copies::copy;
+use run::words::is_filled;
 ghost use mathlib.Core.Path.{_≡_};
 ghost use mathlib.Core.List.{List};
 ghost use Prim.Native.Nat.{_+_, _*_, _<_, _≤_};
 ghost use lib.ListN.{length, take, drop};
-ghost use Rattle.lingua.specs.Numbers.{expression-section, body-cells};
+ghost use Rattle.lingua.specs.Numbers.{expression-section, body-cells, body-bytes};
 ghost use Rattle.lingua.specs.Errors.{not-filled};
 ghost use Rattle.lingua.specs.Outcome.{ok, orFail};
 ghost use Rattle.lingua.specs.Value.{Composite};
@@ -24,14 +26,14 @@ ghost use Rattle.profile.specs.Constants.{ConstantRow};
 ghost use Rattle.checked.specs.Meaning.{Stored, HasStored, Current, HasCurrent, Gives};
 
 // The 96 bytes of a variable's declared body.
-pub fn declared(variables: &[u8], n: usize) -> [u8; 96]
-    requires { ⌜ 96 * n + 96 ≤ length (now variables) ⌝ }
-    ensures { λ r. ⌜ r ≡ take 96 (drop (96 * n) (now (variables .entry))) ⌝ }
+pub fn declared(variables: &[u8], n: usize) -> [u8; BODY_BYTES]
+    requires { ⌜ body-bytes * n + body-bytes ≤ length (now variables) ⌝ }
+    ensures { λ r. ⌜ r ≡ take body-bytes (drop (body-bytes * n) (now (variables .entry))) ⌝ }
 {
-    let mut out = [0u8; 96];
+    let mut out = [0u8; BODY_BYTES];
     let mut i = 0;
-    while i < 96 {
-        out[i] = variables[96 * n + i];
+    while i < BODY_BYTES {
+        out[i] = variables[BODY_BYTES * n + i];
         i += 1;
     }
     out
@@ -68,7 +70,7 @@ pub fn fetch(
     ensures { λ r. ⌜ ((vs : List Variable) → Stored (now (variables .entry)) (now (cells .entry)) (now (states .entry)) vs → n < length vs
         → Gives r (now (stack .exit)) (orFail (contents vs n) not-filled)) ⌝ }
 {
-    if states[2 * n] == 0 {
+    if !is_filled(states, n) {
         return failed(NOT_FILLED);
     }
     let body = declared(variables, n);
@@ -81,7 +83,7 @@ pub fn fetch(
     }
 }
 
-pub fn copied(current: &[i64], body: [u8; 96], stack: &mut [i64]) -> Evaluated
+pub fn copied(current: &[i64], body: [u8; BODY_BYTES], stack: &mut [i64]) -> Evaluated
     requires { ⌜ HasCurrent (now current) body ⌝ }
     requires { ⌜ body-cells ≤ length (now stack) ⌝ }
     ensures { λ r. ⌜ ((x : Composite) → Current (now (current .entry)) body x → Gives r (now (stack .exit)) (ok x)) ⌝ }

@@ -7,6 +7,6 @@ mod holds; // holds.rt: whether a value satisfies a new yoke
 mod leaves; // leaves.rt: constants, variables and the current value
 mod operate; // operate.rt: an operation on evaluated operands
 pub mod reading; // reading.rt: numbers from outside
-mod seen; // seen.rt: the results of an all-list yoke
+mod tally; // tally.rt: the results of an all-list yoke
 pub mod eval; // eval.rt: expressions on the operand stack
 pub mod yoke; // yoke.rt: yokes, and expressions outside them

@@ -6,6 +6,7 @@ use crate::eval::eval;
 use body::make::simple;
 use body::walk::BOOLEAN;
 use lingua::errors::BOOLEAN_EXPECTED;
+use lingua::sizes::BODY_BYTES;
 use rules::tables::Table;
 use run::steps::Truth;
 ghost use mathlib.Core.List.{List};
@@ -28,7 +29,7 @@ pub fn eval_yoke(
     states: &[u16],
     y: usize,
     current: &[i64],
-    body: [u8; 96],
+    body: [u8; BODY_BYTES],
     stack: &mut [i64],
 ) -> Evaluated
     requires { ⌜ Ready (now rows) t (now variables) (now cells) (now states) (now current) body ⌝ }
@@ -41,12 +42,12 @@ pub fn eval_yoke(
         return boolean(true, stack);
     }
     eval(
+        y - 1,
         rows,
         t,
         variables,
         cells,
         states,
-        y - 1,
         current,
         body,
         stack,
@@ -72,12 +73,12 @@ pub fn eval_plain(
     let current = [0i64; 1];
     let body = simple(BOOLEAN);
     eval(
+        row,
         rows,
         t,
         variables,
         cells,
         states,
-        row,
         &current,
         body,
         stack,

@@ -15,12 +15,12 @@ use Rattle.lingua.specs.Outcome.{ok, fail, Result, require, _>>=_, _>>_}
 use Rattle.lingua.specs.Body.{size}
 use Rattle.lingua.specs.Value.{Value, asTruth, asWhole, Composite}
 use Rattle.lingua.specs.Expression.{Yoke, always}
-use Rattle.lingua.specs.Store.{Limit, Variable, variableAt, contents, withContent, within, assigned}
+use Rattle.lingua.specs.Store.{Limit, Variable, variableAt, contents, withContent, within, assigned, yokeAt, fillAt}
 use Rattle.lingua.specs.Trees.{yokeTree}
 use Rattle.lingua.specs.Typing.{bodiesOf}
 use Rattle.safety.specs.Derivation.{DerivedYoke}
-use Rattle.safety.specs.Erasure.{valuesOf}
-use Rattle.safety.specs.ErasedSteps.{yokeErased, admittedErased, yokeHoldsErased, assigned-erased}
+use Rattle.lingua.specs.Erased.{valuesOf, yokeErased, admittedErased, yokeHoldsErased}
+use Rattle.safety.specs.ErasedSteps.{assigned-erased}
 use Rattle.safety.specs.Layout.{HoldsIn}
 use Rattle.safety.specs.Programs.{YokesDerived}
 use Rattle.profile.specs.Variables.{LimitAt}
@@ -94,7 +94,7 @@ module _ {rows : List ℕ} {t : Table} {layout : List ℕ} {limits cells : List 
       pub outside : c ≡ false → Settles yoke-not-satisfied (Running rows t layout limits) (lent cells states) (lent cells states) (assigned vs n x)
       outside e = keeps yoke-not-satisfied (λ z. omega arith) (limit-fails x (f .coherent) s (sym (limit-is c a) ∙ e))
 
-      pub inside : c ≡ true → (after : List ℤ) (words : List ℕ) → after ≡ take (body-cells * n) cells ++ (paste (take body-cells (drop (body-cells * n) cells)) 0 value width ++ drop (body-cells * n + body-cells) cells) → words ≡ set states (2 * n) 1
+      pub inside : c ≡ true → (after : List ℤ) (words : List ℕ) → after ≡ take (body-cells * n) cells ++ (paste (take body-cells (drop (body-cells * n) cells)) 0 value width ++ drop (body-cells * n + body-cells) cells) → words ≡ fillAt states n
           → Settles 0 (Running rows t layout limits) (lent cells states) (lent after words) (assigned vs n x)
       inside e after words p q =
           let ok-is = limit-passes x (f .coherent) s (sym (limit-is c a) ∙ e) in
@@ -105,17 +105,17 @@ module _ {rows : List ℕ} {t : Table} {layout : List ℕ} {limits cells : List 
 
 -- ---- the yoke
 module _ {rows : List ℕ} {t : Table} {layout : List ℕ} {limits cells : List ℤ} {states : List ℕ} {vs : List Variable} (w : Running rows t layout limits (lent cells states) vs) (n : ℕ) (lt : n < length vs) where
-  pub yoke-there : getD states (2 * n + 1) 0 ≤ t .count
-  yoke-there = omega (arith, Parts.yoke-there (memory-of (w .world)) n lt (w .yokes n lt), w .world .table .count)
+  pub yoke-there : {k : ℕ} → k ≡ yokeAt states n → k ≤ t .count
+  yoke-there e = omega (arith, e, Parts.yoke-there (memory-of (w .world)) n lt (w .yokes n lt), w .world .table .count)
 
-  own-yoke : yokeTree rows (getD states (2 * n + 1) 0) ≡ variableAt vs n .current
-  own-yoke = Parts.own-yoke (memory-of (w .world)) n lt (w .yokes n lt)
+  own-yoke : {k : ℕ} → k ≡ yokeAt states n → yokeTree rows k ≡ variableAt vs n .current
+  own-yoke e = ap (yokeTree rows) e ∙ Parts.own-yoke (memory-of (w .world)) n lt (w .yokes n lt)
 
   -- the yoke that is always true
-  pub always-satisfied : (x : Composite) → getD states (2 * n + 1) 0 ≡ 0 → Satisfies vs n x
+  pub always-satisfied : {k : ℕ} → k ≡ yokeAt states n → (x : Composite) → k ≡ 0 → Satisfies vs n x
   unfolding yokeHoldsErased yokeErased asTruth
-  always-satisfied x e =
-      record { holds = ap (λ (y : Yoke). yokeHoldsErased y (valuesOf (contents vs)) (some (x .value))) (sym own-yoke ∙ always-is rows (getD states (2 * n + 1) 0) e) }
+  always-satisfied {k} is x e =
+      record { holds = ap (λ (y : Yoke). yokeHoldsErased y (valuesOf (contents vs)) (some (x .value))) (sym (own-yoke is) ∙ always-is rows k e) }
 
   module _ {width : ℕ} {value : List ℤ} {x : Composite} (f : ValueFor (w .declarations) n width value x) where
     pub value-narrow : width ≤ body-cells
@@ -124,17 +124,17 @@ module _ {rows : List ℕ} {t : Table} {layout : List ℕ} {limits cells : List 
     value-current : Current value (bodiesOf (w .declarations) n) (x .value)
     value-current = record { lies = lies-as (f .coherent) (f .lies); small = w .world .small n }
 
-    own-passed : DerivedYoke (HoldsIn layout) (bodiesOf (w .declarations)) (yokeTree rows (getD states (2 * n + 1) 0)) (bodiesOf (w .declarations) n)
+    own-passed : {k : ℕ} → k ≡ yokeAt states n → DerivedYoke (HoldsIn layout) (bodiesOf (w .declarations)) (yokeTree rows k) (bodiesOf (w .declarations) n)
     unfolding YokesDerived
-    own-passed = subst (λ (y : Yoke). DerivedYoke (HoldsIn layout) (bodiesOf (w .declarations)) y (bodiesOf (w .declarations) n)) (sym own-yoke) (w .passed-yokes n)
+    own-passed e = subst (λ (y : Yoke). DerivedYoke (HoldsIn layout) (bodiesOf (w .declarations)) y (bodiesOf (w .declarations) n)) (sym (own-yoke e)) (w .passed-yokes n)
 
-    pub value-ready : ReadyYoke rows t layout cells states value (yokeTree rows (getD states (2 * n + 1) 0))
-    value-ready = record { declarations = w .declarations; store = vs; world = w .world; body = bodiesOf (w .declarations) n; value = x .value; is = value-current; passed = own-passed }
+    pub value-ready : {k : ℕ} → k ≡ yokeAt states n → ReadyYoke rows t layout cells states value (yokeTree rows k)
+    value-ready e = record { declarations = w .declarations; store = vs; world = w .world; body = bodiesOf (w .declarations) n; value = x .value; is = value-current; passed = own-passed e }
 
-    pub own-admits : {r : ℕ} → AdmitsValue rows t layout cells states value (yokeTree rows (getD states (2 * n + 1) 0)) r → Admits r (yokeHoldsErased (variableAt vs n .current) (valuesOf (contents vs)) (some (x .value)))
-    own-admits {r} h =
-        subst (λ (y : Yoke). Admits r (yokeHoldsErased y (valuesOf (contents vs)) (some (x .value)))) own-yoke
-        (h .admits (w .declarations) vs (bodiesOf (w .declarations) n) (x .value) (w .world) value-current own-passed)
+    pub own-admits : {k : ℕ} → k ≡ yokeAt states n → {r : ℕ} → AdmitsValue rows t layout cells states value (yokeTree rows k) r → Admits r (yokeHoldsErased (variableAt vs n .current) (valuesOf (contents vs)) (some (x .value)))
+    own-admits e {r} h =
+        subst (λ (y : Yoke). Admits r (yokeHoldsErased y (valuesOf (contents vs)) (some (x .value)))) (own-yoke e)
+        (h .admits (w .declarations) vs (bodiesOf (w .declarations) n) (x .value) (w .world) value-current (own-passed e))
 
     pub room : body-cells ≤ length value → StoreRoom limits cells states n width value
     room long = record {

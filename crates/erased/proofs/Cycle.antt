@@ -19,9 +19,10 @@ use Rattle.lingua.specs.Run.{Declaration}
 use Rattle.lingua.specs.Store.{Variable, contents}
 use Rattle.lingua.specs.Trees.{expressionTree}
 use Rattle.lingua.specs.Typing.{Bodies, bodiesOf}
-use Rattle.safety.specs.Erasure.{valuesOf, evalErased}
-use Rattle.profile.specs.declared.row.ExpressionRow.{ExpressionRow as CodeRow}
-use Rattle.profile.specs.Row.{connective, constantOf, RowSays}
+use Rattle.lingua.specs.Erased.{valuesOf, evalErased}
+use Rattle.rules.specs.declared.decode.ExpressionRow.{ExpressionRow as CodeRow}
+use Rattle.rules.specs.Decoded.{connective}
+use Rattle.profile.specs.Row.{constantOf, RowSays}
 use Rattle.profile.specs.Facts.{RowFacts, row-facts, rowTree, row-tree, settled-by}
 use Rattle.rules.specs.declared.tables.Table.{Table}
 use Rattle.cells.specs.Stack.{Leaves}

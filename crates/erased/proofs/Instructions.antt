@@ -3,7 +3,7 @@
 use mathlib.Core.Path.{_≡_, refl, sym, ap, _∙_, subst}
 use mathlib.Core.Bool.{Bool, true, _&&_}
 use mathlib.Core.List.{List}
-use Prim.Native.Nat.{ℕ, _+_, _*_, _≤_, _<_}
+use Prim.Native.Nat.{ℕ, _*_, _≤_, _<_}
 use native.Mathlib.Omega.{arith}
 use lib.IntN.{ℤ}
 use lib.ListN.{length, getD, set}
@@ -15,14 +15,15 @@ use Rattle.lingua.specs.Value.{Value, whole, Composite, composite}
 use Rattle.lingua.specs.Expression.{Expression, Instruction, skip, assign, set-yoke, sequence, branch, loop, handle}
 use Rattle.lingua.specs.Evaluation.{eval, evalTest, no-current}
 use Rattle.lingua.specs.Refusal.{isNumberVariable}
-use Rattle.lingua.specs.Store.{Variable, variableAt, contents, withYoke, assigned, yokeChanged}
+use Rattle.lingua.specs.Store.{Variable, variableAt, contents, withYoke, assigned, yokeChanged, setYokeAt}
 use Rattle.lingua.specs.Trees.{expressionTree, yokeTree, instructionTree}
 use Rattle.lingua.specs.Typing.{Bodies, bodiesOf, no-current-body}
 use Rattle.safety.specs.Accepted.{tree-well-made}
 use Rattle.safety.specs.Constants.{ClosedYoke}
 use Rattle.safety.specs.Derivation.{Derived, DerivedRow}
-use Rattle.safety.specs.Erasure.{valuesOf, evalErased, withBody, eval-erased}
-use Rattle.safety.specs.ErasedSteps.{testErased, yokeHoldsErased, test-erased, changed-erased}
+use Rattle.lingua.specs.Erased.{valuesOf, evalErased, testErased, yokeHoldsErased}
+use Rattle.safety.specs.Erasure.{withBody, eval-erased}
+use Rattle.safety.specs.ErasedSteps.{test-erased, changed-erased}
 use Rattle.safety.specs.Invariant.{WellMade}
 use Rattle.safety.specs.Layout.{HoldsIn}
 use Rattle.rules.specs.declared.tables.Table.{Table}
@@ -116,12 +117,12 @@ module _ {rows : List ℕ} {t : Table} {layout : List ℕ} {limits cells : List 
     pub not-changed : (r ≡ 0 → ⊥) → Settles r (Running rows t layout limits) (lent cells states) (lent cells states) (yokeChanged vs n (yokeTree rows y))
     not-changed f = keeps r f (change-is ∙ ap (λ (p : Result (Unit {0})). p >> ok (set vs n (withYoke (variableAt vs n) (yokeTree rows y)))) (admits .error f))
 
-    pub changed : r ≡ 0 → y ≤ t .count → Settles 0 (Running rows t layout limits) (lent cells states) (lent cells (set states (2 * n + 1) y)) (yokeChanged vs n (yokeTree rows y))
-    changed z l =
+    pub changed : r ≡ 0 → y ≤ t .count → (words : List ℕ) → words ≡ setYokeAt states n y → Settles 0 (Running rows t layout limits) (lent cells states) (lent cells words) (yokeChanged vs n (yokeTree rows y))
+    changed z l words q =
         let taken = change-is ∙ ap (λ (p : Result (Unit {0})). p >> ok (set vs n (withYoke (variableAt vs n) (yokeTree rows y)))) (admits .answer z) in
         stores-as (set vs n (withYoke (variableAt vs n) (yokeTree rows y))) taken
         (yoke-running w n lt (yokeTree rows y) (record { number = y; there = omega (arith, l, w .world .table .count); is = refl }) (yoke-closed row) (yoke-passed row) taken
-        (set states (2 * n + 1) y) (cells-kept vs n (yokeTree rows y) (w .world .cells-are)) (words-changed rows vs n lt y (w .world .states-are)))
+        words (cells-kept vs n (yokeTree rows y) (w .world .cells-are)) (q ∙ words-changed rows vs n lt y (w .world .states-are)))
 
   -- ---- a reading: the number lies on the stack
   pub number-value : {n : ℕ} → isNumberVariable rows n ≡ true → (s : List ℤ) (z y : ℤ) (b : Bool) → y ≡ z → b ≡ (leZ lowest-number z && leZ z highest-number) → b ≡ true → 0 < length s → ValueFor (w .declarations) n 1 (set s 0 y) (composite number (whole z))

@@ -18,7 +18,7 @@ use Rattle.lingua.specs.Run.{Declaration}
 use Rattle.lingua.specs.Store.{Variable}
 use Rattle.lingua.specs.Trees.{expressionTree, yokeTree}
 use Rattle.lingua.specs.Typing.{Bodies, unarySecond, binarySecond}
-use Rattle.profile.specs.Accepted.{counts}
+use Rattle.rules.specs.Accepted.{counts}
 use Rattle.safety.specs.Checked.{entry}
 use Rattle.safety.specs.Derivation.{Derived, of-constant, of-variable, of-current, of-unary, of-binary, of-lazy, of-choice, of-all-list}
 use Rattle.safety.specs.Layout.{HoldsIn}
@@ -40,7 +40,7 @@ pub record PassedBinary (layout : List ℕ) (vars : Bodies) (row : ℕ) (o : Bin
   pub passed : Derived (HoldsIn layout) vars e cur operand
   pub passed-other : Derived (HoldsIn layout) vars f cur other
   pub half : binaryBody o operand other ≡ ok b
-  pub holds : HoldsIn layout (entry row cur b (binarySecond o b))
+  pub holds : HoldsIn layout (entry row cur b (binarySecond o operand other b))
 
 pub record PassedLazy (layout : List ℕ) (vars : Bodies) (e f : Expression) (cur b : Body) : Type 0 where
   pub first : Derived (HoldsIn layout) vars e cur boolean

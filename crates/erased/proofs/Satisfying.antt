@@ -6,7 +6,7 @@ use mathlib.Core.Option.{Option, some}
 use Prim.Native.Nat.{ℕ, _+_, _-_, _*_, _<_}
 use native.Mathlib.Omega.{arith}
 use lib.IntN.{ℤ}
-use lib.ListN.{length, take, drop, getD}
+use lib.ListN.{length, take, drop}
 use Rattle.lingua.specs.Numbers.{body-cells}
 use Rattle.lingua.specs.Errors.{yoke-not-satisfied}
 use Rattle.lingua.specs.Outcome.{ok, fail, Result, require, _>>=_}
@@ -14,10 +14,9 @@ use Rattle.lingua.specs.Body.{boolean}
 use Rattle.lingua.specs.Value.{Value, asTruth, Composite}
 use Rattle.lingua.specs.Expression.{Yoke}
 use Rattle.lingua.specs.Run.{Declaration}
-use Rattle.lingua.specs.Store.{Variable, variableAt, contents}
+use Rattle.lingua.specs.Store.{Variable, variableAt, contents, filledAt}
 use Rattle.lingua.specs.Typing.{bodiesOf}
-use Rattle.safety.specs.Erasure.{valueIn, valuesOf}
-use Rattle.safety.specs.ErasedSteps.{yokeErased, yokeHoldsErased}
+use Rattle.lingua.specs.Erased.{valueIn, valuesOf, yokeErased, yokeHoldsErased}
 use Rattle.rules.specs.declared.tables.Table.{Table}
 use Rattle.cells.specs.Stack.{Leaves}
 use Rattle.cells.proofs.Operands.{lies-as}
@@ -64,19 +63,19 @@ part-current : {rows : List ℕ} {t : Table} {layout : List ℕ} {cells : List �
 part-current n ds vs w lt x q = record { lies = lies-as (filled (memory-of w) n x q .0) (part-lies (memory-of w) n lt x q); small = w .small n }
 
 module _ {rows : List ℕ} {t : Table} {layout : List ℕ} {cells : List ℤ} {states : List ℕ} (n : ℕ) {y : Yoke} where
-  pub none-admits : getD states (2 * n) 0 ≡ 0 → AdmitsYoke rows t layout cells states n y 0
+  pub none-admits : filledAt states n ≡ false → AdmitsYoke rows t layout cells states n y 0
   unfolding yokeHoldsErased
   none-admits e = record {
     admits = λ ds vs w lt d.
         subst (λ (c : Option Composite). Admits 0 (yokeHoldsErased y (valuesOf (contents vs)) (valueIn c))) (sym (unfilled-is (memory-of w) n lt e)) (admits-ok refl refl);
   }
 
-  pub part-ready : HasChange rows t layout cells states n y → (getD states (2 * n) 0 ≡ 0 → ⊥) → ReadyYoke rows t layout cells states (take (body-cells * n + body-cells - body-cells * n) (drop (body-cells * n) cells)) y
+  pub part-ready : HasChange rows t layout cells states n y → filledAt states n ≡ true → ReadyYoke rows t layout cells states (take (body-cells * n + body-cells - body-cells * n) (drop (body-cells * n) cells)) y
   part-ready r f =
       let x = filled-is (memory-of (r .world)) n (r .there) f in
       record { declarations = r .declarations; store = r .store; world = r .world; body = bodiesOf (r .declarations) n; value = x .0 .value; is = part-current n (r .declarations) (r .store) (r .world) (r .there) (x .0) (x .1); passed = r .passed }
 
-  pub part-admits : {r : ℕ} → (getD states (2 * n) 0 ≡ 0 → ⊥) → AdmitsValue rows t layout cells states (take (body-cells * n + body-cells - body-cells * n) (drop (body-cells * n) cells)) y r → AdmitsYoke rows t layout cells states n y r
+  pub part-admits : {r : ℕ} → filledAt states n ≡ true → AdmitsValue rows t layout cells states (take (body-cells * n + body-cells - body-cells * n) (drop (body-cells * n) cells)) y r → AdmitsYoke rows t layout cells states n y r
   part-admits {r} f h = record {
     admits = λ ds vs w lt d.
         let x = filled-is (memory-of w) n lt f in

@@ -1,10 +1,11 @@
 -- Constants, variables and the current value: their cells at the stack's front. Assumes nothing.
 use mathlib.Core.Path.{_≡_, refl, sym, ap, _∙_, subst}
+use mathlib.Core.Bool.{true, false}
 use mathlib.Core.List.{List}
 use mathlib.Core.Option.{Option}
 use Prim.Native.Nat.{ℕ, _+_, _*_, _≤_, _<_}
 use native.Mathlib.Omega.{arith}
-use lib.ListN.{length, take, drop, getD, set}
+use lib.ListN.{length, take, drop, set}
 use lib.Seq.{paste}
 use lib.IntN.{ℤ}
 use Rattle.lingua.specs.Numbers.{body-cells}
@@ -12,10 +13,10 @@ use Rattle.lingua.specs.Errors.{not-filled}
 use Rattle.lingua.specs.Outcome.{ok, Result, orFail}
 use Rattle.lingua.specs.Body.{Body, size}
 use Rattle.lingua.specs.Value.{Value, Composite}
-use Rattle.lingua.specs.Store.{Variable, contents}
+use Rattle.lingua.specs.Store.{Variable, contents, filledAt}
 use Rattle.lingua.specs.Typing.{Bodies}
 use Rattle.laws.specs.Lengths.{length-cells}
-use Rattle.safety.specs.Erasure.{valueIn, valuesOf}
+use Rattle.lingua.specs.Erased.{valueIn, valuesOf}
 use Rattle.profile.specs.Constants.{ConstantRow, IsCell}
 use Rattle.profile.specs.Row.{constantOf}
 use Rattle.cells.specs.Stack.{Lies, Leaves}
@@ -43,10 +44,10 @@ leaves-current {current} {b} {x} s after n h z q = leaves-ok x refl refl (copied
 
 -- ---- a variable
 module _ {cells : List ℤ} {states : List ℕ} {vs : List Variable} {vars : Bodies} (h : Memory cells states vs vars) (n : ℕ) (lt : n < length vs) where
-  pub leaves-empty : (after : List ℤ) (b : Body) → getD states (2 * n) 0 ≡ 0 → Leaves not-filled after b (orFail (valuesOf (contents vs) n) not-filled)
+  pub leaves-empty : (after : List ℤ) (b : Body) → filledAt states n ≡ false → Leaves not-filled after b (orFail (valuesOf (contents vs) n) not-filled)
   leaves-empty after b e = leaves-fail (λ q. let k : ⊥ = omega arith in k) (ap {B = Result Value} (λ (c : Option Composite). orFail (valueIn c) not-filled) (unfilled-is h n lt e))
 
-  pub leaves-filled : (s after : List ℤ) (m : ℕ) → (getD states (2 * n) 0 ≡ 0 → ⊥) → m ≡ size (vars n) → after ≡ paste s 0 (drop (body-cells * n) cells) m → Leaves 0 after (vars n) (orFail (valuesOf (contents vs) n) not-filled)
+  pub leaves-filled : (s after : List ℤ) (m : ℕ) → filledAt states n ≡ true → m ≡ size (vars n) → after ≡ paste s 0 (drop (body-cells * n) cells) m → Leaves 0 after (vars n) (orFail (valuesOf (contents vs) n) not-filled)
   leaves-filled s after m g z q =
       let x = filled-is h n lt g in
       let f = filled h n (x .0) (x .1) in

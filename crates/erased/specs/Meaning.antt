@@ -7,7 +7,7 @@ use mathlib.Core.Option.{some}
 use Prim.Native.Nat.{ℕ, _+_, _*_, _≤_, _<_}
 use lib.IntN.{ℤ}
 use lib.ListN.{length, drop, getD}
-use Rattle.lingua.specs.Numbers.{body-cells, declaration-section, expression-section, instruction-section, layout-length, most-variables}
+use Rattle.lingua.specs.Numbers.{body-cells, declaration-section, expression-section, instruction-section, layout-length, most-variables, limit-cells}
 use Rattle.lingua.specs.Outcome.{ok, Result, _>>=_, allAnswers}
 use Rattle.lingua.specs.Body.{Body, boolean, number, size}
 use Rattle.lingua.specs.Value.{Value, Composite, asTruth, allOf}
@@ -15,7 +15,7 @@ use Rattle.lingua.specs.Operation.{Unary, Binary, unaryBody, binaryBody}
 use Rattle.lingua.specs.Expression.{Expression, Yoke, Instruction, skip, assign, set-yoke, sequence, branch, loop, handle}
 use Rattle.lingua.specs.Evaluation.{no-current}
 use Rattle.lingua.specs.Rows.{tableCount, pairCount}
-use Rattle.lingua.specs.Store.{Limit, Variable, variableAt, contents, cellsIn, statesIn}
+use Rattle.lingua.specs.Store.{Limit, Variable, variableAt, contents, cellsIn, statesIn, flagPlace}
 use Rattle.lingua.specs.Run.{Declaration, unfilled}
 use Rattle.lingua.specs.Typing.{Bodies, bodiesOf, no-current-body, unarySecond, binarySecond}
 use Rattle.lingua.specs.Trees.{expressionTree, yokeTree, instructionTree}
@@ -26,8 +26,7 @@ use Rattle.safety.specs.Programs.{YokesDerived}
 use Rattle.safety.specs.Derivation.{Derived, DerivedYoke, DerivedRow}
 use Rattle.safety.specs.Layout.{HoldsIn}
 use Rattle.safety.specs.TypeSound.{VariablesFit}
-use Rattle.safety.specs.Erasure.{valuesOf, evalErased}
-use Rattle.safety.specs.ErasedSteps.{yokeErased, yokeHoldsErased}
+use Rattle.lingua.specs.Erased.{valuesOf, evalErased, yokeErased, yokeHoldsErased}
 use Rattle.profile.specs.Variables.{LimitAt}
 use Rattle.profile.specs.Yokes.{YokeOf}
 use Rattle.rules.specs.Tables.{IsTable}
@@ -149,7 +148,7 @@ pub record BinaryRow (layout : List ℕ) (o : Binary) (row a b : ℕ) (c d g : B
   pub half : binaryBody o c d ≡ ok g
   pub first-at : getD layout (2 * a) 0 ≡ size c
   pub other-at : getD layout (2 * b) 0 ≡ size d
-  pub second-at : getD layout (2 * row + 1) 0 ≡ binarySecond o g
+  pub second-at : getD layout (2 * row + 1) 0 ≡ binarySecond o c d g
   pub small : size c ≤ body-cells
   pub small-other : size d ≤ body-cells
 
@@ -172,8 +171,8 @@ pub record Running (rows : List ℕ) (t : Table) (layout : List ℕ) (limits : L
   pub kept : StoreKept (map unfilled declarations) vs
   pub passed-yokes : YokesDerived (HoldsIn layout) (bodiesOf declarations) vs
   pub passed-rows : (r : ℕ) → r < tableCount rows instruction-section → DerivedRow (HoldsIn layout) (bodiesOf declarations) (instructionTree rows r)
-  pub room : 3 * length vs ≤ length limits
-  pub limited : (n : ℕ) → n < length vs → LimitAt limits (3 * n) (variableAt vs n .limit)
+  pub room : limit-cells * length vs ≤ length limits
+  pub limited : (n : ℕ) → n < length vs → LimitAt limits (limit-cells * n) (variableAt vs n .limit)
   pub limited-numbers : (n : ℕ) (b : Limit) → n < length vs → variableAt vs n .limit ≡ some b → bodiesOf declarations n ≡ number
   pub number-variables : (n : ℕ) → isNumberVariable rows n ≡ true → bodiesOf declarations n ≡ number
   pub yokes : (n : ℕ) → n < length vs → YokeOf rows (variableAt vs n .current)
@@ -233,9 +232,9 @@ pub record Storable (rows : List ℕ) (t : Table) (layout : List ℕ) (limits : 
 
 -- room for the limit, the cells and the flag of variable n, and for its value
 pub record StoreRoom (limits cells : List ℤ) (states : List ℕ) (n width : ℕ) (value : List ℤ) : Type 0 where
-  pub limit : 3 * n + 3 ≤ length limits
+  pub limit : limit-cells * n + limit-cells ≤ length limits
   pub part : body-cells * n + body-cells ≤ length cells
-  pub flag : 2 * n < length states
+  pub flag : flagPlace n < length states
   pub narrow : width ≤ body-cells
   pub front : body-cells ≤ length value
 

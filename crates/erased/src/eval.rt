@@ -7,12 +7,12 @@ use crate::leaves::copied;
 use crate::leaves::fetch;
 use crate::operate::binary;
 use crate::operate::unary;
-use crate::seen::concluded;
-use crate::seen::noted;
+use crate::tally::concluded;
+use crate::tally::tallied;
 use lingua::errors::NO_ERROR;
 use lingua::sizes::BODY_CELLS;
-use profile::row::ExpressionRow;
 use profile::row::expression_row;
+use rules::decode::ExpressionRow;
 use rules::tables::Table;
 use run::steps::Truth;
 ghost use Prim.Native.Nat.{_+_, _*_, _<_, _≤_};
@@ -20,17 +20,17 @@ ghost use lib.ListN.{length};
 ghost use Rattle.lingua.specs.Numbers.{body-cells};
 ghost use Rattle.lingua.specs.Trees.{expressionTree};
 ghost use Rattle.lingua.specs.Expression.{lazy as lazyTree, choice as choiceTree, all-list};
-ghost use Rattle.profile.specs.Row.{connective};
+ghost use Rattle.rules.specs.Decoded.{connective};
 ghost use Rattle.erased.specs.Meaning.{Ready, Evaluates};
 
 // What the expression of a row gives on a current value: 0 and a value at the stack's front, or its error.
 pub fn eval(
+    row: usize,
     rows: &[u8],
     t: Table,
     layout: &[u16],
     cells: &[i64],
     states: &[u16],
-    row: usize,
     current: &[i64],
     stack: &mut [i64],
 ) -> u8
@@ -41,22 +41,22 @@ pub fn eval(
 {
     let says = expression_row(rows, t, row);
     match says {
-        ExpressionRow::Constant => constant(rows, t, row, stack),
+        ExpressionRow::Constant(_) => constant(rows, t, row, stack),
         ExpressionRow::Variable(n) => fetch(layout, cells, states, row, n, stack),
         ExpressionRow::Current => copied(layout, row, current, stack),
         ExpressionRow::Unary(o, a) => {
-            let x = eval(rows, t, layout, cells, states, a, current, &mut *stack);
+            let x = eval(a, rows, t, layout, cells, states, current, &mut *stack);
             unary(o, x, layout, row, a, stack)
         }
         ExpressionRow::Binary(o, a, b) => {
-            let x = eval(rows, t, layout, cells, states, a, current, &mut *stack);
+            let x = eval(a, rows, t, layout, cells, states, current, &mut *stack);
             let y = eval(
+                b,
                 rows,
                 t,
                 layout,
                 cells,
                 states,
-                b,
                 current,
                 &mut stack[BODY_CELLS..],
             );
@@ -64,12 +64,12 @@ pub fn eval(
         }
         ExpressionRow::Lazy(settling, a, b) => {
             lazy(
+                row,
                 rows,
                 t,
                 layout,
                 cells,
                 states,
-                row,
                 settling,
                 a,
                 b,
@@ -78,20 +78,20 @@ pub fn eval(
             )
         }
         ExpressionRow::Choice(a, b, d) => {
-            choice(rows, t, layout, cells, states, row, a, b, d, current, stack)
+            choice(row, rows, t, layout, cells, states, a, b, d, current, stack)
         }
-        ExpressionRow::AllList(a) => { all(rows, t, layout, cells, states, row, a, current, stack) }
+        ExpressionRow::AllList(a) => { all(row, rows, t, layout, cells, states, a, current, stack) }
     }
 }
 
 // Kinds 11 and 12: the second operand is evaluated unless the first settles the result.
 fn lazy(
+    row: usize,
     rows: &[u8],
     t: Table,
     layout: &[u16],
     cells: &[i64],
     states: &[u16],
-    row: usize,
     settling: bool,
     a: usize,
     b: usize,
@@ -104,7 +104,7 @@ fn lazy(
     ensures { λ r. ⌜ Evaluates (now (rows .entry)) t (now (layout .entry)) (now (cells .entry)) (now (states .entry)) (now (current .entry))
         (lazyTree row (connective settling) (expressionTree (now (rows .entry)) a) (expressionTree (now (rows .entry)) b)) r (now (stack .exit)) ⌝ }
 {
-    let x = eval(rows, t, layout, cells, states, a, current, &mut *stack);
+    let x = eval(a, rows, t, layout, cells, states, current, &mut *stack);
     let first = truth_of(x, stack);
     if first.error != NO_ERROR {
         return first.error;
@@ -112,17 +112,17 @@ fn lazy(
     if first.holds == settling {
         return NO_ERROR;
     }
-    eval(rows, t, layout, cells, states, b, current, stack)
+    eval(b, rows, t, layout, cells, states, current, stack)
 }
 
 // Kind 15: the test, then one of the branches.
 fn choice(
+    row: usize,
     rows: &[u8],
     t: Table,
     layout: &[u16],
     cells: &[i64],
     states: &[u16],
-    row: usize,
     test: usize,
     a: usize,
     b: usize,
@@ -135,25 +135,25 @@ fn choice(
     ensures { λ r. ⌜ Evaluates (now (rows .entry)) t (now (layout .entry)) (now (cells .entry)) (now (states .entry)) (now (current .entry))
         (choiceTree row (expressionTree (now (rows .entry)) test) (expressionTree (now (rows .entry)) a) (expressionTree (now (rows .entry)) b)) r (now (stack .exit)) ⌝ }
 {
-    let x = eval(rows, t, layout, cells, states, test, current, &mut *stack);
-    let told = truth_of(x, stack);
-    if told.error != NO_ERROR {
-        return told.error;
+    let x = eval(test, rows, t, layout, cells, states, current, &mut *stack);
+    let truth = truth_of(x, stack);
+    if truth.error != NO_ERROR {
+        return truth.error;
     }
-    if told.holds {
-        return eval(rows, t, layout, cells, states, a, current, stack);
+    if truth.holds {
+        return eval(a, rows, t, layout, cells, states, current, stack);
     }
-    eval(rows, t, layout, cells, states, b, current, stack)
+    eval(b, rows, t, layout, cells, states, current, stack)
 }
 
 // Kind 25: the inner yoke on each element of the current value, all of them, at their places in the list.
 fn all(
+    row: usize,
     rows: &[u8],
     t: Table,
     layout: &[u16],
     cells: &[i64],
     states: &[u16],
-    row: usize,
     a: usize,
     current: &[i64],
     stack: &mut [i64],
@@ -173,16 +173,16 @@ fn all(
     let mut i = 0;
     while i < n {
         let x = eval(
+            a,
             rows,
             t,
             layout,
             cells,
             states,
-            a,
             &current[at..at + width],
             &mut *stack,
         );
-        seen = noted(seen, x, stack);
+        seen = tallied(seen, x, stack);
         at += width;
         i += 1;
     }

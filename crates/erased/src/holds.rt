@@ -5,6 +5,7 @@ use lingua::errors::NO_ERROR;
 use lingua::errors::YOKE_NOT_SATISFIED;
 use lingua::sizes::BODY_CELLS;
 use rules::tables::Table;
+use run::words::is_filled;
 ghost use Prim.Native.Nat.{_+_, _*_, _≤_};
 ghost use lib.ListN.{length};
 ghost use Rattle.lingua.specs.Numbers.{body-cells};
@@ -28,11 +29,11 @@ pub fn satisfies(
     ensures { λ r. ⌜ AdmitsValue (now (rows .entry)) t (now (layout .entry)) (now (cells .entry)) (now (states .entry)) (now (value .entry)) (yokeTree (now (rows .entry)) y) r ⌝ }
 {
     let x = eval_yoke(rows, t, layout, cells, states, y, value, &mut *stack);
-    let told = truth_of(x, stack);
-    if told.error != NO_ERROR {
-        return told.error;
+    let truth = truth_of(x, stack);
+    if truth.error != NO_ERROR {
+        return truth.error;
     }
-    if !told.holds {
+    if !truth.holds {
         return YOKE_NOT_SATISFIED;
     }
     NO_ERROR
@@ -54,7 +55,7 @@ pub fn yoke_holds(
     requires { ⌜ body-cells * (y + 1) ≤ length (now stack) ⌝ }
     ensures { λ r. ⌜ AdmitsYoke (now (rows .entry)) t (now (layout .entry)) (now (cells .entry)) (now (states .entry)) n (yokeTree (now (rows .entry)) y) r ⌝ }
 {
-    if states[2 * n] == 0 {
+    if !is_filled(states, n) {
         return NO_ERROR;
     }
     let at = BODY_CELLS * n;

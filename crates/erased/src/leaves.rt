@@ -6,6 +6,7 @@ use lingua::sizes::BODY_CELLS;
 use profile::constants::constant_cell;
 use rules::tables::Table;
 use run::copies::copy;
+use run::words::is_filled;
 ghost use mathlib.Core.Path.{_≡_};
 ghost use mathlib.Core.List.{List};
 ghost use Prim.Native.Nat.{_+_, _*_, _<_, _≤_};
@@ -17,7 +18,7 @@ ghost use Rattle.lingua.specs.Body.{Body, size};
 ghost use Rattle.lingua.specs.Value.{Value};
 ghost use Rattle.lingua.specs.Store.{Variable, contents};
 ghost use Rattle.lingua.specs.Typing.{Bodies};
-ghost use Rattle.safety.specs.Erasure.{valuesOf};
+ghost use Rattle.lingua.specs.Erased.{valuesOf};
 ghost use Rattle.rules.specs.Tables.{IsTable};
 ghost use Rattle.profile.specs.Row.{constantOf};
 ghost use Rattle.profile.specs.Constants.{ConstantRow};
@@ -53,7 +54,7 @@ pub fn fetch(
     ensures { λ r. ⌜ ((vs : List Variable) (vars : Bodies) → Memory (now (cells .entry)) (now (states .entry)) vs vars → n < length vs → getD (now (layout .entry)) (2 * row) 0 ≡ size (vars n)
         → Leaves r (now (stack .exit)) (vars n) (orFail (valuesOf (contents vs) n) not-filled)) ⌝ }
 {
-    if states[2 * n] == 0 {
+    if !is_filled(states, n) {
         return NOT_FILLED;
     }
     let size = size_at(layout, row);

@@ -8,7 +8,7 @@ pub mod layout; // layout.rt: a row's two numbers
 pub mod leaves; // leaves.rt: constants, variables and the current value
 pub mod operate; // operate.rt: an operation on evaluated operands
 pub mod reading; // reading.rt: numbers from outside
-pub mod seen; // seen.rt: the results of an all-list yoke
+pub mod tally; // tally.rt: the results of an all-list yoke
 mod store; // store.rt: a value's yoke, its limit, and the store
 pub mod test; // test.rt: a test's value
 pub mod yoke; // yoke.rt: yokes, and expressions outside them

@@ -2,10 +2,12 @@
 use crate::holds::satisfies;
 use lingua::errors::NO_ERROR;
 use lingua::errors::YOKE_NOT_SATISFIED;
+use lingua::sizes::BODY_CELLS;
 use rules::tables::Table;
 use run::copies::copy;
 use run::limits::in_limits;
 use run::part::put;
+use run::words::yoke_of;
 ghost use mathlib.Core.List.{List};
 ghost use Prim.Native.Nat.{ℕ, _+_, _*_, _<_, _≤_};
 ghost use lib.ListN.{length};
@@ -55,11 +57,11 @@ pub fn store(
         → n < length vs → ValueFor (w .declarations) n width (now (stack .entry)) x
         → Settles r (Running (now (rows .entry)) t (now (layout .entry)) (now (limits .entry))) (lent (now (cells .entry)) (now (states .entry))) (lent (now (cells .exit)) (now (states .exit))) (assigned vs n x)) ⌝ }
 {
-    let yoke = states[2 * n + 1] as usize;
+    let yoke = yoke_of(states, n);
     if yoke == 0 {
         return store_within(limits, cells, states, n, stack, width);
     }
-    let mut value = [0i64; 64];
+    let mut value = [0i64; BODY_CELLS];
     copy(stack, 0, width, &mut value);
     let error = satisfies(rows, t, layout, cells, states, yoke, &value, stack);
     if error != NO_ERROR {

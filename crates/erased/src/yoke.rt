@@ -29,7 +29,7 @@ pub fn eval_yoke(
         put_truth(true, stack);
         return NO_ERROR;
     }
-    eval(rows, t, layout, cells, states, y - 1, current, stack)
+    eval(y - 1, rows, t, layout, cells, states, current, stack)
 }
 
 // Outside yokes there is no current value, and a Boolean stands for it.
@@ -48,5 +48,5 @@ pub fn eval_plain(
     ensures { λ r. ⌜ EvaluatesPlain (now (rows .entry)) t (now (layout .entry)) (now (cells .entry)) (now (states .entry)) (expressionTree (now (rows .entry)) row) r (now (stack .exit)) ⌝ }
 {
     let current = [0i64; 1];
-    eval(rows, t, layout, cells, states, row, &current, stack)
+    eval(row, rows, t, layout, cells, states, &current, stack)
 }

@@ -9,7 +9,7 @@ use lib.ListN.{length}
 use borrow.Author.Tests.{eqb-true, leb-true, not-false}
 use Rattle.lingua.specs.Numbers.{block-bytes, most-blocks}
 use Rattle.lingua.specs.Errors.{no-error, bad-length, bad-marker, bad-header, bad-check}
-use Rattle.lingua.specs.Format.{File, profile, limits, blockCount, lengthWrong, markerWrong, headerWrong, checkWrong}
+use Rattle.lingua.specs.Format.{File, profile, limits, blockCount, lengthWrong, markerWrong, headerWrong, blockCheckWrong}
 use Rattle.lingua.specs.Refusal.{lowest, fileRules}
 use Rattle.laws.specs.Outcomes.{and-left, and-right}
 use Rattle.laws.specs.Refusals.{lowest-none}
@@ -49,7 +49,7 @@ pub record Passes (f : File) (file : List ℕ) : Type 0 where
   pub sized : lengthWrong f file ≡ false
   pub marked : markerWrong f file ≡ false
   pub headed : headerWrong f file ≡ false
-  pub checked : checkWrong file ≡ false
+  pub checked : blockCheckWrong file ≡ false
 
 pub file-passes : (f : File) (file : List ℕ) → lowest (fileRules f file) ≡ no-error → Passes f file
 unfolding fileRules
@@ -57,5 +57,5 @@ file-passes f file e =
     let a = lowest-none bad-length (lengthWrong f file) _ (omega arith) e in
     let b = lowest-none bad-marker (markerWrong f file) _ (omega arith) (a .1) in
     let d = lowest-none bad-header (headerWrong f file) _ (omega arith) (b .1) in
-    let g = lowest-none bad-check (checkWrong file) _ (omega arith) (d .1) in
+    let g = lowest-none bad-check (blockCheckWrong file) _ (omega arith) (d .1) in
     record { sized = a .0; marked = b .0; headed = d .0; checked = g .0 }

@@ -8,6 +8,7 @@ pub mod Sound
 pub mod Determined
 pub mod Equal
 pub mod Tests
+pub mod Classes
 pub mod Refusals
 pub mod Blocks
 pub mod Parts

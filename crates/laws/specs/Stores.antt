@@ -5,14 +5,15 @@ use mathlib.Core.List.{List, [], _∷_, _++_, append-assoc}
 use Prim.Native.Nat.{ℕ, zero, suc, _+_, _-_, _*_, _≤_, _<_}
 use native.Mathlib.Nat.{mul-suc, mul-zero, le-of-suc-le-suc}
 use native.Mathlib.Omega.{arith}
-use lib.ListN.{length, getD, take, drop, set, replicate, length-append, length-set}
+use lib.ListN.{length, getD, take, drop, set, replicate, length-append, length-replicate, length-set}
 use lib.Seq.{paste, take-at, drop-at, getD-take, getD-drop}
 use lib.IntN.{ℤ, pos}
-use Rattle.lingua.specs.Numbers.{body-cells, cells-length, states-length}
-use Rattle.lingua.specs.Value.{pad}
-use Rattle.lingua.specs.Expression.{yokeNumber}
-use Rattle.lingua.specs.Store.{Variable, no-variable, variableAt, contentCells, filledFlag, storeCells, storeStates, cellsIn, statesIn}
-use Rattle.laws.specs.Lists.{length-pad, paste-at}
+use Rattle.lingua.specs.Numbers.{most-variables, body-cells, cells-length, state-words, states-length}
+use Rattle.lingua.specs.Value.{pad, Composite}
+use Rattle.lingua.specs.Expression.{Yoke, yokeNumber}
+use Rattle.lingua.specs.Store.{Variable, no-variable, variableAt, withContent, withYoke, contentCells, filledFlag, stateWords, storeCells, storeStates, cellsIn, statesIn, flagPlace, yokePlace, flagAt, yokeAt, fillAt, setYokeAt}
+use Rattle.lingua.specs.Run.{Declaration, unfilled}
+use Rattle.laws.specs.Lists.{length-pad, paste-at, pad-free, pad-append}
 
 -- ---- lists of parts of one length
 module _ {A B : Type 0} (f : A → List B) where
@@ -113,18 +114,15 @@ module _ {A B : Type 0} (f : A → List B) where
 abbrev pub variableCells : Variable → List ℤ
 variableCells v = pad body-cells (pos 0) (contentCells (v .content))
 
-abbrev pub variableStates : Variable → List ℕ
-variableStates v = filledFlag (v .content) ∷ yokeNumber (v .current) ∷ []
-
 pub store-cells-parts : (vs : List Variable) → storeCells vs ≡ parts variableCells vs
 unfolding storeCells parts
 store-cells-parts [] = refl
 store-cells-parts (v ∷ vs) = ap (λ (l : List ℤ). variableCells v ++ l) (store-cells-parts vs)
 
-pub store-states-parts : (vs : List Variable) → storeStates vs ≡ parts variableStates vs
+pub store-states-parts : (vs : List Variable) → storeStates vs ≡ parts stateWords vs
 unfolding storeStates parts
 store-states-parts [] = refl
-store-states-parts (v ∷ vs) = ap (λ (l : List ℕ). filledFlag (v .content) ∷ yokeNumber (v .current) ∷ l) (store-states-parts vs)
+store-states-parts (v ∷ vs) = ap (λ (l : List ℕ). stateWords v ++ l) (store-states-parts vs)
 
 -- every content has at most 64 cells
 pub data Small : List Variable → Type 0 where
@@ -140,9 +138,35 @@ pub small-sized : {vs : List Variable} → Small vs → Sized variableCells body
 small-sized small-none = sized-none
 small-sized (small-more {v} {vs} h hs) = sized-more (length-pad body-cells (pos 0) (contentCells (v .content)) h) (small-sized hs)
 
-pub states-sized : (vs : List Variable) → Sized variableStates 2 vs
+pub states-sized : (vs : List Variable) → Sized stateWords state-words vs
 states-sized [] = sized-none
 states-sized (v ∷ vs) = sized-more refl (states-sized vs)
+
+-- ---- one of two neighbours in a list
+no-two : {A : Type 0} {a b : ℕ} → _≡_ {A = List ℕ} [] (a ∷ b ∷ []) → A
+no-two e = absurd (let z : _≡_ {A = ℕ} 0 2 = ap (λ (l : List ℕ). length l) e in let k : ⊥ = omega arith in k)
+
+no-second : {A : Type 0} {x a b : ℕ} → _≡_ {A = List ℕ} (x ∷ []) (a ∷ b ∷ []) → A
+no-second e = absurd (let z : _≡_ {A = ℕ} 1 2 = ap (λ (l : List ℕ). length l) e in let k : ⊥ = omega arith in k)
+
+set-first : (l : List ℕ) (k a b c : ℕ) → take 2 (drop k l) ≡ a ∷ b ∷ [] → set l k c ≡ paste l k (c ∷ b ∷ []) 2
+set-first [] zero a b c e = no-two e
+set-first [] (suc k) a b c e = no-two e
+set-first (x ∷ []) zero a b c e = no-second e
+set-first (x ∷ y ∷ l) zero a b c e = let q : y ≡ b = cc in ap (λ (d : ℕ). c ∷ d ∷ l) q
+set-first (x ∷ l) (suc k) a b c e =
+    ap (λ (m : List ℕ). x ∷ m) (set-first l k a b c e)
+    ∙ ap (λ (j : ℕ). (take (suc k) (x ∷ l) ++ (c ∷ b ∷ [])) ++ drop j (x ∷ l)) (let q : suc (k + 2) ≡ suc k + 2 = omega arith in q)
+
+set-second : (l : List ℕ) (k a b c : ℕ) → take 2 (drop k l) ≡ a ∷ b ∷ [] → set l (k + 1) c ≡ paste l k (a ∷ c ∷ []) 2
+set-second [] zero a b c e = no-two e
+set-second [] (suc k) a b c e = no-two e
+set-second (x ∷ []) zero a b c e = no-second e
+set-second (x ∷ y ∷ l) zero a b c e = let q : x ≡ a = cc in ap (λ (d : ℕ). d ∷ c ∷ l) q
+set-second (x ∷ l) (suc k) a b c e =
+    ap (λ (j : ℕ). set (x ∷ l) j c) (let q : suc k + 1 ≡ suc (k + 1) = omega arith in q)
+    ∙ ap (λ (m : List ℕ). x ∷ m) (set-second l k a b c e)
+    ∙ ap (λ (j : ℕ). (take (suc k) (x ∷ l) ++ (a ∷ c ∷ [])) ++ drop j (x ∷ l)) (let q : suc (k + 2) ≡ suc k + 2 = omega arith in q)
 
 module _ (vs : List Variable) (n : ℕ) (lt : n < length vs) where
   -- variable n's 64 cells
@@ -157,24 +181,83 @@ module _ (vs : List Variable) (n : ℕ) (lt : n < length vs) where
       rw (store-cells-parts (set vs n v), store-cells-parts vs)
       (part-set variableCells body-cells cells-length (pos 0) vs (small-sized hs) n lt no-variable v (length-pad body-cells (pos 0) (contentCells (v .content)) h))
 
-  pub states-at : take 2 (drop (2 * n) (statesIn vs)) ≡ variableStates (variableAt vs n)
+  pub states-at : take state-words (drop (flagPlace n) (statesIn vs)) ≡ stateWords (variableAt vs n)
   unfolding statesIn
-  states-at = rw (store-states-parts vs) (part-at variableStates 2 states-length 0 vs (states-sized vs) n lt no-variable)
+  states-at = rw (store-states-parts vs) (part-at stateWords state-words states-length 0 vs (states-sized vs) n lt no-variable)
 
-  -- its two state words, each for itself: whether it is filled, and its yoke
-  pub flag-at : getD (statesIn vs) (2 * n) 0 ≡ filledFlag (variableAt vs n .content)
-  flag-at =
-      ap (λ (k : ℕ). getD (statesIn vs) k 0) (let e : 2 * n ≡ 2 * n + 0 = omega arith in e)
-      ∙ sym (getD-drop (2 * n) (statesIn vs) 0 0)
-      ∙ sym (getD-take 2 (drop (2 * n) (statesIn vs)) 0 0 (omega arith))
-      ∙ ap (λ (l : List ℕ). getD l 0 0) states-at
+  -- its state words, each for itself
+  word-at : (k : ℕ) → k < state-words → getD (statesIn vs) (flagPlace n + k) 0 ≡ getD (stateWords (variableAt vs n)) k 0
+  word-at k l =
+      sym (getD-drop (flagPlace n) (statesIn vs) k 0)
+      ∙ sym (getD-take state-words (drop (flagPlace n) (statesIn vs)) k 0 l)
+      ∙ ap (λ (l : List ℕ). getD l k 0) states-at
 
-  pub yoke-at : getD (statesIn vs) (2 * n + 1) 0 ≡ yokeNumber (variableAt vs n .current)
-  yoke-at =
-      sym (getD-drop (2 * n) (statesIn vs) 1 0)
-      ∙ sym (getD-take 2 (drop (2 * n) (statesIn vs)) 1 0 (omega arith))
-      ∙ ap (λ (l : List ℕ). getD l 1 0) states-at
+  pub flag-at : flagAt (statesIn vs) n ≡ filledFlag (variableAt vs n .content)
+  unfolding flagAt
+  flag-at = ap (λ (k : ℕ). getD (statesIn vs) k 0) (let e : flagPlace n ≡ flagPlace n + 0 = omega arith in e) ∙ word-at 0 (omega arith)
 
-  pub states-set : (v : Variable) → statesIn (set vs n v) ≡ paste (statesIn vs) (2 * n) (variableStates v) 2
+  pub yoke-at : yokeAt (statesIn vs) n ≡ yokeNumber (variableAt vs n .current)
+  unfolding yokeAt
+  yoke-at = word-at 1 (omega arith)
+
+  -- another variable n: its state words alone change
+  states-set : (v : Variable) → statesIn (set vs n v) ≡ paste (statesIn vs) (flagPlace n) (stateWords v) state-words
   unfolding statesIn
-  states-set v = rw (store-states-parts (set vs n v), store-states-parts vs) (part-set variableStates 2 states-length 0 vs (states-sized vs) n lt no-variable v refl)
+  states-set v = rw (store-states-parts (set vs n v), store-states-parts vs) (part-set stateWords state-words states-length 0 vs (states-sized vs) n lt no-variable v refl)
+
+  pub flag-set : (x : Composite) → fillAt (statesIn vs) n ≡ statesIn (set vs n (withContent (variableAt vs n) x))
+  unfolding fillAt
+  flag-set x = set-first (statesIn vs) (flagPlace n) _ _ 1 states-at ∙ sym (states-set (withContent (variableAt vs n) x))
+
+  pub yoke-set : (y : Yoke) → setYokeAt (statesIn vs) n (yokeNumber y) ≡ statesIn (set vs n (withYoke (variableAt vs n) y))
+  unfolding setYokeAt
+  yoke-set y = set-second (statesIn vs) (flagPlace n) _ _ (yokeNumber y) states-at ∙ sym (states-set (withYoke (variableAt vs n) y))
+
+-- ---- their room
+pad-long : {A : Type 0} (n : ℕ) (z : A) (xs : List A) → n ≤ length (pad n z xs)
+unfolding pad
+pad-long n z xs = omega (arith, length-append xs (replicate (n - length xs) z), length-replicate (n - length xs) z)
+
+pub cells-long : (vs : List Variable) → cells-length ≤ length (cellsIn vs)
+unfolding cellsIn
+cells-long vs = pad-long cells-length (pos 0) (storeCells vs)
+
+pub states-long : (vs : List Variable) → states-length ≤ length (statesIn vs)
+unfolding statesIn
+states-long vs = pad-long states-length 0 (storeStates vs)
+
+pub yoke-room : (states : List ℕ) (n : ℕ) → states-length ≤ length states → n < most-variables → yokePlace n < length states
+yoke-room states n l m = omega arith
+
+pub flag-room : (states : List ℕ) (n : ℕ) → states-length ≤ length states → n < most-variables → flagPlace n < length states
+flag-room states n l m = omega arith
+
+pub yoke-length : (states : List ℕ) (n y : ℕ) → length (setYokeAt states n y) ≡ length states
+unfolding setYokeAt
+yoke-length states n y = length-set states (yokePlace n) y
+
+-- ---- one variable more, not filled: it gets its declared yoke
+states-append : (vs : List Variable) (d : Declaration) → storeStates (vs ++ (unfilled d ∷ [])) ≡ storeStates vs ++ stateWords (unfilled d)
+unfolding storeStates
+states-append [] d = refl
+states-append (v ∷ vs) d = ap (λ (l : List ℕ). stateWords v ++ l) (states-append vs d)
+
+length-states : (vs : List Variable) → length (storeStates vs) ≡ state-words * length vs
+length-states vs = ap (λ (l : List ℕ). length l) (store-states-parts vs) ∙ length-parts stateWords state-words vs (states-sized vs)
+
+set-after : (xs : List ℕ) (a b y : ℕ) (r : List ℕ) → set (xs ++ (a ∷ b ∷ r)) (suc (length xs)) y ≡ xs ++ (a ∷ y ∷ r)
+set-after [] a b y r = refl
+set-after (x ∷ xs) a b y r = ap (λ (l : List ℕ). x ∷ l) (set-after xs a b y r)
+
+pub yoke-more : (vs : List Variable) (d : Declaration) → length vs < most-variables → statesIn (vs ++ (unfilled d ∷ [])) ≡ setYokeAt (statesIn vs) (length vs) (yokeNumber (d .declared))
+unfolding statesIn setYokeAt
+yoke-more vs d h =
+    let xs = storeStates vs in
+    let y = yokeNumber (d .declared) in
+    let at : suc (length xs) ≡ yokePlace (length vs) = omega (arith, length-states vs) in
+    let room : length xs + state-words ≤ states-length = omega (arith, length-states vs) in
+    ap (λ (l : List ℕ). pad states-length 0 l) (states-append vs d)
+    ∙ pad-append states-length 0 xs (stateWords (unfilled d))
+    ∙ sym (set-after xs 0 0 y (replicate (states-length - (length xs + state-words)) 0))
+    ∙ ap (λ (l : List ℕ). set l (suc (length xs)) y) (sym (pad-free states-length state-words 0 xs room))
+    ∙ ap (λ (k : ℕ). set (pad states-length 0 xs) k y) at

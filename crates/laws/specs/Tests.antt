@@ -15,6 +15,7 @@ use Rattle.lingua.specs.Value.{allOf}
 use Rattle.lingua.specs.Compute.{sameText}
 use Rattle.lingua.specs.Format.{everyBelow, allZero}
 use Rattle.laws.specs.Outcomes.{false-is-true, and-left, and-right, and-both}
+use Rattle.laws.specs.Equal.{same-text, text-same}
 
 -- ---- tests
 pub not-true-false : (t : Bool) → (t ≡ true → ⊥) → t ≡ false
@@ -23,21 +24,6 @@ not-true-false false n = refl
 
 pub true-not-false : (t : Bool) → t ≡ true → t ≡ false → ⊥
 true-not-false t e f = false-is-true (sym f ∙ e)
-
--- ---- texts
-pub same-text : (cs ds : List ℕ) → sameText cs ds ≡ true → cs ≡ ds
-unfolding sameText
-same-text [] [] e = refl
-same-text [] (d ∷ ds) e = false-is-true e
-same-text (c ∷ cs) [] e = false-is-true e
-same-text (c ∷ cs) (d ∷ ds) e =
-    ap₂ (λ (x : ℕ) (xs : List ℕ). x ∷ xs) (eqb-true c d (and-left (eqb c d) (sameText cs ds) e))
-    (same-text cs ds (and-right (eqb c d) (sameText cs ds) e))
-
-pub text-same : (cs : List ℕ) → sameText cs cs ≡ true
-unfolding sameText
-text-same [] = refl
-text-same (c ∷ cs) = and-both (eqb c c) (sameText cs cs) (eq-eqb c c refl) (text-same cs)
 
 -- ---- every number below a bound
 pub below-or : (k n : ℕ) → (k < n) ⊎ (n ≤ k)

@@ -46,10 +46,10 @@ pub data Verdict : Type 0 where
   passed : Verdict
   faulted : ℕ → ℕ → Verdict
 
-unfoldable pub checkMeaning : CheckAnswer → Answer Verdict
-checkMeaning (check-answer.Refused n) = refused n
-checkMeaning check-answer.Passed = answered passed
-checkMeaning (check-answer.TypeError e p) = answered (faulted e p)
+unfoldable pub typeCheckMeaning : CheckAnswer → Answer Verdict
+typeCheckMeaning (check-answer.Refused n) = refused n
+typeCheckMeaning check-answer.Passed = answered passed
+typeCheckMeaning (check-answer.TypeError e p) = answered (faulted e p)
 
 -- ---- the reader and the writer
 pub record RowsRead : Type 0 where

@@ -13,8 +13,8 @@ use Rattle.lingua.specs.Typing.{TypeError, Entry, checkProfile, layoutOf
 use Rattle.lingua.specs.Rows.{rowCount}
 use Rattle.lingua.specs.Trees.{profileOf}
 use Rattle.lingua.specs.Format.{File, modelOf, rowsOf, fileOf}
-use Rattle.lingua.specs.Refusal.{readRefusal, writeRefusal, checkRefusal, checkedRefusal, erasedRefusal}
-use Rattle.lingua.specs.Answers.{Answer, refused, answered, Ending, ending, endNumber, Verdict, passed, faulted, RowsRead, runMeaning, checkMeaning, readMeaning, writeMeaning}
+use Rattle.lingua.specs.Refusal.{readRefusal, writeRefusal, typeCheckRefusal, checkedRefusal, erasedRefusal}
+use Rattle.lingua.specs.Answers.{Answer, refused, answered, Ending, ending, endNumber, Verdict, passed, faulted, RowsRead, runMeaning, typeCheckMeaning, readMeaning, writeMeaning}
 use Rattle.lingua.specs.declared.RunAnswer.{RunAnswer}
 use Rattle.lingua.specs.declared.CheckAnswer.{CheckAnswer}
 use Rattle.lingua.specs.declared.ReadAnswer.{ReadAnswer}
@@ -46,20 +46,20 @@ unfoldable pub writeCall : File → ℕ → List ℕ → List ℕ → WriteCall
 writeCall f model rows buffer = writeUnless (writeRefusal f rows buffer) f model rows buffer
 
 -- ---- the type check: a pass fills the layout table, a type error zeroes it
-pub record CheckCall : Type 0 where
+pub record TypeCheckCall : Type 0 where
   pub answer : Answer Verdict
   pub layout : List ℕ
 
-unfoldable pub checkVerdict : Outcome TypeError (List Entry) → CheckCall
-checkVerdict (ok es) = record { answer = answered passed; layout = layoutOf es }
-checkVerdict (fail e) = record { answer = answered (faulted (e .error) (e .place)); layout = replicate layout-length 0 }
+unfoldable pub typeCheckVerdict : Outcome TypeError (List Entry) → TypeCheckCall
+typeCheckVerdict (ok es) = record { answer = answered passed; layout = layoutOf es }
+typeCheckVerdict (fail e) = record { answer = answered (faulted (e .error) (e .place)); layout = replicate layout-length 0 }
 
-unfoldable pub checkUnless : ℕ → List ℕ → List ℕ → List ℕ → CheckCall
-checkUnless zero prof lims layout = checkVerdict (checkProfile (profileOf (rowsOf prof) (rowsOf lims)))
-checkUnless (suc n) prof lims layout = record { answer = refused (suc n); layout = layout }
+unfoldable pub typeCheckUnless : ℕ → List ℕ → List ℕ → List ℕ → TypeCheckCall
+typeCheckUnless zero prof lims layout = typeCheckVerdict (checkProfile (profileOf (rowsOf prof) (rowsOf lims)))
+typeCheckUnless (suc n) prof lims layout = record { answer = refused (suc n); layout = layout }
 
-unfoldable pub checkCall : List ℕ → List ℕ → List ℕ → CheckCall
-checkCall prof lims layout = checkUnless (checkRefusal prof lims layout) prof lims layout
+unfoldable pub typeCheckCall : List ℕ → List ℕ → List ℕ → TypeCheckCall
+typeCheckCall prof lims layout = typeCheckUnless (typeCheckRefusal prof lims layout) prof lims layout
 
 -- ---- the checked run (document 01: desk run)
 pub record RunCall : Type 0 where
@@ -105,7 +105,7 @@ withLayout c layout = record { answer = c .answer; cells = c .cells; states = c 
 
 unfoldable pub erasedUnless : ℕ → List ℕ → List ℕ → List ℕ → List ℤ → ℕ → List ℤ → List ℕ → List ℕ → ErasedCall
 erasedUnless zero prof lims variables numbers budget cells states layout =
-    withLayout (ran budget (runOf prof lims variables numbers budget)) (checkCall prof lims layout .layout)
+    withLayout (ran budget (runOf prof lims variables numbers budget)) (typeCheckCall prof lims layout .layout)
 erasedUnless (suc n) prof lims variables numbers budget cells states layout =
     record { answer = refused (suc n); cells = cells; states = states; layout = layout }
 
@@ -120,8 +120,8 @@ readResult r buffer = record { answer = readMeaning r; buffer = buffer }
 unfoldable pub writeResult : WriteAnswer → List ℕ → WriteCall
 writeResult r buffer = record { answer = writeMeaning r; buffer = buffer }
 
-unfoldable pub checkResult : CheckAnswer → List ℕ → CheckCall
-checkResult r layout = record { answer = checkMeaning r; layout = layout }
+unfoldable pub typeCheckResult : CheckAnswer → List ℕ → TypeCheckCall
+typeCheckResult r layout = record { answer = typeCheckMeaning r; layout = layout }
 
 unfoldable pub runResult : RunAnswer → List ℤ → List ℕ → RunCall
 runResult r cells states = record { answer = runMeaning r; cells = cells; states = states }

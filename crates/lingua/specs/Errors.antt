@@ -1,5 +1,8 @@
--- Error numbers of runs and of the type check, and refusal numbers. Assumes nothing: these are definitions.
+-- Error numbers of runs and of the type check with their two classes, and refusal numbers. Assumes nothing: these are definitions.
+use mathlib.Core.Bool.{Bool, false, _||_}
+use mathlib.Core.List.{List, [], _∷_}
 use Prim.Native.Nat.{ℕ}
+use lib.Dec.{eqb}
 
 -- no error
 abbrev pub no-error : ℕ
@@ -61,12 +64,32 @@ not-comparable = 17
 abbrev pub body-too-large : ℕ
 body-too-large = 18
 
--- the type errors are these, and a handler names 1 to the last
-abbrev pub first-type-error : ℕ
-first-type-error = 8
+-- ---- the two classes: whatever speaks of a class asks one of these tests
+abbrev pub run-errors : List ℕ
+run-errors = overflow ∷ division-by-zero ∷ yoke-not-satisfied ∷ list-empty ∷ list-full ∷ word-too-long ∷ not-filled ∷ []
 
-abbrev pub last-error : ℕ
-last-error = 18
+abbrev pub type-errors : List ℕ
+type-errors =
+    number-expected ∷ boolean-expected ∷ word-expected ∷ list-expected ∷ record-expected ∷ no-such-attribute
+    ∷ attribute-present ∷ no-coherence ∷ yoke-expected ∷ not-comparable ∷ body-too-large ∷ []
+
+unfoldable pub isAmong : List ℕ → ℕ → Bool
+isAmong [] n = false
+isAmong (m ∷ ms) n = eqb n m || isAmong ms n
+
+unfoldable pub isRunError : ℕ → Bool
+isRunError n = isAmong run-errors n
+
+unfoldable pub isTypeError : ℕ → Bool
+isTypeError n = isAmong type-errors n
+
+-- of either class: what a handler may name
+unfoldable pub isError : ℕ → Bool
+isError n = isRunError n || isTypeError n
+
+-- all of them are below this
+abbrev pub error-numbers : ℕ
+error-numbers = 19
 
 -- ---- refusals, in the order in which they are asked
 abbrev pub bad-buffer : ℕ

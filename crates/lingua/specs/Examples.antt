@@ -21,8 +21,8 @@ use Rattle.lingua.specs.Typing.{TypeError, Typed, check, layoutOf}
 use Rattle.lingua.specs.Meets.{met, runMet}
 use Rattle.lingua.specs.Format.{profile, limits, blockCheck, fileOf, rowsOf}
 use Rattle.lingua.specs.Answers.{refused, answered, Ending, ending, faulted}
-use Rattle.lingua.specs.Calls.{endingOf, checkCall, erasedCall}
-use Rattle.lingua.specs.Refusal.{checkRefusal}
+use Rattle.lingua.specs.Calls.{endingOf, typeCheckCall, erasedCall}
+use Rattle.lingua.specs.Refusal.{typeCheckRefusal}
 use Rattle.lingua.specs.Report.{reportText}
 use Rattle.lingua.specs.Edges.{literal, truth-literal, one-by-zero, speed, program, up-to-600, below-five}
 use Rattle.lingua.specs.Computing.{computing}
@@ -232,11 +232,11 @@ unfolding computing example-profile-file example-rows
 example-reads-back = refl
 
 -- the lowest number over both files: the profile's check is wrong, and the limits file's marker
-pub lowest-of-both : checkRefusal (set example-profile-file 508 0) (set example-limits-file 0 0) (replicate 1024 0) ≡ bad-marker
+pub lowest-of-both : typeCheckRefusal (set example-profile-file 508 0) (set example-limits-file 0 0) (replicate 1024 0) ≡ bad-marker
 unfolding computing example-profile-file example-rows example-limits-file example-limits
 lowest-of-both = refl
 
-pub check-alone : checkRefusal (set example-profile-file 508 0) example-limits-file (replicate 1024 0) ≡ bad-check
+pub check-alone : typeCheckRefusal (set example-profile-file 508 0) example-limits-file (replicate 1024 0) ≡ bad-check
 unfolding computing example-profile-file example-rows example-limits-file example-limits
 check-alone = refl
 
@@ -254,7 +254,7 @@ unfoldable pub wrong-file : List ℕ
 wrong-file = fileOf profile 7 wrong-rows
 
 -- the type check zeroes the layout table; an erased run is refused with 17 and leaves it
-pub type-error-zeroes : checkCall wrong-file example-limits-file (replicate 1024 5) ≡ record { answer = answered (faulted 15 512); layout = replicate 1024 0 }
+pub type-error-zeroes : typeCheckCall wrong-file example-limits-file (replicate 1024 5) ≡ record { answer = answered (faulted 15 512); layout = replicate 1024 0 }
 unfolding computing example-rows example-limits-file example-limits wrong-rows wrong-file
 type-error-zeroes = refl
 

@@ -133,6 +133,6 @@ headerFits f file k =
 unfoldable pub headerWrong : File → List ℕ → Bool
 headerWrong f file = not (everyBelow (blockCount file) (λ k. headerFits f file k))
 
-unfoldable pub checkWrong : List ℕ → Bool
-checkWrong file =
+unfoldable pub blockCheckWrong : List ℕ → Bool
+blockCheckWrong file =
     not (everyBelow (blockCount file) (λ k. eqb (word32 (blockAt file k) check-place) (blockCheck (blockAt file k))))

@@ -10,6 +10,7 @@ pub mod Expression
 pub mod Evaluation
 pub mod Store
 pub mod Run
+pub mod Erased
 pub mod Typing
 pub mod Meets
 pub mod Rows

@@ -34,6 +34,10 @@ body-depth = 4
 abbrev pub record-attributes : ℕ
 record-attributes = 8
 
+-- a body by value
+abbrev pub body-bytes : ℕ
+body-bytes = 96
+
 -- attributes are numbered below this
 abbrev pub attribute-numbers : ℕ
 attribute-numbers = 64
@@ -61,11 +65,32 @@ most-readings = 16
 abbrev pub cells-length : ℕ
 cells-length = 1024
 
+-- those of one variable
+abbrev pub state-words : ℕ
+state-words = 2
+
 abbrev pub states-length : ℕ
 states-length = 32
 
 abbrev pub layout-length : ℕ
 layout-length = 1024
+
+-- ---- the code's own: the bodies of all type rows and of all variables, a variable's limit, the limits of all variables, and the operand
+-- stack, with a value for each expression row and one more
+abbrev pub type-bodies-length : ℕ
+type-bodies-length = 3072
+
+abbrev pub variable-bodies-length : ℕ
+variable-bodies-length = 1536
+
+abbrev pub limit-cells : ℕ
+limit-cells = 3
+
+abbrev pub limit-cells-length : ℕ
+limit-cells-length = 48
+
+abbrev pub stack-length : ℕ
+stack-length = 32832
 
 -- ---- files
 abbrev pub row-bytes : ℕ
@@ -93,6 +118,13 @@ check-place = 508
 
 abbrev pub most-blocks : ℕ
 most-blocks = 17
+
+-- the longest file, and the row areas of its blocks
+abbrev pub longest-file : ℕ
+longest-file = 8704
+
+abbrev pub areas-length : ℕ
+areas-length = 8500
 
 -- the reader's buffer: 832 rows
 abbrev pub rows-length : ℕ

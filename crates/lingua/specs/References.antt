@@ -9,7 +9,7 @@ use Rattle.lingua.specs.Outcome.{isOk, if_then_else_}
 use Rattle.lingua.specs.Value.{allOf}
 use Rattle.lingua.specs.Expression.{Expression, constant, variable, current, unary, binary, lazy, choice, all-list}
 use Rattle.lingua.specs.Typing.{joined}
-use Rattle.lingua.specs.Rows.{aAt, bAt, tableCount, pairCount, detailRow, TypeRow, simple-type, list-type, record-type, expand-type, typeRow, ExpressionRow, constant-row, variable-row, current-row, unary-row, binary-row, lazy-row, choice-row, all-list-row, expressionRow, operands, InstructionRow, skip-row, assign-row, set-yoke-row, sequence-row, branch-row, loop-row, handle-row, instructionRow, parts, evaluated, yokeRoot, yokeSet}
+use Rattle.lingua.specs.Rows.{aAt, bAt, tableCount, pairCount, detailRow, TypeRow, simple-type, list-type, record-type, expand-type, unknown-type, typeRow, ExpressionRow, constant-row, variable-row, current-row, unary-row, binary-row, lazy-row, choice-row, all-list-row, unknown-expression, expressionRow, operands, InstructionRow, skip-row, assign-row, set-yoke-row, sequence-row, branch-row, loop-row, handle-row, unknown-instruction, instructionRow, parts, evaluated, yokeRoot, yokeSet}
 use Rattle.lingua.specs.Trees.{tabulate, typeBody, expressionTree}
 use Rattle.lingua.specs.Format.{everyBelow}
 
@@ -23,6 +23,7 @@ typeParts (simple-type b) = []
 typeParts (list-type a) = a ∷ []
 typeParts (record-type n b) = b ∷ []
 typeParts (expand-type a n c) = a ∷ c ∷ []
+typeParts unknown-type = []
 
 unfoldable pub expressionVariables : ExpressionRow → List ℕ
 expressionVariables (constant-row c) = []
@@ -33,6 +34,7 @@ expressionVariables (binary-row o a b) = []
 expressionVariables (lazy-row k a b) = []
 expressionVariables (choice-row a b c) = []
 expressionVariables (all-list-row a) = []
+expressionVariables unknown-expression = []
 
 unfoldable pub instructionVariables : InstructionRow → List ℕ
 instructionVariables skip-row = []
@@ -42,6 +44,7 @@ instructionVariables (sequence-row i j) = []
 instructionVariables (branch-row e i j) = []
 instructionVariables (loop-row e i) = []
 instructionVariables (handle-row n i) = []
+instructionVariables unknown-instruction = []
 
 -- the declared yoke of pair d, as in the marks
 unfoldable pub declaredYoke : List ℕ → ℕ → ℕ
@@ -97,7 +100,7 @@ useWrong rows =
     not (everyBelow (tableCount rows expression-section) (λ r. eqb (occurrences r (expressionUses rows)) 1)
     && everyBelow (pred (tableCount rows instruction-section)) (λ r. eqb (occurrences r (instructionUses rows)) 1))
 
--- ---- 12: kind 4 outside yokes, 24 and 25 inside
+-- ---- 12: variables are read outside yokes, the current value and its elements inside
 unfoldable pub readsVariable : Expression → Bool
 readsVariable (constant r c) = false
 readsVariable (variable r n) = true

@@ -15,7 +15,7 @@ use Rattle.lingua.specs.Compute.{sameText}
 use Rattle.lingua.specs.Typing.{checkProfile}
 use Rattle.lingua.specs.Rows.{rowCount, pairCount}
 use Rattle.lingua.specs.Trees.{declaredBody, limitRow, nameAt, profileOf}
-use Rattle.lingua.specs.Format.{File, profile, limits, modelOf, rowsOf, fileLength, everyBelow, lengthWrong, markerWrong, headerWrong, checkWrong}
+use Rattle.lingua.specs.Format.{File, profile, limits, modelOf, rowsOf, fileLength, everyBelow, lengthWrong, markerWrong, headerWrong, blockCheckWrong}
 use Rattle.lingua.specs.Rules.{formWrong, countWrong, nameWrong, constantWrong}
 use Rattle.lingua.specs.References.{referenceWrong, useWrong, placeWrong, typeWrong}
 
@@ -43,7 +43,7 @@ fileRules f file =
     rule bad-length (lengthWrong f file)
     ∷ rule bad-marker (markerWrong f file)
     ∷ rule bad-header (headerWrong f file)
-    ∷ rule bad-check (checkWrong file)
+    ∷ rule bad-check (blockCheckWrong file)
     ∷ []
 
 -- 6 to 13, of its rows; a limits file has 6 to 9
@@ -116,8 +116,8 @@ writeRefusal f rows buffer =
     (rule bad-buffer (not (eqb (length rows % row-bytes) 0 && eqb (length buffer) (fileLength f (rowCount rows))))
     ∷ rowRules f rows)
 
-unfoldable pub checkRefusal : List ℕ → List ℕ → List ℕ → ℕ
-checkRefusal prof lims layout = lowest (rule bad-buffer (not (eqb (length layout) layout-length)) ∷ pairRules prof lims)
+unfoldable pub typeCheckRefusal : List ℕ → List ℕ → List ℕ → ℕ
+typeCheckRefusal prof lims layout = lowest (rule bad-buffer (not (eqb (length layout) layout-length)) ∷ pairRules prof lims)
 
 -- rules 1 to 16 of a checked run
 unfoldable pub runRules : List ℕ → List ℕ → List ℕ → List ℤ → List ℤ → List ℕ → List Rule

@@ -1,7 +1,8 @@
--- Rows of 10 bytes and what each says: the fields, the tables, and each row read by its kind (document 01, Files).
+-- Rows of 10 bytes and what each says: the fields, the tables, and for each table of rows its kinds (document 01, Files).
 -- Total on any bytes; what a malformed row reads as does not matter, since it is refused. Assumes nothing: these are definitions.
 use mathlib.Core.Bool.{Bool, not}
 use mathlib.Core.List.{List, [], _∷_}
+use mathlib.Core.Option.{Option, some, none}
 use Prim.Native.Nat.{ℕ, zero, suc, _+_, _*_, _/_}
 use lib.Dec.{eqb, ltb}
 use lib.ListN.{length, getD, take, drop}
@@ -92,6 +93,31 @@ nameRow rows s d = rowIn rows s (2 * d)
 unfoldable pub detailRow : List ℕ → ℕ → ℕ → ℕ
 detailRow rows s d = rowIn rows s (2 * d + 1)
 
+-- ---- kinds
+-- a kind of row: its number, how many of a row's eight bytes it uses, and what row i of the rows says
+pub record RowKind (R : Type 0) : Type 0 where
+  pub kind : ℕ
+  pub used : ℕ
+  pub says : List ℕ → ℕ → R
+
+-- a kind whose rows are read by their fields a, b, c
+abbrev pub field-kind : {R : Type 0} → ℕ → ℕ → (ℕ → ℕ → ℕ → R) → RowKind R
+field-kind k n f = record { kind = k; used = n; says = λ rows i. f (aAt rows i) (bAt rows i) (cAt rows i) }
+
+unfoldable pub numbered : {R : Type 0} → ℕ → List (RowKind R) → Option (RowKind R)
+numbered k [] = none
+numbered k (e ∷ es) = if eqb k (e .kind) then some e else numbered k es
+
+-- what row i says, where its kind is one of the table's; otherwise it is unknown
+unfoldable pub said : {R : Type 0} → R → Option (RowKind R) → List ℕ → ℕ → R
+said unknown none rows i = unknown
+said unknown (some e) rows i = e .says rows i
+
+-- how many bytes a row of kind k uses, and none where the table has no such kind
+unfoldable pub usedOf : {R : Type 0} → Option (RowKind R) → Option ℕ
+usedOf none = none
+usedOf (some e) = some (e .used)
+
 -- ---- a type row
 pub data TypeRow : Type 0 where
   simple-type : Body → TypeRow
@@ -100,24 +126,38 @@ pub data TypeRow : Type 0 where
   record-type : ℕ → ℕ → TypeRow
   -- the record's type, the attribute, its type
   expand-type : ℕ → ℕ → ℕ → TypeRow
+  unknown-type : TypeRow
 
-unfoldable pub typeKind : ℕ → ℕ → ℕ → ℕ → TypeRow
-typeKind k a b c =
-    if eqb k 1 then simple-type boolean
-    else (if eqb k 2 then simple-type number
-    else (if eqb k 3 then simple-type word
-    else (if eqb k 4 then list-type a
-    else (if eqb k 5 then record-type a b
-    else expand-type a b c))))
+unfoldable pub typeKinds : List (RowKind TypeRow)
+typeKinds =
+    field-kind 1 0 (λ a b c. simple-type boolean)
+    ∷ field-kind 2 0 (λ a b c. simple-type number)
+    ∷ field-kind 3 0 (λ a b c. simple-type word)
+    ∷ field-kind 4 2 (λ a b c. list-type a)
+    ∷ field-kind 5 4 (λ a b c. record-type a b)
+    ∷ field-kind 6 6 (λ a b c. expand-type a b c)
+    ∷ []
+
+unfoldable pub typeAt : List ℕ → ℕ → TypeRow
+typeAt rows i = said unknown-type (numbered (kindAt rows i) typeKinds) rows i
 
 unfoldable pub typeRow : List ℕ → ℕ → TypeRow
-typeRow rows r =
-    let i : ℕ = rowIn rows type-section r in
-    typeKind (kindAt rows i) (aAt rows i) (bAt rows i) (cAt rows i)
+typeRow rows r = typeAt rows (rowIn rows type-section r)
 
 -- ---- an expression row, its operands given by row
+-- a constant as its row has it: the eight bytes as a number without sign, as one with a sign, as they are
+pub data Constant : Type 0 where
+  boolean-constant : ℕ → Constant
+  number-constant : ℤ → Constant
+  word-constant : List ℕ → Constant
+
+unfoldable pub constantValue : Constant → Composite
+constantValue (boolean-constant n) = composite boolean (truth (not (eqb n 0)))
+constantValue (number-constant z) = composite number (whole z)
+constantValue (word-constant cs) = composite word (text (untilZero cs))
+
 pub data ExpressionRow : Type 0 where
-  constant-row : Composite → ExpressionRow
+  constant-row : Constant → ExpressionRow
   variable-row : ℕ → ExpressionRow
   current-row : ExpressionRow
   unary-row : Unary → ℕ → ExpressionRow
@@ -125,45 +165,46 @@ pub data ExpressionRow : Type 0 where
   lazy-row : Connective → ℕ → ℕ → ExpressionRow
   choice-row : ℕ → ℕ → ℕ → ExpressionRow
   all-list-row : ℕ → ExpressionRow
+  unknown-expression : ExpressionRow
 
--- kinds 1 to 3
-unfoldable pub constantKind : ℕ → List ℕ → ℕ → Composite
-constantKind k rows i =
-    if eqb k 1 then composite boolean (truth (not (eqb (wideAt rows i) 0)))
-    else (if eqb k 2 then composite number (whole (numberAt rows i))
-    else composite word (text (untilZero (bytesAt rows i))))
+-- a kind of constant
+abbrev pub constant-kind : ℕ → (List ℕ → ℕ → Constant) → RowKind ExpressionRow
+constant-kind k f = record { kind = k; used = 8; says = λ rows i. constant-row (f rows i) }
 
--- kinds 4 to 25
-unfoldable pub expressionKind : ℕ → ℕ → ℕ → ℕ → ExpressionRow
-expressionKind k a b c =
-    if eqb k 4 then variable-row a
-    else (if eqb k 5 then binary-row add a b
-    else (if eqb k 6 then binary-row subtract a b
-    else (if eqb k 7 then binary-row multiply a b
-    else (if eqb k 8 then binary-row divide a b
-    else (if eqb k 9 then binary-row less a b
-    else (if eqb k 10 then binary-row equal a b
-    else (if eqb k 11 then lazy-row conjunction a b
-    else (if eqb k 12 then lazy-row disjunction a b
-    else (if eqb k 13 then binary-row glue a b
-    else (if eqb k 14 then unary-row negation a
-    else (if eqb k 15 then choice-row a b c
-    else (if eqb k 16 then unary-row (make-record a) b
-    else (if eqb k 17 then binary-row (expand b) a c
-    else (if eqb k 18 then unary-row (select b) a
-    else (if eqb k 19 then binary-row (change b) a c
-    else (if eqb k 20 then unary-row make-list a
-    else (if eqb k 21 then binary-row push a b
-    else (if eqb k 22 then unary-row top a
-    else (if eqb k 23 then unary-row pop a
-    else (if eqb k 24 then current-row
-    else all-list-row a))))))))))))))))))))
+unfoldable pub expressionKinds : List (RowKind ExpressionRow)
+expressionKinds =
+    constant-kind 1 (λ rows i. boolean-constant (wideAt rows i))
+    ∷ constant-kind 2 (λ rows i. number-constant (numberAt rows i))
+    ∷ constant-kind 3 (λ rows i. word-constant (bytesAt rows i))
+    ∷ field-kind 4 2 (λ a b c. variable-row a)
+    ∷ field-kind 5 4 (λ a b c. binary-row add a b)
+    ∷ field-kind 6 4 (λ a b c. binary-row subtract a b)
+    ∷ field-kind 7 4 (λ a b c. binary-row multiply a b)
+    ∷ field-kind 8 4 (λ a b c. binary-row divide a b)
+    ∷ field-kind 9 4 (λ a b c. binary-row less a b)
+    ∷ field-kind 10 4 (λ a b c. binary-row equal a b)
+    ∷ field-kind 11 4 (λ a b c. lazy-row conjunction a b)
+    ∷ field-kind 12 4 (λ a b c. lazy-row disjunction a b)
+    ∷ field-kind 13 4 (λ a b c. binary-row glue a b)
+    ∷ field-kind 14 2 (λ a b c. unary-row negation a)
+    ∷ field-kind 15 6 (λ a b c. choice-row a b c)
+    ∷ field-kind 16 4 (λ a b c. unary-row (make-record a) b)
+    ∷ field-kind 17 6 (λ a b c. binary-row (expand b) a c)
+    ∷ field-kind 18 4 (λ a b c. unary-row (select b) a)
+    ∷ field-kind 19 6 (λ a b c. binary-row (change b) a c)
+    ∷ field-kind 20 2 (λ a b c. unary-row make-list a)
+    ∷ field-kind 21 4 (λ a b c. binary-row push a b)
+    ∷ field-kind 22 2 (λ a b c. unary-row top a)
+    ∷ field-kind 23 2 (λ a b c. unary-row pop a)
+    ∷ field-kind 24 0 (λ a b c. current-row)
+    ∷ field-kind 25 2 (λ a b c. all-list-row a)
+    ∷ []
+
+unfoldable pub expressionAt : List ℕ → ℕ → ExpressionRow
+expressionAt rows i = said unknown-expression (numbered (kindAt rows i) expressionKinds) rows i
 
 unfoldable pub expressionRow : List ℕ → ℕ → ExpressionRow
-expressionRow rows r =
-    let i : ℕ = rowIn rows expression-section r in
-    if ltb (kindAt rows i) 4 then constant-row (constantKind (kindAt rows i) rows i)
-    else expressionKind (kindAt rows i) (aAt rows i) (bAt rows i) (cAt rows i)
+expressionRow rows r = expressionAt rows (rowIn rows expression-section r)
 
 -- the rows that an expression row uses
 unfoldable pub operands : ExpressionRow → List ℕ
@@ -175,6 +216,7 @@ operands (binary-row o a b) = a ∷ b ∷ []
 operands (lazy-row k a b) = a ∷ b ∷ []
 operands (choice-row a b c) = a ∷ b ∷ c ∷ []
 operands (all-list-row a) = a ∷ []
+operands unknown-expression = []
 
 -- ---- an instruction row: a variable, an error, expressions and parts, by number
 pub data InstructionRow : Type 0 where
@@ -186,21 +228,24 @@ pub data InstructionRow : Type 0 where
   branch-row : ℕ → ℕ → ℕ → InstructionRow
   loop-row : ℕ → ℕ → InstructionRow
   handle-row : ℕ → ℕ → InstructionRow
+  unknown-instruction : InstructionRow
 
-unfoldable pub instructionKind : ℕ → ℕ → ℕ → ℕ → InstructionRow
-instructionKind k a b c =
-    if eqb k 1 then skip-row
-    else (if eqb k 2 then assign-row a b
-    else (if eqb k 3 then set-yoke-row a b
-    else (if eqb k 4 then sequence-row a b
-    else (if eqb k 5 then branch-row a b c
-    else (if eqb k 6 then loop-row a b
-    else handle-row a b)))))
+unfoldable pub instructionKinds : List (RowKind InstructionRow)
+instructionKinds =
+    field-kind 1 0 (λ a b c. skip-row)
+    ∷ field-kind 2 4 (λ a b c. assign-row a b)
+    ∷ field-kind 3 4 (λ a b c. set-yoke-row a b)
+    ∷ field-kind 4 4 (λ a b c. sequence-row a b)
+    ∷ field-kind 5 6 (λ a b c. branch-row a b c)
+    ∷ field-kind 6 4 (λ a b c. loop-row a b)
+    ∷ field-kind 7 4 (λ a b c. handle-row a b)
+    ∷ []
+
+unfoldable pub instructionAt : List ℕ → ℕ → InstructionRow
+instructionAt rows i = said unknown-instruction (numbered (kindAt rows i) instructionKinds) rows i
 
 unfoldable pub instructionRow : List ℕ → ℕ → InstructionRow
-instructionRow rows r =
-    let i : ℕ = rowIn rows instruction-section r in
-    instructionKind (kindAt rows i) (aAt rows i) (bAt rows i) (cAt rows i)
+instructionRow rows r = instructionAt rows (rowIn rows instruction-section r)
 
 -- the instruction rows that it uses
 unfoldable pub parts : InstructionRow → List ℕ
@@ -211,6 +256,7 @@ parts (sequence-row i j) = i ∷ j ∷ []
 parts (branch-row e i j) = i ∷ j ∷ []
 parts (loop-row e i) = i ∷ []
 parts (handle-row n i) = i ∷ []
+parts unknown-instruction = []
 
 -- the expression row that it evaluates outside yokes
 unfoldable pub evaluated : InstructionRow → List ℕ
@@ -221,6 +267,7 @@ evaluated (sequence-row i j) = []
 evaluated (branch-row e i j) = e ∷ []
 evaluated (loop-row e i) = e ∷ []
 evaluated (handle-row n i) = []
+evaluated unknown-instruction = []
 
 -- the expression row of a yoke as in the marks: 0 has none
 unfoldable pub yokeRoot : ℕ → List ℕ
@@ -236,3 +283,4 @@ yokeSet (sequence-row i j) = []
 yokeSet (branch-row e i j) = []
 yokeSet (loop-row e i) = []
 yokeSet (handle-row n i) = []
+yokeSet unknown-instruction = []

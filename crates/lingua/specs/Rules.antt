@@ -5,31 +5,27 @@ use mathlib.Core.List.{List, [], _∷_}
 use mathlib.Core.Option.{Option, some, none}
 use Prim.Native.Nat.{ℕ, _+_, _-_, _%_}
 use lib.Dec.{eqb, ltb, leb}
-use lib.ListN.{getD, drop}
-use Rattle.lingua.specs.Numbers.{attribute-numbers, most-variables, most-types, most-expressions, most-instructions, most-limits, declaration-section, type-section, expression-section, instruction-section, limit-section}
-use Rattle.lingua.specs.Errors.{last-error}
+use lib.ListN.{length, getD, drop}
+use Rattle.lingua.specs.Numbers.{attribute-numbers, word-length, most-variables, most-types, most-expressions, most-instructions, most-limits, declaration-section, type-section, expression-section, instruction-section, limit-section}
+use Rattle.lingua.specs.Errors.{isError}
 use Rattle.lingua.specs.Outcome.{if_then_else_}
 use Rattle.lingua.specs.Value.{inRange, isCharacter, allOf}
 use Rattle.lingua.specs.Operation.{Unary, negation, make-record, select, make-list, top, pop, Binary, add, subtract, multiply, divide, less, equal, glue, expand, change, push}
 use Rattle.lingua.specs.Compute.{sameText}
-use Rattle.lingua.specs.Rows.{rowCount, sectionAt, kindAt, wideAt, numberAt, bytesAt, rowIn, tableCount, pairCount, TypeRow, simple-type, list-type, record-type, expand-type, typeRow, ExpressionRow, constant-row, variable-row, current-row, unary-row, binary-row, lazy-row, choice-row, all-list-row, expressionRow, InstructionRow, skip-row, assign-row, set-yoke-row, sequence-row, branch-row, loop-row, handle-row, instructionRow}
+use Rattle.lingua.specs.Rows.{rowCount, sectionAt, kindAt, bytesAt, rowIn, tableCount, pairCount, numbered, usedOf, TypeRow, simple-type, list-type, record-type, expand-type, unknown-type, typeKinds, typeRow, Constant, boolean-constant, number-constant, word-constant, ExpressionRow, constant-row, variable-row, current-row, unary-row, binary-row, lazy-row, choice-row, all-list-row, unknown-expression, expressionKinds, expressionRow, InstructionRow, skip-row, assign-row, set-yoke-row, sequence-row, branch-row, loop-row, handle-row, unknown-instruction, instructionKinds, instructionRow}
 use Rattle.lingua.specs.Trees.{nameAt}
 use Rattle.lingua.specs.Format.{File, profile, limits, allZero, everyBelow}
 
 -- ---- 6: form
--- by kind, from 0 on: how many of a row's eight bytes are used, and none where there is no such kind
-unfoldable pub usedBytes : ℕ → List (Option ℕ)
-usedBytes section =
-    if eqb section declaration-section then some 8 ∷ some 4 ∷ []
-    else (if eqb section type-section then none ∷ some 0 ∷ some 0 ∷ some 0 ∷ some 2 ∷ some 4 ∷ some 6 ∷ []
-    else (if eqb section expression-section then
-    none ∷ some 8 ∷ some 8 ∷ some 8 ∷ some 2
-    ∷ some 4 ∷ some 4 ∷ some 4 ∷ some 4 ∷ some 4 ∷ some 4 ∷ some 4 ∷ some 4 ∷ some 4
-    ∷ some 2 ∷ some 6 ∷ some 4 ∷ some 6 ∷ some 4 ∷ some 6
-    ∷ some 2 ∷ some 4 ∷ some 2 ∷ some 2 ∷ some 0 ∷ some 2 ∷ []
-    else (if eqb section instruction-section then none ∷ some 0 ∷ some 4 ∷ some 4 ∷ some 4 ∷ some 6 ∷ some 4 ∷ some 4 ∷ []
-    else (if eqb section limit-section then some 8 ∷ some 8 ∷ []
-    else []))))
+-- how many of its eight bytes a row uses, and none where the section has no such kind; declarations and limits have kinds 0 and 1
+unfoldable pub usedBytes : ℕ → ℕ → Option ℕ
+usedBytes section kind =
+    if eqb section declaration-section then getD (some 8 ∷ some 4 ∷ []) kind none
+    else (if eqb section type-section then usedOf (numbered kind typeKinds)
+    else (if eqb section expression-section then usedOf (numbered kind expressionKinds)
+    else (if eqb section instruction-section then usedOf (numbered kind instructionKinds)
+    else (if eqb section limit-section then getD (some 8 ∷ some 8 ∷ []) kind none
+    else none))))
 
 -- limits stand alone in limits files
 unfoldable pub sectionBelongs : File → ℕ → Bool
@@ -43,7 +39,7 @@ bytesFit (some n) bytes = allZero (drop n bytes)
 
 unfoldable pub rowFits : File → List ℕ → ℕ → Bool
 rowFits f rows i =
-    sectionBelongs f (sectionAt rows i) && bytesFit (getD (usedBytes (sectionAt rows i)) (kindAt rows i) none) (bytesAt rows i)
+    sectionBelongs f (sectionAt rows i) && bytesFit (usedBytes (sectionAt rows i) (kindAt rows i)) (bytesAt rows i)
 
 -- sections ascend: each row's is at least that of the row before
 unfoldable pub ascending : List ℕ → Bool
@@ -96,12 +92,22 @@ nameWrong f rows =
     not (everyBelow (pairCount rows (namedSection f)) (λ d. isName (nameAt rows (namedSection f) d) && isNew rows (namedSection f) d))
 
 -- ---- 9: constants, attributes, handled errors
-unfoldable pub constantFits : List ℕ → ℕ → Bool
-constantFits rows i =
-    if eqb (kindAt rows i) 1 then leb (wideAt rows i) 1
-    else (if eqb (kindAt rows i) 2 then inRange (numberAt rows i)
-    else (if eqb (kindAt rows i) 3 then paddedBy isCharacter (bytesAt rows i)
-    else true))
+unfoldable pub constantFits : Constant → Bool
+constantFits (boolean-constant n) = leb n 1
+constantFits (number-constant z) = inRange z
+constantFits (word-constant cs) = leb (length cs) word-length && paddedBy isCharacter cs
+
+-- other rows have no constant
+unfoldable pub rowConstantFits : ExpressionRow → Bool
+rowConstantFits (constant-row c) = constantFits c
+rowConstantFits (variable-row n) = true
+rowConstantFits current-row = true
+rowConstantFits (unary-row o a) = true
+rowConstantFits (binary-row o a b) = true
+rowConstantFits (lazy-row k a b) = true
+rowConstantFits (choice-row a b c) = true
+rowConstantFits (all-list-row a) = true
+rowConstantFits unknown-expression = true
 
 unfoldable pub unaryAttribute : Unary → List ℕ
 unaryAttribute negation = []
@@ -133,12 +139,14 @@ expressionAttributes (binary-row o a b) = binaryAttribute o
 expressionAttributes (lazy-row k a b) = []
 expressionAttributes (choice-row a b c) = []
 expressionAttributes (all-list-row a) = []
+expressionAttributes unknown-expression = []
 
 unfoldable pub typeAttributes : TypeRow → List ℕ
 typeAttributes (simple-type b) = []
 typeAttributes (list-type a) = []
 typeAttributes (record-type n b) = n ∷ []
 typeAttributes (expand-type a n c) = n ∷ []
+typeAttributes unknown-type = []
 
 unfoldable pub handledErrors : InstructionRow → List ℕ
 handledErrors skip-row = []
@@ -148,6 +156,7 @@ handledErrors (sequence-row i j) = []
 handledErrors (branch-row e i j) = []
 handledErrors (loop-row e i) = []
 handledErrors (handle-row n i) = n ∷ []
+handledErrors unknown-instruction = []
 
 abbrev pub attributesFit : List ℕ → Bool
 attributesFit ns = allOf (λ n. ltb n attribute-numbers) ns
@@ -156,6 +165,6 @@ attributesFit ns = allOf (λ n. ltb n attribute-numbers) ns
 unfoldable pub constantWrong : File → List ℕ → Bool
 constantWrong profile rows =
     not (everyBelow (tableCount rows type-section) (λ r. attributesFit (typeAttributes (typeRow rows r)))
-    && everyBelow (tableCount rows expression-section) (λ r. constantFits rows (rowIn rows expression-section r) && attributesFit (expressionAttributes (expressionRow rows r)))
-    && everyBelow (tableCount rows instruction-section) (λ r. allOf (λ n. between 1 last-error n) (handledErrors (instructionRow rows r))))
+    && everyBelow (tableCount rows expression-section) (λ r. rowConstantFits (expressionRow rows r) && attributesFit (expressionAttributes (expressionRow rows r)))
+    && everyBelow (tableCount rows instruction-section) (λ r. allOf isError (handledErrors (instructionRow rows r))))
 constantWrong limits rows = false

@@ -1,13 +1,14 @@
 -- Variables, assignment, yoke change and readings (document 01, Evaluation and Runs), and the store as the caller's memory.
 -- Assumes nothing: these are definitions.
-use mathlib.Core.Bool.{Bool, true, _&&_}
+use mathlib.Core.Bool.{Bool, true, not, _&&_}
 use mathlib.Core.List.{List, [], _∷_, _++_}
 use mathlib.Core.Option.{Option, some, none}
-use Prim.Native.Nat.{ℕ}
+use Prim.Native.Nat.{ℕ, _+_, _*_}
+use lib.Dec.{eqb}
 use lib.ListN.{getD, set}
 use lib.IntN.{ℤ, pos}
 use lib.Signed.{leZ}
-use Rattle.lingua.specs.Numbers.{body-cells, cells-length, states-length}
+use Rattle.lingua.specs.Numbers.{body-cells, cells-length, state-words, states-length}
 use Rattle.lingua.specs.Errors.{overflow, yoke-not-satisfied, no-coherence, yoke-expected}
 use Rattle.lingua.specs.Outcome.{ok, Result, require, _>>=_, _>>_}
 use Rattle.lingua.specs.Body.{Body, boolean, number, sameBody}
@@ -86,7 +87,7 @@ readingTaken vs r = do
   require (inRange (r .number)) overflow
   assigned vs (r .variable) (composite number (whole (r .number)))
 
--- ---- the store as lent memory: variable v's cells from 64 v on, its filled flag at 2 v, its yoke at 2 v + 1
+-- ---- the store as lent memory: variable v's cells from 64 v on, and its state words from 2 v on
 unfoldable pub contentCells : Option Composite → List ℤ
 contentCells none = []
 contentCells (some x) = cellsOf (x .body) (x .value)
@@ -99,9 +100,13 @@ unfoldable pub storeCells : List Variable → List ℤ
 storeCells [] = []
 storeCells (v ∷ vs) = pad body-cells (pos 0) (contentCells (v .content)) ++ storeCells vs
 
+-- a variable's state words: whether it is filled, and its current yoke
+abbrev pub stateWords : Variable → List ℕ
+stateWords v = filledFlag (v .content) ∷ yokeNumber (v .current) ∷ []
+
 unfoldable pub storeStates : List Variable → List ℕ
 storeStates [] = []
-storeStates (v ∷ vs) = filledFlag (v .content) ∷ yokeNumber (v .current) ∷ storeStates vs
+storeStates (v ∷ vs) = stateWords v ++ storeStates vs
 
 -- document 01: the 1,024 cells and the 32 marks
 unfoldable pub cellsIn : List Variable → List ℤ
@@ -109,3 +114,26 @@ cellsIn vs = pad cells-length (pos 0) (storeCells vs)
 
 unfoldable pub statesIn : List Variable → List ℕ
 statesIn vs = pad states-length 0 (storeStates vs)
+
+-- where variable n's state words stand among all, by name: nothing else says it
+abbrev pub flagPlace : ℕ → ℕ
+flagPlace n = state-words * n
+
+abbrev pub yokePlace : ℕ → ℕ
+yokePlace n = state-words * n + 1
+
+unfoldable pub flagAt : List ℕ → ℕ → ℕ
+flagAt states n = getD states (flagPlace n) 0
+
+unfoldable pub yokeAt : List ℕ → ℕ → ℕ
+yokeAt states n = getD states (yokePlace n) 0
+
+unfoldable pub filledAt : List ℕ → ℕ → Bool
+filledAt states n = not (eqb (flagAt states n) 0)
+
+-- variable n filled, and with another yoke
+unfoldable pub fillAt : List ℕ → ℕ → List ℕ
+fillAt states n = set states (flagPlace n) 1
+
+unfoldable pub setYokeAt : List ℕ → ℕ → ℕ → List ℕ
+setYokeAt states n y = set states (yokePlace n) y

@@ -15,7 +15,7 @@ use Rattle.lingua.specs.Expression.{Expression, constant, variable, curr
 use Rattle.lingua.specs.Evaluation.{no-current}
 use Rattle.lingua.specs.Store.{Limit}
 use Rattle.lingua.specs.Run.{Declaration, Profile}
-use Rattle.lingua.specs.Rows.{aAt, bAt, lowAt, highAt, bytesAt, tableCount, pairCount, nameRow, detailRow, TypeRow, simple-type, list-type, record-type, expand-type, typeRow, ExpressionRow, constant-row, variable-row, current-row, unary-row, binary-row, lazy-row, choice-row, all-list-row, expressionRow, InstructionRow, skip-row, assign-row, set-yoke-row, sequence-row, branch-row, loop-row, handle-row, instructionRow}
+use Rattle.lingua.specs.Rows.{aAt, bAt, lowAt, highAt, bytesAt, tableCount, pairCount, nameRow, detailRow, TypeRow, simple-type, list-type, record-type, expand-type, unknown-type, typeRow, constantValue, ExpressionRow, constant-row, variable-row, current-row, unary-row, binary-row, lazy-row, choice-row, all-list-row, unknown-expression, expressionRow, InstructionRow, skip-row, assign-row, set-yoke-row, sequence-row, branch-row, loop-row, handle-row, unknown-instruction, instructionRow}
 
 -- f at 0 to n - 1
 unfoldable pub tabulateFrom : {A : Type 0} → ℕ → ℕ → (ℕ → A) → List A
@@ -46,6 +46,7 @@ typeBodyOf (expand-type a n c) look = do
   b ← look a
   d ← look c
   binaryBody (expand n) b d
+typeBodyOf unknown-type look = ok boolean
 
 -- n bounds how deep the types refer; a row refers to lower rows, so one more than its number is enough
 unfoldable pub typeBodyIn : ℕ → List ℕ → ℕ → Result Body
@@ -60,7 +61,7 @@ abbrev pub no-expression : ℕ → Expression
 no-expression r = constant r no-current
 
 unfoldable pub expressionOf : ℕ → ExpressionRow → (ℕ → Expression) → Expression
-expressionOf r (constant-row c) look = constant r c
+expressionOf r (constant-row c) look = constant r (constantValue c)
 expressionOf r (variable-row n) look = variable r n
 expressionOf r current-row look = current r
 expressionOf r (unary-row o a) look = unary r o (look a)
@@ -68,6 +69,7 @@ expressionOf r (binary-row o a b) look = binary r o (look a) (look b)
 expressionOf r (lazy-row k a b) look = lazy r k (look a) (look b)
 expressionOf r (choice-row a b c) look = choice r (look a) (look b) (look c)
 expressionOf r (all-list-row a) look = all-list r (look a)
+expressionOf r unknown-expression look = no-expression r
 
 unfoldable pub expressionIn : ℕ → List ℕ → ℕ → Expression
 expressionIn zero rows r = no-expression r
@@ -90,6 +92,7 @@ instructionOf rows r (sequence-row i j) look = sequence r (look i) (look j)
 instructionOf rows r (branch-row e i j) look = branch r (expressionTree rows e) (look i) (look j)
 instructionOf rows r (loop-row e i) look = loop r (expressionTree rows e) (look i)
 instructionOf rows r (handle-row n i) look = handle r n (look i)
+instructionOf rows r unknown-instruction look = skip r
 
 unfoldable pub instructionIn : ℕ → List ℕ → ℕ → Instruction
 instructionIn zero rows r = skip r

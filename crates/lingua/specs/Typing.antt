@@ -59,18 +59,19 @@ unarySecond make-list b = 0
 unarySecond top b = 0
 unarySecond pop b = 0
 
--- the offset in the result: of a new attribute in the widened record, of a changed one where it was
-unfoldable pub binarySecond : Binary → Body → ℕ
-binarySecond add b = 0
-binarySecond subtract b = 0
-binarySecond multiply b = 0
-binarySecond divide b = 0
-binarySecond less b = 0
-binarySecond equal b = 0
-binarySecond glue b = 0
-binarySecond (expand n) b = offsetIn n b
-binarySecond (change n) b = offsetIn n b
-binarySecond push b = 0
+-- from the operands' bodies b and c and the result's d: the offset in the result, of a new attribute in the widened record, of a changed
+-- one where it was
+unfoldable pub binarySecond : Binary → Body → Body → Body → ℕ
+binarySecond add b c d = 0
+binarySecond subtract b c d = 0
+binarySecond multiply b c d = 0
+binarySecond divide b c d = 0
+binarySecond less b c d = 0
+binarySecond equal b c d = 0
+binarySecond glue b c d = 0
+binarySecond (expand n) b c d = offsetIn n d
+binarySecond (change n) b c d = offsetIn n d
+binarySecond push b c d = 0
 
 -- the variables' declared bodies
 abbrev pub Bodies : Type 0
@@ -89,7 +90,7 @@ check (binary r o e f) vars cur = do
   x ← check e vars cur
   y ← check f vars cur
   b ← located r (binaryBody o (x .body) (y .body))
-  typed r cur b (binarySecond o b) (x .entries ++ y .entries)
+  typed r cur b (binarySecond o (x .body) (y .body) b) (x .entries ++ y .entries)
 check (lazy r k e f) vars cur = do
   x ← check e vars cur
   require (isBoolean (x .body)) (typeError boolean-expected r)

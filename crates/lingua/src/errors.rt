@@ -37,10 +37,8 @@ pub const YOKE_EXPECTED: u8 = 16;
 pub const NOT_COMPARABLE: u8 = 17;
 
 pub const BODY_TOO_LARGE: u8 = 18;
-// the type errors are these, and a handler names 1 to the last
-pub const FIRST_TYPE_ERROR: u8 = 8;
-
-pub const LAST_ERROR: u8 = 18;
+// errors are numbered from 1, below this; a handler may name each of them
+pub const ERROR_NUMBERS: usize = 19;
 // refusals, in the order in which they are asked
 pub const BAD_BUFFER: u8 = 1;
 

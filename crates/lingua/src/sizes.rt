@@ -4,8 +4,6 @@ pub const LOWEST_NUMBER: i64 = -1000000;
 
 pub const HIGHEST_NUMBER: i64 = 1000000;
 
-pub const WORD_LENGTH: usize = 8;
-
 pub const LOWEST_CHARACTER: u8 = 32;
 
 pub const HIGHEST_CHARACTER: u8 = 126;
@@ -18,7 +16,9 @@ pub const BODY_NODES: usize = 32;
 
 pub const BODY_DEPTH: usize = 4;
 
-pub const RECORD_ATTRIBUTES: usize = 8;
+pub const RECORD_ATTRIBUTES: u8 = 8;
+// a body by value
+pub const BODY_BYTES: usize = 96;
 // attributes are numbered below this
 pub const ATTRIBUTE_NUMBERS: usize = 64;
 // tables and the caller's buffers
@@ -36,9 +36,23 @@ pub const MOST_READINGS: usize = 16;
 // document 01: cells, marks, sheet
 pub const CELLS_LENGTH: usize = 1024;
 
+// those of one variable
+pub const STATE_WORDS: usize = 2;
+
 pub const STATES_LENGTH: usize = 32;
 
 pub const LAYOUT_LENGTH: usize = 1024;
+// the code's own: the bodies of all type rows and of all variables, a variable's limit, the limits of all variables, and the
+// operand stack, with a value for each expression row and one more
+pub const TYPE_BODIES_LENGTH: usize = 3072;
+
+pub const VARIABLE_BODIES_LENGTH: usize = 1536;
+
+pub const LIMIT_CELLS: usize = 3;
+
+pub const LIMIT_CELLS_LENGTH: usize = 48;
+
+pub const STACK_LENGTH: usize = 32832;
 // files
 pub const ROW_BYTES: usize = 10;
 
@@ -55,6 +69,10 @@ pub const CHECKED_WORDS: usize = 127;
 pub const CHECK_PLACE: usize = 508;
 
 pub const MOST_BLOCKS: usize = 17;
+// the longest file, and the row areas of its blocks
+pub const LONGEST_FILE: usize = 8704;
+
+pub const AREAS_LENGTH: usize = 8500;
 // the reader's buffer: 832 rows
 pub const ROWS_LENGTH: usize = 8320;
 // sections
@@ -75,4 +93,4 @@ pub const INSTRUCTION_PLACE: usize = 512;
 
 pub const DECLARATION_PLACE: usize = 768;
 // the report
-pub const REPORT_BUDGET: usize = 1000;
+pub const REPORT_BUDGET: u16 = 1000;

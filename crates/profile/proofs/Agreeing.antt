@@ -56,33 +56,6 @@ pub every-begins : (p : ℕ → Bool) → everyBelow 0 p ≡ true
 unfolding everyBelow
 every-begins p = refl
 
--- ---- names
-module _ (rows name : List ℕ) where
-  pub name-test : ℕ → Bool
-  name-test d = not (sameText (nameAt rows declaration-section d) name && isNumberVariable rows d)
-
-  pub test-fails : (d : ℕ) (b : Bool) → b ≡ (sameText (nameAt rows declaration-section d) name && isNumberVariable rows d) → b ≡ true → name-test d ≡ false
-  unfolding name-test
-  test-fails d b e h = ap not (sym e ∙ h)
-
-  pub test-passes : (d : ℕ) (b : Bool) → b ≡ (sameText (nameAt rows declaration-section d) name && isNumberVariable rows d) → b ≡ false → name-test d ≡ true
-  unfolding name-test
-  test-passes d b e h = ap not (sym e ∙ h)
-
-  pub name-found : (n d : ℕ) → n ≡ pairCount rows declaration-section → name-test d ≡ false → d < n → true ≡ namesNumber rows name
-  unfolding namesNumber name-test
-  name-found n d q e h = one-wrong (pairCount rows declaration-section) name-test d e (omega arith)
-
-  pub name-missing : (n d : ℕ) → n ≡ pairCount rows declaration-section → everyBelow d name-test ≡ true → d ≡ n → false ≡ namesNumber rows name
-  unfolding namesNumber name-test
-  name-missing n d q e h = none-wrong (pairCount rows declaration-section) d name-test e (h ∙ q)
-
-pub both-so : (a b c d : Bool) → a ≡ b → a ≡ true → c ≡ d → c ≡ (b && d)
-both-so a b c d e h q = q ∙ sym (ap (λ (t : Bool). t && d) (sym e ∙ h))
-
-pub first-not : (a b d : Bool) → a ≡ b → a ≡ false → false ≡ (b && d)
-first-not a b d e h = sym (ap (λ (t : Bool). t && d) (sym e ∙ h))
-
 -- ---- a limit
 module _ (rows limits : List ℕ) (l : ℕ) (low high : ℤ) (el : low ≡ limitRow limits l .low) (eh : high ≡ limitRow limits l .high) where
   fits-by : (a b c d : Bool) → leZ low high ≡ a → inRange low ≡ b → inRange high ≡ c → namesNumber rows (nameAt limits limit-section l) ≡ d → limitFits rows limits l ≡ (a && b && c && d)

@@ -1,11 +1,9 @@
--- Declarations and limits: their rows, a variable's body, and the search for a name. Assumes nothing.
+-- Declarations and limits: their rows, and a variable's body. Assumes nothing.
 use mathlib.Core.Path.{_≡_, refl, sym, ap, ap₂, _∙_, subst}
 use mathlib.Core.Logic.{_≢_}
 use mathlib.Core.Bool.{Bool, true, false, _&&_}
 use mathlib.Core.List.{List}
-use mathlib.Core.Option.{Option, some, none}
 use Prim.Native.Nat.{ℕ, zero, suc, _+_, _-_, _*_, _/_, _≤_, _<_}
-use native.Mathlib.Numerals.{add-one}
 use native.Mathlib.Omega.{arith}
 use lib.Dec.{eqb, ltb}
 use lib.ListN.{length, getD}
@@ -19,7 +17,7 @@ use Rattle.lingua.specs.Body.{Body, isNumber}
 use Rattle.lingua.specs.Compute.{sameText}
 use Rattle.lingua.specs.Store.{Limit}
 use Rattle.lingua.specs.Rows.{word32, aAt, bAt, lowAt, highAt, bytesAt, tableStart, tableCount, rowIn, pairCount, nameRow, detailRow}
-use Rattle.lingua.specs.Trees.{typeBody, declaredBody, limitRow, nameAt, limitIf, limitFrom, limitOf}
+use Rattle.lingua.specs.Trees.{typeBody, declaredBody, limitRow, nameAt}
 use Rattle.lingua.specs.References.{declaredYoke}
 use Rattle.lingua.specs.Refusal.{isNumberBody, isNumberVariable}
 use Rattle.safety.specs.Accepted.{AcceptedRows, declared-type}
@@ -27,10 +25,9 @@ use Rattle.rules.specs.Tables.{IsTable}
 use Rattle.rules.specs.declared.tables.Table.{Table}
 use Rattle.body.specs.Encode.{Holds}
 use Rattle.body.proofs.Tags.{is-number, not-number}
-use Rattle.profile.specs.Accepted.{counts}
-use Rattle.profile.specs.Types.{bodyAt, BodiesBelow}
-use Rattle.profile.specs.Variables.{DeclaredIs, limitMeaning}
-use Rattle.profile.specs.declared.limits.Limit.the-variants.{Within, Nothing}
+use Rattle.rules.specs.Accepted.{counts}
+use Rattle.rules.specs.Types.{bodyAt, BodiesBelow}
+use Rattle.profile.specs.Variables.{DeclaredIs}
 
 -- ---- rows of pairs
 module _ (rows : List ℕ) (s : ℕ) (t : Table) (is : IsTable rows s t) where
@@ -45,6 +42,10 @@ module _ (rows : List ℕ) (s : ℕ) (t : Table) (is : IsTable rows s t) where
   pub pairs : t .count / 2 ≡ pairCount rows s
   unfolding pairCount
   pairs = ap (λ (n : ℕ). n / 2) (is .count)
+
+  pub name-is : (d : ℕ) (cs : List ℕ) → cs ≡ bytesAt rows (t .start + 2 * d) → cs ≡ nameAt rows s d
+  unfolding nameAt
+  name-is d cs e = e ∙ ap (bytesAt rows) (name-place d)
 
   -- a name that is compared
   pub same-name : (d : ℕ) (name cs : List ℕ) (b : Bool) → cs ≡ bytesAt rows (t .start + 2 * d) → b ≡ sameText cs name → b ≡ sameText (nameAt rows s d) name
@@ -95,30 +96,3 @@ module _ (limits : List ℕ) (t : Table) (is : IsTable limits limit-section t) (
   pub high-is : n ≡ word32 limits (10 * (t .start + (2 * l + 1)) + 6) → z ≡ toZ w32 n → z ≡ limitRow limits l .high
   unfolding limitRow highAt
   high-is e h = h ∙ ap (λ (i : ℕ). toZ w32 i) (e ∙ ap (λ (i : ℕ). word32 limits (10 * i + 6)) (detail-place limits limit-section t is l))
-
-module _ (limits name : List ℕ) where
-  pub search-begins : (count : ℕ) → count ≡ pairCount limits limit-section → limitOf limits name ≡ limitFrom 0 (count - 0) limits name
-  unfolding limitOf
-  search-begins count e = ap (λ (n : ℕ). limitFrom 0 n limits name) (let q : pairCount limits limit-section ≡ count - 0 = omega arith in q)
-
-  module _ (l count : ℕ) where
-    turn : l < count → limitFrom l (count - l) limits name ≡ limitIf (sameText (nameAt limits limit-section l) name) (limitRow limits l) (limitFrom (suc l) (count - (l + 1)) limits name)
-    unfolding limitFrom
-    turn h = ap (λ (n : ℕ). limitFrom l n limits name) (let q : count - l ≡ suc (count - (l + 1)) = omega arith in q)
-
-    pub search-found : (low high : ℤ) → l < count → true ≡ sameText (nameAt limits limit-section l) name → low ≡ limitRow limits l .low → high ≡ limitRow limits l .high
-        → limitOf limits name ≡ limitFrom l (count - l) limits name → limitMeaning (Within low high) ≡ limitOf limits name
-    unfolding limitMeaning
-    search-found low high h b p q e =
-        ap₂ (λ (x y : ℤ). some (record { low = x; high = y })) p q
-        ∙ sym (e ∙ turn h ∙ ap (λ (t : Bool). limitIf t (limitRow limits l) (limitFrom (suc l) (count - (l + 1)) limits name)) (sym b))
-
-    pub search-goes-on : l < count → false ≡ sameText (nameAt limits limit-section l) name
-        → limitOf limits name ≡ limitFrom l (count - l) limits name → limitOf limits name ≡ limitFrom (l + 1) (count - (l + 1)) limits name
-    search-goes-on h b e =
-        e ∙ turn h ∙ ap (λ (t : Bool). limitIf t (limitRow limits l) (limitFrom (suc l) (count - (l + 1)) limits name)) (sym b)
-        ∙ ap (λ (k : ℕ). limitFrom k (count - (l + 1)) limits name) (sym (add-one l))
-
-    pub search-ends : count ≤ l → limitOf limits name ≡ limitFrom l (count - l) limits name → limitMeaning Nothing ≡ limitOf limits name
-    unfolding limitMeaning limitFrom
-    search-ends h e = sym (e ∙ ap (λ (n : ℕ). limitFrom l n limits name) (let q : count - l ≡ 0 = omega arith in q))

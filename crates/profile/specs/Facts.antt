@@ -5,24 +5,25 @@ use mathlib.Core.Bool.{Bool, true, false, Bool·beq}
 use mathlib.Core.List.{List, [], _∷_, _++_}
 use Prim.Native.Nat.{ℕ, zero, suc, _<_}
 use Rattle.lingua.specs.Numbers.{declaration-section, expression-section, instruction-section}
-use Rattle.lingua.specs.Errors.{last-error}
-use Rattle.lingua.specs.Value.{Composite}
+use Rattle.lingua.specs.Errors.{isError}
 use Rattle.lingua.specs.Expression.{Expression, settledBy, constant, variable, current, unary, binary, lazy, choice, all-list, Instruction, skip, assign, set-yoke, sequence, branch, loop, handle}
 use Rattle.lingua.specs.Operations.{unaryMeaning, binaryMeaning}
-use Rattle.lingua.specs.Rows.{tableCount, pairCount, ExpressionRow, expressionRow, operands, InstructionRow, instructionRow, parts, evaluated, yokeRoot, yokeSet}
+use Rattle.lingua.specs.Rows.{rowIn, tableCount, pairCount, ExpressionRow, expressionRow, operands, InstructionRow, instructionRow, parts, evaluated, yokeRoot, yokeSet}
 use Rattle.lingua.specs.Trees.{lower, no-expression, expressionOf, expressionTree, yokeTree, instructionOf, instructionTree}
 use Rattle.lingua.specs.Rules.{handledErrors}
 use Rattle.lingua.specs.References.{expressionVariables, instructionVariables}
 use Rattle.safety.specs.Every.{Every, every-none, every-more}
 use Rattle.safety.specs.Accepted.{AcceptedRows, instruction-roots}
-use Rattle.profile.specs.declared.row.ExpressionRow.the-variants as code
-use Rattle.profile.specs.declared.row.ExpressionRow.{ExpressionRow as CodeRow}
-use Rattle.profile.specs.declared.row.InstructionRow.the-variants as does
-use Rattle.profile.specs.declared.row.InstructionRow.{InstructionRow as CodeInstruction}
-use Rattle.profile.specs.Row.{connective, rowMeaning, constantOf, RowSays, instructionMeaning}
-use Rattle.profile.specs.Accepted.{Between, expression-operands, expression-variables, instruction-parts, instruction-variables, handled-errors}
+use Rattle.rules.specs.declared.decode.ExpressionRow.the-variants as code
+use Rattle.rules.specs.declared.decode.ExpressionRow.{ExpressionRow as CodeRow}
+use Rattle.rules.specs.declared.decode.InstructionRow.the-variants as does
+use Rattle.rules.specs.declared.decode.InstructionRow.{InstructionRow as CodeInstruction}
+use Rattle.rules.specs.declared.decode.Simple.{Simple}
+use Rattle.rules.specs.Decoded.{connective, expressionMeaning, instructionMeaning}
+use Rattle.profile.specs.Row.{valueOf, constantOf, RowSays}
+use Rattle.rules.specs.Accepted.{expression-operands, expression-variables, instruction-parts, instruction-variables, handled-errors}
 use Rattle.profile.specs.Constants.{ConstantRow, constant-row-is}
-use Rattle.profile.specs.Unrolled.{lower-is, expression-unrolled, instruction-unrolled}
+use Rattle.rules.specs.Unrolled.{lower-is, expression-unrolled, instruction-unrolled}
 
 -- ---- expressions
 -- the same of an equal row
@@ -39,7 +40,7 @@ settled-by s t u e = ap (λ (r : Bool). Bool·beq s r) (settles t) ∙ e
 
 -- operands are lower rows, a variable is declared, and a constant is in range
 unfoldable pub RowFacts : List ℕ → ℕ → CodeRow → Type 0
-RowFacts rows r code.Constant = ConstantRow rows r
+RowFacts rows r (code.Constant k) = ConstantRow rows r
 RowFacts rows r (code.Variable n) = n < pairCount rows declaration-section
 RowFacts rows r code.Current = Unit {0}
 RowFacts rows r (code.Unary o a) = a < r
@@ -48,10 +49,10 @@ RowFacts rows r (code.Lazy t a b) = (a < r) × (b < r)
 RowFacts rows r (code.Choice a b c) = (a < r) × (b < r) × (c < r)
 RowFacts rows r (code.AllList a) = a < r
 
-facts-by : (rows : List ℕ) (r : ℕ) (c : CodeRow) → (RowSays rows r code.Constant → ConstantRow rows r) → RowSays rows r c → Every (λ a. a < r) (operands (rowMeaning (constantOf rows r) c))
-    → Every (λ n. n < pairCount rows declaration-section) (expressionVariables (rowMeaning (constantOf rows r) c)) → RowFacts rows r c
-unfolding RowFacts rowMeaning operands expressionVariables
-facts-by rows r code.Constant f s o v = f s
+facts-by : (rows : List ℕ) (r : ℕ) (c : CodeRow) → ((k : Simple) → RowSays rows r (code.Constant k) → ConstantRow rows r) → RowSays rows r c → Every (λ a. a < r) (operands (expressionMeaning rows (rowIn rows expression-section r) c))
+    → Every (λ n. n < pairCount rows declaration-section) (expressionVariables (expressionMeaning rows (rowIn rows expression-section r) c)) → RowFacts rows r c
+unfolding RowFacts expressionMeaning operands expressionVariables
+facts-by rows r (code.Constant k) f s o v = f k s
 facts-by rows r (code.Variable n) f s o (every-more h v) = h
 facts-by rows r code.Current f s o v = tt
 facts-by rows r (code.Unary u a) f s (every-more h o) v = h
@@ -69,7 +70,7 @@ row-facts rows accepted r l c s =
 
 -- the tree by those of the operands
 unfoldable pub rowTree : List ℕ → ℕ → CodeRow → Expression
-rowTree rows r code.Constant = constant r (constantOf rows r)
+rowTree rows r (code.Constant k) = constant r (constantOf rows r)
 rowTree rows r (code.Variable n) = variable r n
 rowTree rows r code.Current = current r
 rowTree rows r (code.Unary o a) = unary r (unaryMeaning o) (expressionTree rows a)
@@ -82,21 +83,21 @@ module _ (rows : List ℕ) (r : ℕ) where
   at-row : (a : ℕ) → a < r → lower r (λ k. expressionTree rows k) (no-expression r) a ≡ expressionTree rows a
   at-row a l = lower-is r (λ k. expressionTree rows k) (no-expression r) a l
 
-  tree-by : (c : CodeRow) → RowFacts rows r c → expressionOf r (rowMeaning (constantOf rows r) c) (lower r (λ a. expressionTree rows a) (no-expression r)) ≡ rowTree rows r c
-  unfolding RowFacts rowMeaning rowTree expressionOf
-  tree-by code.Constant f = refl
-  tree-by (code.Variable n) f = refl
-  tree-by code.Current f = refl
-  tree-by (code.Unary o a) f = ap (unary r (unaryMeaning o)) (at-row a f)
-  tree-by (code.Binary o a b) f = ap₂ (binary r (binaryMeaning o)) (at-row a (f .0)) (at-row b (f .1))
-  tree-by (code.Lazy t a b) f = ap₂ (lazy r (connective t)) (at-row a (f .0)) (at-row b (f .1))
-  tree-by (code.Choice a b c) f = λ i. choice r (at-row a (f .0) i) (at-row b (f .1) i) (at-row c (f .2) i)
-  tree-by (code.AllList a) f = ap (all-list r) (at-row a f)
+  tree-by : (c : CodeRow) → RowSays rows r c → RowFacts rows r c → expressionOf r (expressionMeaning rows (rowIn rows expression-section r) c) (lower r (λ a. expressionTree rows a) (no-expression r)) ≡ rowTree rows r c
+  unfolding RowFacts expressionMeaning rowTree expressionOf constantOf valueOf
+  tree-by (code.Constant k) s f = ap (λ (e : ExpressionRow). constant r (valueOf e)) (s .says)
+  tree-by (code.Variable n) s f = refl
+  tree-by code.Current s f = refl
+  tree-by (code.Unary o a) s f = ap (unary r (unaryMeaning o)) (at-row a f)
+  tree-by (code.Binary o a b) s f = ap₂ (binary r (binaryMeaning o)) (at-row a (f .0)) (at-row b (f .1))
+  tree-by (code.Lazy t a b) s f = ap₂ (lazy r (connective t)) (at-row a (f .0)) (at-row b (f .1))
+  tree-by (code.Choice a b c) s f = λ i. choice r (at-row a (f .0) i) (at-row b (f .1) i) (at-row c (f .2) i)
+  tree-by (code.AllList a) s f = ap (all-list r) (at-row a f)
 
 pub row-tree : (rows : List ℕ) (r : ℕ) (c : CodeRow) → RowSays rows r c → RowFacts rows r c → expressionTree rows r ≡ rowTree rows r c
 row-tree rows r c s f =
     expression-unrolled rows r
-    ∙ (ap (λ (e : ExpressionRow). expressionOf r e (lower r (λ a. expressionTree rows a) (no-expression r))) (sym (s .says)) ∙ tree-by rows r c f)
+    ∙ (ap (λ (e : ExpressionRow). expressionOf r e (lower r (λ a. expressionTree rows a) (no-expression r))) (sym (s .says)) ∙ tree-by rows r c s f)
 
 -- ---- instructions
 -- parts are lower rows, a variable is declared, an expression or yoke is there, and a handled error is one
@@ -107,12 +108,12 @@ InstructionFacts rows r (does.SetYoke n y) = (n < pairCount rows declaration-sec
 InstructionFacts rows r (does.Sequence i j) = (i < r) × (j < r)
 InstructionFacts rows r (does.Branch e i j) = (e < tableCount rows expression-section) × (i < r) × (j < r)
 InstructionFacts rows r (does.Loop e i) = (e < tableCount rows expression-section) × (i < r)
-InstructionFacts rows r (does.Handle n i) = Between 1 last-error n × (i < r)
+InstructionFacts rows r (does.Handle n i) = (isError n ≡ true) × (i < r)
 
 instruction-by : (rows : List ℕ) (r : ℕ) (c : CodeInstruction) → Every (λ a. a < r) (parts (instructionMeaning c))
     → Every (λ n. n < pairCount rows declaration-section) (instructionVariables (instructionMeaning c))
     → Every (λ k. k < tableCount rows expression-section) (evaluated (instructionMeaning c) ++ yokeSet (instructionMeaning c))
-    → Every (λ n. Between 1 last-error n) (handledErrors (instructionMeaning c)) → InstructionFacts rows r c
+    → Every (λ n. isError n ≡ true) (handledErrors (instructionMeaning c)) → InstructionFacts rows r c
 unfolding InstructionFacts instructionMeaning parts instructionVariables evaluated yokeSet handledErrors
 instruction-by rows r does.Skip p v e h = tt
 instruction-by rows r (does.Assign n x) p (every-more k v) (every-more l e) h = (k, l)
@@ -129,7 +130,7 @@ instruction-facts rows accepted r l c s =
     (subst (λ (e : InstructionRow). Every (λ a. a < r) (parts e)) (sym s) (instruction-parts rows (accepted .references) r l))
     (subst (λ (e : InstructionRow). Every (λ n. n < pairCount rows declaration-section) (instructionVariables e)) (sym s) (instruction-variables rows (accepted .references) r l))
     (subst (λ (e : InstructionRow). Every (λ k. k < tableCount rows expression-section) (evaluated e ++ yokeSet e)) (sym s) (instruction-roots rows accepted r l))
-    (subst (λ (e : InstructionRow). Every (λ n. Between 1 last-error n) (handledErrors e)) (sym s) (handled-errors rows (accepted .constants) r l))
+    (subst (λ (e : InstructionRow). Every (λ n. isError n ≡ true) (handledErrors e)) (sym s) (handled-errors rows (accepted .constants) r l))
 
 -- the tree by those of the parts
 unfoldable pub instructionRowTree : List ℕ → ℕ → CodeInstruction → Instruction

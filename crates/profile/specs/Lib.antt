@@ -1,8 +1,7 @@
 pub mod Row
-pub mod Accepted
+pub mod Known
 pub mod Constants
-pub mod Unrolled
 pub mod Facts
-pub mod Types
 pub mod Variables
 pub mod Yokes
+pub mod Find

@@ -1,26 +1,24 @@
 // Rules 15 and 16: limits and readings agree with the declarations.
 use crate::declarations::is_number_variable;
+use crate::find::Found;
+use crate::find::find;
 use crate::limits::limit_high;
 use crate::limits::limit_low;
 use lingua::sizes::HIGHEST_NUMBER;
 use lingua::sizes::LOWEST_NUMBER;
 use lingua::sizes::MOST_READINGS;
 use rules::fields::bytes_at;
-use rules::names::same_bytes;
 use rules::tables::Table;
 ghost use mathlib.Core.Path.{_≡_};
-ghost use mathlib.Core.Bool.{_&&_};
 ghost use Prim.Native.Nat.{_/_, _<_};
 ghost use lib.ListN.{length};
 ghost use Rattle.lingua.specs.Numbers.{declaration-section, type-section, limit-section};
 ghost use Rattle.lingua.specs.Value.{inRange};
-ghost use Rattle.lingua.specs.Compute.{sameText};
 ghost use Rattle.lingua.specs.Rows.{tableCount};
-ghost use Rattle.lingua.specs.Trees.{nameAt};
-ghost use Rattle.lingua.specs.Refusal.{isNumberVariable, namesNumber, limitFits, limitWrong, readingWrong};
+ghost use Rattle.lingua.specs.Refusal.{namesNumber, limitFits, limitWrong, readingWrong};
 ghost use Rattle.safety.specs.Accepted.{AcceptedRows};
 ghost use Rattle.rules.specs.Tables.{IsTable};
-ghost use Rattle.profile.specs.Types.{BodiesBelow};
+ghost use Rattle.rules.specs.Types.{BodiesBelow};
 
 fn in_range(z: i64) -> bool
     ensures { λ r. ⌜ r ≡ inRange z ⌝ }
@@ -34,22 +32,6 @@ fn in_range(z: i64) -> bool
     true
 }
 
-// Whether variable d has the name and is a number variable.
-fn names_it(rows: &[u8], t: Table, d: usize, bodies: &[u8], name: &[u8]) -> bool
-    requires { ⌜ IsTable (now rows) declaration-section t ⌝ }
-    requires { ⌜ d < t .count / 2 ⌝ }
-    requires { ⌜ AcceptedRows (now rows) ⌝ }
-    requires { ⌜ BodiesBelow (now rows) (now bodies) (tableCount (now rows) type-section) ⌝ }
-    requires { ⌜ length (now name) ≡ 8 ⌝ }
-    ensures { λ r. ⌜ r ≡ (sameText (nameAt (now (rows .entry)) declaration-section d) (now (name .entry)) && isNumberVariable (now (rows .entry)) d) ⌝ }
-{
-    let start = t.start;
-    if same_bytes(bytes_at(rows, start + 2 * d), name) {
-        return is_number_variable(rows, t, d, bodies);
-    }
-    false
-}
-
 // Whether some number variable has the name.
 fn names_number(rows: &[u8], t: Table, bodies: &[u8], name: &[u8]) -> bool
     requires { ⌜ IsTable (now rows) declaration-section t ⌝ }
@@ -58,15 +40,11 @@ fn names_number(rows: &[u8], t: Table, bodies: &[u8], name: &[u8]) -> bool
     requires { ⌜ length (now name) ≡ 8 ⌝ }
     ensures { λ r. ⌜ r ≡ namesNumber (now (rows .entry)) (now (name .entry)) ⌝ }
 {
-    let count = t.count / 2;
-    let mut d = 0;
-    while d < count {
-        if names_it(rows, t, d, bodies, name) {
-            return true;
-        }
-        d += 1;
+    let found = find(rows, t, name);
+    match found {
+        Found::At(d) => is_number_variable(rows, t, d, bodies),
+        Found::Nothing => false,
     }
-    false
 }
 
 // Whether limit l has its ends in order and in range, and a number variable of its name.

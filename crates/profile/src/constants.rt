@@ -3,14 +3,18 @@ use body::make::simple;
 use body::walk::BOOLEAN;
 use body::walk::NUMBER;
 use body::walk::WORD;
+use lingua::sizes::BODY_BYTES;
+use rules::decode::DecodedExpression;
+use rules::decode::ExpressionRow;
+use rules::decode::Simple;
+use rules::decode::expression_at;
 use rules::fields::bytes_at;
-use rules::fields::kind_at;
 use rules::fields::wide_at;
 use rules::tables::Table;
 ghost use mathlib.Core.Path.{_≡_};
 ghost use mathlib.Core.Bool.{true};
-ghost use mathlib.Core.List.{[], _∷_};
-ghost use Prim.Native.Nat.{_+_, _*_, _<_, _≤_};
+ghost use mathlib.Core.List.{List};
+ghost use Prim.Native.Nat.{ℕ, _+_, _*_, _<_, _≤_};
 ghost use lib.IntN.{negsuc};
 ghost use lib.ListN.{length, getD};
 ghost use mir.Syntax.{w32, w64};
@@ -21,8 +25,9 @@ ghost use Rattle.lingua.specs.Rows.{untilZero};
 ghost use Rattle.lingua.specs.Rules.{paddedBy};
 ghost use Rattle.body.specs.Encode.{Holds};
 ghost use Rattle.rules.specs.Tables.{IsTable};
+ghost use Rattle.rules.specs.Decoded.{expressionMeaning};
 ghost use Rattle.profile.specs.Row.{constantOf};
-ghost use Rattle.profile.specs.Constants.{ConstantRow, IsCell};
+ghost use Rattle.profile.specs.Constants.{SimpleIn, ConstantSays, ConstantRow, IsCell};
 
 // The number k + 1 below zero.
 fn below_zero(k: usize) -> i64
@@ -78,6 +83,34 @@ fn word_cell(bytes: &[u8]) -> i64
     (4294967296 * high + low) as i64
 }
 
+// Which constant a row of the expressions has; what a row without one answers does not matter.
+fn simple_of(row: ExpressionRow) -> Simple
+    ensures { λ s. ⌜ ((rows : List ℕ) (i : ℕ) → SimpleIn (expressionMeaning rows i row) rows i s) ⌝ }
+{
+    match row {
+        ExpressionRow::Constant(s) => s,
+        ExpressionRow::Variable(_) => Simple::Boolean,
+        ExpressionRow::Current => Simple::Boolean,
+        ExpressionRow::Unary(_, _) => Simple::Boolean,
+        ExpressionRow::Binary(_, _, _) => Simple::Boolean,
+        ExpressionRow::Lazy(_, _, _) => Simple::Boolean,
+        ExpressionRow::Choice(_, _, _) => Simple::Boolean,
+        ExpressionRow::AllList(_) => Simple::Boolean,
+    }
+}
+
+fn constant_at(rows: &[u8], t: Table, r: usize) -> Simple
+    requires { ⌜ IsTable (now rows) expression-section t ⌝ }
+    requires { ⌜ r < t .count ⌝ }
+    ensures { λ s. ⌜ ConstantSays (now (rows .entry)) r s ⌝ }
+{
+    let d = expression_at(rows, t.start + r);
+    match d {
+        DecodedExpression::Unknown => Simple::Boolean,
+        DecodedExpression::Known(_, row) => simple_of(row),
+    }
+}
+
 // The cell of row r of the expressions, a constant.
 pub fn constant_cell(rows: &[u8], t: Table, r: usize) -> i64
     requires { ⌜ IsTable (now rows) expression-section t ⌝ }
@@ -85,34 +118,30 @@ pub fn constant_cell(rows: &[u8], t: Table, r: usize) -> i64
     requires { ⌜ ConstantRow (now rows) r ⌝ }
     ensures { λ z. ⌜ IsCell z (constantOf (now (rows .entry)) r) ⌝ }
 {
-    let start = t.start;
-    let i = start + r;
-    let kind = kind_at(rows, i);
-    if kind == 1 {
-        if wide_at(rows, i) == 0 {
-            return 0;
+    let i = t.start + r;
+    let s = constant_at(rows, t, r);
+    match s {
+        Simple::Boolean => {
+            if wide_at(rows, i) == 0 {
+                return 0;
+            }
+            1
         }
-        return 1;
+        Simple::Number => signed64(wide_at(rows, i)),
+        Simple::Word => word_cell(bytes_at(rows, i)),
     }
-    if kind == 2 {
-        return signed64(wide_at(rows, i));
-    }
-    word_cell(bytes_at(rows, i))
 }
 
 // The body of row r of the expressions, a constant.
-pub fn constant_body(rows: &[u8], t: Table, r: usize) -> [u8; 96]
+pub fn constant_body(rows: &[u8], t: Table, r: usize) -> [u8; BODY_BYTES]
     requires { ⌜ IsTable (now rows) expression-section t ⌝ }
     requires { ⌜ r < t .count ⌝ }
     ensures { λ b. ⌜ Holds b (constantOf (now (rows .entry)) r .body) ⌝ }
 {
-    let start = t.start;
-    let kind = kind_at(rows, start + r);
-    if kind == 1 {
-        return simple(BOOLEAN);
+    let s = constant_at(rows, t, r);
+    match s {
+        Simple::Boolean => simple(BOOLEAN),
+        Simple::Number => simple(NUMBER),
+        Simple::Word => simple(WORD),
     }
-    if kind == 2 {
-        return simple(NUMBER);
-    }
-    simple(WORD)
 }

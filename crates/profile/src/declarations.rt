@@ -1,9 +1,10 @@
 // Declarations: the type, body and yoke of variable d.
-use crate::types::type_body;
 use body::walk::NUMBER;
+use lingua::sizes::BODY_BYTES;
 use rules::fields::a_at;
 use rules::fields::b_at;
 use rules::tables::Table;
+use rules::types::type_body;
 ghost use mathlib.Core.Path.{_≡_};
 ghost use Prim.Native.Nat.{_/_, _<_};
 ghost use Rattle.lingua.specs.Numbers.{declaration-section, type-section};
@@ -12,7 +13,7 @@ ghost use Rattle.lingua.specs.References.{declaredYoke};
 ghost use Rattle.lingua.specs.Refusal.{isNumberVariable};
 ghost use Rattle.safety.specs.Accepted.{AcceptedRows};
 ghost use Rattle.rules.specs.Tables.{IsTable};
-ghost use Rattle.profile.specs.Types.{BodiesBelow};
+ghost use Rattle.rules.specs.Types.{BodiesBelow};
 ghost use Rattle.profile.specs.Variables.{DeclaredIs};
 
 // The type row of variable d.
@@ -37,7 +38,7 @@ pub fn declared_yoke(rows: &[u8], t: Table, d: usize) -> usize
 }
 
 // The declared body of variable d.
-pub fn declared_body(rows: &[u8], t: Table, d: usize, bodies: &[u8]) -> [u8; 96]
+pub fn declared_body(rows: &[u8], t: Table, d: usize, bodies: &[u8]) -> [u8; BODY_BYTES]
     requires { ⌜ IsTable (now rows) declaration-section t ⌝ }
     requires { ⌜ d < t .count / 2 ⌝ }
     requires { ⌜ AcceptedRows (now rows) ⌝ }

@@ -2,6 +2,6 @@
 pub mod agreement; // agreement.rt: rules 15 and 16
 pub mod constants; // constants.rt: a constant's body and cell
 pub mod declarations; // declarations.rt: a variable's body and declared yoke
-pub mod limits; // limits.rt: limits by name
+pub mod find; // find.rt: a variable by its name
+pub mod limits; // limits.rt: a limit's two ends
 pub mod row; // row.rt: what an expression or instruction row says
-pub mod types; // types.rt: types to bodies, rule 13

@@ -10,6 +10,7 @@ use lib.IntN.{ℤ, pos, negsuc}
 use Rattle.lingua.specs.Numbers.{body-cells, declaration-section}
 use Rattle.lingua.specs.Outcome.{if_then_else_}
 use Rattle.lingua.specs.Body.{size}
+use Rattle.lingua.specs.Store.{filledAt}
 use Rattle.lingua.specs.Rows.{bytesAt, untilZero, pairCount, nameRow}
 use Rattle.lingua.specs.Trees.{declaredBody, bodyOr, declarationAt, nameAt}
 use Rattle.lingua.specs.Format.{rowsOf}
@@ -19,10 +20,10 @@ use Rattle.lingua.specs.Report.{digitsIn, decimal, signedDecimal, endLine, cell
 use Rattle.safety.specs.Accepted.{length-until}
 use Rattle.safety.specs.Accepted.{AcceptedRows, accepted-pair}
 use Rattle.safety.specs.Memory.{declared-size}
-use Rattle.profile.specs.Accepted.{counts}
+use Rattle.rules.specs.Accepted.{counts}
 use Rattle.text.specs.Line.{contentOf, variableLine}
 use Rattle.report.specs.Call.{answerText}
-use Rattle.report.specs.Memory.{filledAt, bodyCells, memoryLine, memoryLines, linesUnless, variablesText}
+use Rattle.report.specs.Memory.{bodyCells, memoryLine, memoryLines, linesUnless, variablesText}
 use Rattle.report.specs.Written.{most-text}
 
 -- ---- numbers

@@ -1,17 +1,17 @@
 -- The variables' lines, one behind another, as the loop puts them. Assumes nothing.
 use mathlib.Core.Path.{_≡_, sym, ap, _∙_, subst}
-use mathlib.Core.Bool.{not}
+use mathlib.Core.Bool.{Bool}
 use mathlib.Core.List.{List, _++_, append-assoc, append-nil}
 use Prim.Native.Nat.{ℕ, zero, suc, _+_, _-_, _*_, _/_, _≤_, _<_}
 use native.Mathlib.Nat.{zero-add}
 use native.Mathlib.Numerals.{add-one}
 use native.Mathlib.Omega.{arith}
-use lib.Dec.{eqb}
-use lib.ListN.{length, getD, take, drop}
+use lib.ListN.{length, take, drop}
 use lib.IntN.{ℤ}
 use Rattle.lingua.specs.Numbers.{body-cells, most-variables, declaration-section}
 use Rattle.lingua.specs.Outcome.{Result}
 use Rattle.lingua.specs.Body.{Body, size}
+use Rattle.lingua.specs.Store.{filledAt}
 use Rattle.lingua.specs.Rows.{bytesAt, pairCount}
 use Rattle.lingua.specs.Trees.{declaredBody, bodyOr, nameAt}
 use Rattle.safety.specs.Accepted.{AcceptedRows}
@@ -19,13 +19,13 @@ use Rattle.body.specs.Walk.{Measured}
 use Rattle.body.specs.declared.walk.Measure.{Measure}
 use Rattle.rules.specs.Tables.{IsTable}
 use Rattle.rules.specs.declared.tables.Table.{Table}
-use Rattle.profile.specs.Accepted.{counts}
+use Rattle.rules.specs.Accepted.{counts}
 use Rattle.profile.specs.Variables.{DeclaredIs}
 use Rattle.profile.proofs.Declaring.{name-place, pairs}
 use Rattle.text.specs.Appended.{Appended}
 use Rattle.text.specs.Line.{variableLine}
 use Rattle.text.proofs.Texts.{append-none, append-both}
-use Rattle.report.specs.Memory.{filledAt, bodyCells, memoryLine, memoryLines}
+use Rattle.report.specs.Memory.{bodyCells, memoryLine, memoryLines}
 
 -- ---- one variable
 pub few-variables : (rows : List ℕ) (t : Table) (d : ℕ) → AcceptedRows rows → IsTable rows declaration-section t → d < t .count / 2 → d < most-variables
@@ -37,18 +37,20 @@ pub measured-size : (rows x : List ℕ) (d : ℕ) (m : Measure) (h : DeclaredIs 
 measured-size rows x d m h e = (e .is-cells ∙ ap (λ (o : Result Body). size (bodyOr o)) (sym (h .is)), omega (arith, e .is-cells, h .holds .few-cells))
 
 pub line-put :
-    {out last : List ℕ} {at end : ℕ} (rows : List ℕ) (cells : List ℤ) (states name : List ℕ) (t : Table) (d count : ℕ) →
+    {out last : List ℕ} {at end : ℕ} (rows : List ℕ) (cells : List ℤ) (states name : List ℕ) (t : Table) (d count : ℕ) (filled : Bool) →
     IsTable rows declaration-section t →
     name ≡ bytesAt rows (t .start + 2 * d) →
     count ≡ size (bodyOr (declaredBody rows d)) →
-    Appended out at (variableLine name (not (eqb (getD states (2 * d) 0) 0)) (take (64 * d + count - 64 * d) (drop (64 * d) cells))) last end →
+    filled ≡ filledAt states d →
+    Appended out at (variableLine name filled (take (64 * d + count - 64 * d) (drop (64 * d) cells))) last end →
     Appended out at (memoryLine rows cells states d) last end
-unfolding memoryLine filledAt bodyCells nameAt
-line-put {out} {last} {at} {end} rows cells states name t d count is named counted p =
+unfolding memoryLine bodyCells nameAt
+line-put {out} {last} {at} {end} rows cells states name t d count filled is named counted flag p =
     let n : name ≡ nameAt rows declaration-section d = named ∙ ap (bytesAt rows) (name-place rows declaration-section t is d) in
     let k : 64 * d + count - 64 * d ≡ size (bodyOr (declaredBody rows d)) = omega (arith, counted) in
-    subst (λ (j : ℕ). Appended out at (variableLine (nameAt rows declaration-section d) (not (eqb (getD states (2 * d) 0) 0)) (take j (drop (64 * d) cells))) last end) k
-    (subst (λ (l : List ℕ). Appended out at (variableLine l (not (eqb (getD states (2 * d) 0) 0)) (take (64 * d + count - 64 * d) (drop (64 * d) cells))) last end) n p)
+    subst (λ (j : ℕ). Appended out at (variableLine (nameAt rows declaration-section d) (filledAt states d) (take j (drop (64 * d) cells))) last end) k
+    (subst (λ (l : List ℕ). Appended out at (variableLine l (filledAt states d) (take (64 * d + count - 64 * d) (drop (64 * d) cells))) last end) n
+    (subst (λ (b : Bool). Appended out at (variableLine name b (take (64 * d + count - 64 * d) (drop (64 * d) cells))) last end) flag p))
 
 -- ---- all of them
 module _ (rows : List ℕ) (cells : List ℤ) (states : List ℕ) where

@@ -15,7 +15,7 @@ use lib.IntN.{ℤ, pos}
 use Rattle.lingua.specs.Numbers.{body-cells, declaration-section}
 use Rattle.lingua.specs.Body.{size}
 use Rattle.lingua.specs.Value.{pad, cellsOf, Composite}
-use Rattle.lingua.specs.Store.{Variable, no-variable, variableAt, contents, contentCells, filledFlag, cellsIn, statesIn}
+use Rattle.lingua.specs.Store.{Variable, no-variable, variableAt, contents, contentCells, filledFlag, cellsIn, statesIn, filledAt}
 use Rattle.lingua.specs.Run.{run, lastState}
 use Rattle.lingua.specs.Rows.{untilZero, pairCount}
 use Rattle.lingua.specs.Trees.{tabulateFrom, tabulate, declaredBody, bodyOr, nameAt, declarationAt, profileOf}
@@ -27,7 +27,7 @@ use Rattle.safety.specs.Accepted.{accepted-pair, accepted-invariant}
 use Rattle.safety.specs.Memory.{ContentsFit, cells-at, states-at, run-length, declared-size}
 use Rattle.safety.specs.Passed.{profile-body}
 use Rattle.text.specs.Line.{contentOf, variableLine}
-use Rattle.report.specs.Memory.{filledAt, bodyCells, memoryLine, memoryLines}
+use Rattle.report.specs.Memory.{bodyCells, memoryLine, memoryLines}
 
 -- ---- line by line
 line-behind : (name content rest : List ℕ) → name ++ (content ++ (newline ∷ rest)) ≡ (name ++ (content ++ (newline ∷ []))) ++ rest

@@ -4,14 +4,12 @@ use mathlib.Core.List.{List, []}
 use Prim.Native.Nat.{ℕ, zero, suc}
 use lib.ListN.{take}
 use lib.IntN.{ℤ}
-use Rattle.lingua.specs.Numbers.{declaration-section, type-section}
-use Rattle.lingua.specs.Rows.{tableCount, pairCount}
+use Rattle.lingua.specs.Numbers.{declaration-section}
+use Rattle.lingua.specs.Rows.{pairCount}
 use Rattle.lingua.specs.Format.{rowsOf}
 use Rattle.lingua.specs.Refusal.{lowest, pairRules}
-use Rattle.safety.specs.Accepted.{AcceptedRows, accepted-pair}
-use Rattle.profile.specs.Types.{BodiesBelow}
-use Rattle.accept.specs.Pair.{PairIs}
-use Rattle.accept.specs.declared.Pair.{Pair}
+use Rattle.pair.specs.Pair.{PairIs}
+use Rattle.pair.specs.declared.Pair.{Pair}
 use Rattle.text.specs.Appended.{Appended}
 use Rattle.text.proofs.Texts.{append-none}
 use Rattle.report.specs.Memory.{memoryLines, linesUnless, variablesText}
@@ -34,12 +32,6 @@ module _ (prof lims areas others bodies : List ℕ) (p : Pair) (h : PairIs p pro
   module _ (z : p .refusal ≡ 0) where
     accepted : lowest (pairRules prof lims) ≡ 0
     accepted = sym (h .refusal) ∙ z
-
-    pub rows-accepted : AcceptedRows (take (p .rows) areas)
-    rows-accepted = subst (λ (rows : List ℕ). AcceptedRows rows) (sym (h .taken z .rows)) (accepted-pair prof lims accepted)
-
-    pub bodies-held : BodiesBelow (take (p .rows) areas) bodies (tableCount (take (p .rows) areas) type-section)
-    bodies-held = subst (λ (rows : List ℕ). BodiesBelow rows bodies (tableCount rows type-section)) (sym (h .taken z .rows)) (h .taken z .held)
 
     pub lines-put : {out last : List ℕ} {at end : ℕ} (cells : List ℤ) (states : List ℕ)
         → Appended out at (memoryLines (take (p .rows) areas) cells states 0 (pairCount (take (p .rows) areas) declaration-section)) last end

@@ -1,21 +1,16 @@
 -- The variables' lines as they are read off the caller's memory that a run leaves. Assumes nothing: these are definitions.
-use mathlib.Core.Bool.{Bool, not}
 use mathlib.Core.List.{List, [], _++_}
 use Prim.Native.Nat.{ℕ, zero, suc, _*_}
-use lib.Dec.{eqb}
-use lib.ListN.{getD, take, drop}
+use lib.ListN.{take, drop}
 use lib.IntN.{ℤ}
 use Rattle.lingua.specs.Numbers.{body-cells, declaration-section}
 use Rattle.lingua.specs.Body.{size}
+use Rattle.lingua.specs.Store.{filledAt}
 use Rattle.lingua.specs.Rows.{pairCount}
 use Rattle.lingua.specs.Trees.{declaredBody, bodyOr, nameAt}
 use Rattle.lingua.specs.Format.{rowsOf}
 use Rattle.lingua.specs.Refusal.{lowest, pairRules}
 use Rattle.text.specs.Line.{variableLine}
-
--- whether variable d is filled
-unfoldable pub filledAt : List ℕ → ℕ → Bool
-filledAt states d = not (eqb (getD states (2 * d) 0) 0)
 
 -- the cells of variable d's declared body
 unfoldable pub bodyCells : List ℕ → List ℤ → ℕ → List ℤ

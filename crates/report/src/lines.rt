@@ -3,7 +3,7 @@ use body::walk::measure_body;
 use profile::declarations::declared_body;
 use rules::fields::bytes_at;
 use rules::tables::Table;
-use rules::tables::tables_of;
+use run::words::is_filled;
 use text::report::put_variable_line;
 ghost use mathlib.Core.Path.{_≡_};
 ghost use Prim.Native.Nat.{_/_, _≤_, _<_};
@@ -14,7 +14,7 @@ ghost use Rattle.lingua.specs.Trees.{declaredBody, bodyOr};
 ghost use Rattle.lingua.specs.Rows.{tableCount, pairCount};
 ghost use Rattle.safety.specs.Accepted.{AcceptedRows};
 ghost use Rattle.rules.specs.Tables.{IsTable};
-ghost use Rattle.profile.specs.Types.{BodiesBelow};
+ghost use Rattle.rules.specs.Types.{BodiesBelow};
 ghost use Rattle.text.specs.Appended.{Appended};
 ghost use Rattle.report.specs.Memory.{memoryLine, memoryLines};
 
@@ -55,26 +55,26 @@ fn put_line(
     let count = declared_cells(rows, t, d, bodies);
     let from = 64 * d;
     let to = from + count;
-    put_variable_line(out, at, name, states[2 * d] != 0, &cells[from..to])
+    put_variable_line(out, at, name, is_filled(states, d), &cells[from..to])
 }
 
 // The lines of all variables.
 pub(crate) fn put_lines(
     rows: &[u8],
+    t: Table,
     bodies: &[u8],
     cells: &[i64],
     states: &[u16],
     out: &mut [u8],
     at: usize,
 ) -> usize
+    requires { ⌜ IsTable (now rows) declaration-section t ⌝ }
     requires { ⌜ AcceptedRows (now rows) ⌝ }
     requires { ⌜ BodiesBelow (now rows) (now bodies) (tableCount (now rows) type-section) ⌝ }
     requires { ⌜ length (now cells) ≡ cells-length ⌝ }
     requires { ⌜ length (now states) ≡ states-length ⌝ }
     ensures { λ r. ⌜ Appended (now (out .entry)) at (memoryLines (now (rows .entry)) (now (cells .entry)) (now (states .entry)) 0 (pairCount (now (rows .entry)) declaration-section)) (now (out .exit)) r ⌝ }
 {
-    let tables = tables_of(rows);
-    let t = tables.declarations;
     let n = t.count / 2;
     let mut end = at;
     let mut d = 0;

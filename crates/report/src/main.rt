@@ -6,11 +6,12 @@ mod report; // report.rt: the whole report
 mod variables; // variables.rt: the variables' lines of two files
 
 use libc::STDOUT_FILENO;
+use lingua::sizes::LONGEST_FILE;
 
 // A profile has at most 8,704 bytes, so a file that fills a buffer is refused for its length, as it would be whole.
 fn main() {
-    let mut profile = [0u8; 8705];
-    let mut limits = [0u8; 8705];
+    let mut profile = [0u8; LONGEST_FILE + 1];
+    let mut limits = [0u8; LONGEST_FILE + 1];
     let p = files::read_file(b"clinic.prf", &mut profile);
     let l = files::read_file(b"motor.lim", &mut limits);
     let mut out = [0u8; 22778];

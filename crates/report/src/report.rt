@@ -2,13 +2,13 @@
 use crate::answers::put_answer;
 use crate::variables::put_variables;
 use calls::checked_run::run_checked;
+use lingua::sizes::CELLS_LENGTH;
+use lingua::sizes::REPORT_BUDGET;
+use lingua::sizes::STATES_LENGTH;
 ghost use Prim.Native.Nat.{_≤_};
 ghost use lib.ListN.{length};
 ghost use Rattle.lingua.specs.Report.{reportText};
 ghost use Rattle.report.specs.Written.{most-text, Written};
-
-// document 01: the report's budget
-const BUDGET: u16 = 1000;
 
 // The report of two files, at the start of a buffer that has room for any report; how long it is.
 pub(crate) fn report_text(profile: &[u8], limits: &[u8], out: &mut [u8]) -> usize
@@ -17,14 +17,14 @@ pub(crate) fn report_text(profile: &[u8], limits: &[u8], out: &mut [u8]) -> usiz
 {
     let variables = [0u16; 0];
     let numbers = [0i64; 0];
-    let mut cells = [0i64; 1024];
-    let mut states = [0u16; 32];
+    let mut cells = [0i64; CELLS_LENGTH];
+    let mut states = [0u16; STATES_LENGTH];
     let answer = run_checked(
         profile,
         limits,
         &variables,
         &numbers,
-        BUDGET,
+        REPORT_BUDGET,
         &mut cells,
         &mut states,
     );

@@ -1,7 +1,10 @@
 // The variables' lines of two files.
 use crate::lines::put_lines;
-use accept::take_pair;
 use lingua::errors::NO_ERROR;
+use lingua::sizes::AREA_BYTES;
+use lingua::sizes::AREAS_LENGTH;
+use lingua::sizes::TYPE_BODIES_LENGTH;
+use pair::take_pair;
 ghost use mathlib.Core.Path.{_≡_};
 ghost use lib.ListN.{length};
 ghost use Rattle.lingua.specs.Numbers.{cells-length, states-length};
@@ -21,14 +24,16 @@ pub(crate) fn put_variables(
     requires { ⌜ length (now states) ≡ states-length ⌝ }
     ensures { λ r. ⌜ Appended (now (out .entry)) at (variablesText (now (profile .entry)) (now (limits .entry)) (now (cells .entry)) (now (states .entry))) (now (out .exit)) r ⌝ }
 {
-    let mut areas = [0u8; 8500];
-    let mut others = [0u8; 8500];
-    let mut bodies = [0u8; 3072];
+    let mut areas = [0u8; AREAS_LENGTH];
+    let mut others = [0u8; AREA_BYTES];
+    let mut bodies = [0u8; TYPE_BODIES_LENGTH];
     let pair = take_pair(profile, limits, &mut areas, &mut others, &mut bodies);
     let refusal = pair.refusal;
     if refusal != NO_ERROR {
         return at;
     }
     let n = pair.rows;
-    put_lines(&areas[..n], &bodies, cells, states, out, at)
+    let tables = pair.tables;
+    let declarations = tables.declarations;
+    put_lines(&areas[..n], declarations, &bodies, cells, states, out, at)
 }

@@ -15,11 +15,12 @@ use Rattle.lingua.specs.Numbers.{block-bytes, block-rows, area-bytes, check-pla
 use Rattle.lingua.specs.Value.{pad}
 use Rattle.lingua.specs.Compute.{sameText}
 use Rattle.lingua.specs.Rows.{word16, word32, rowCount}
-use Rattle.lingua.specs.Format.{File, profile, limits, marker, bytes16, bytes32, blockCheck, blockBody, withCheck, blocksFor, blocksFrom, fileOf, blockCount, blockAt, rowArea, allZero, areasFrom, rowsOf, modelOf, everyBelow, emptyBlock, headerFits, lengthWrong, markerWrong, headerWrong, checkWrong}
+use Rattle.lingua.specs.Format.{File, profile, limits, marker, bytes16, bytes32, blockCheck, blockBody, withCheck, blocksFor, blocksFrom, fileOf, blockCount, blockAt, rowArea, allZero, areasFrom, rowsOf, modelOf, everyBelow, emptyBlock, headerFits, lengthWrong, markerWrong, headerWrong, blockCheckWrong}
 use Rattle.laws.specs.Outcomes.{and-left, and-right}
 use Rattle.laws.specs.Lists.{length-pad}
 use Rattle.laws.specs.Parts.{length-taken, pad-get, part-get}
-use Rattle.laws.specs.Tests.{true-not-false, below-or, every-at, same-text, zero-all}
+use Rattle.laws.specs.Equal.{same-text}
+use Rattle.laws.specs.Tests.{true-not-false, below-or, every-at, zero-all}
 use Rattle.laws.specs.Files.{length-whole, limits-one, profile-some}
 use Rattle.laws.specs.Blocks.{length-block, length-area}
 use Rattle.laws.specs.Areas.{area-get, length-areas, used-inside, length-rows, count-rows, rows-get}
@@ -146,7 +147,7 @@ blocks-none f model n rows = refl
 
 -- ---- a file that rules 2 to 5 accept
 module _ (f : File) (file : List ℕ) (bytes : (i : ℕ) → getD file i 0 < 256) (sized : lengthWrong f file ≡ false)
-    (marked : markerWrong f file ≡ false) (headed : headerWrong f file ≡ false) (checked : checkWrong file ≡ false) where
+    (marked : markerWrong f file ≡ false) (headed : headerWrong f file ≡ false) (checked : blockCheckWrong file ≡ false) where
   header-fits : (k : ℕ) → k < blockCount file → headerFits f file k ≡ true
   unfolding headerWrong
   header-fits k h =
@@ -172,7 +173,7 @@ module _ (f : File) (file : List ℕ) (bytes : (i : ℕ) → getD file i 0 < 256
 
   block-says : (k : ℕ) → k < blockCount file
       → Says f (blockAt file k) k (blockCount file) (modelOf file) (pad area-bytes 0 (take area-bytes (drop (area-bytes * k) (rowsOf file))))
-  unfolding headerFits markerWrong checkWrong
+  unfolding headerFits markerWrong blockCheckWrong
   block-says k h =
       let b : List ℕ = blockAt file k in
       let p : Bool = eqb (getD b 4 0) k in

@@ -14,7 +14,7 @@ use Rattle.lingua.specs.Numbers.{row-bytes, rows-length}
 use Rattle.lingua.specs.Errors.{no-error, bad-buffer, bad-length, bad-marker, bad-header, bad-check}
 use Rattle.lingua.specs.Value.{pad}
 use Rattle.lingua.specs.Rows.{rowCount}
-use Rattle.lingua.specs.Format.{File, fileLength, fileOf, rowsOf, modelOf, lengthWrong, markerWrong, headerWrong, checkWrong}
+use Rattle.lingua.specs.Format.{File, fileLength, fileOf, rowsOf, modelOf, lengthWrong, markerWrong, headerWrong, blockCheckWrong}
 use Rattle.lingua.specs.Refusal.{lowest, fileRules, rowRules, wholeFileRules, readRefusal, writeRefusal}
 use Rattle.lingua.specs.Answers.{Answer, refused, answered, RowsRead}
 use Rattle.lingua.specs.Calls.{ReadCall, readUnless, readCall, WriteCall, writeUnless, writeCall}
@@ -70,7 +70,7 @@ read-then-write f file buffer out bytes room e =
     let r2 = lowest-none bad-length (lengthWrong f file) _ (omega arith) (r1 .1) in
     let r3 = lowest-none bad-marker (markerWrong f file) _ (omega arith) (r2 .1) in
     let r4 = lowest-none bad-header (headerWrong f file) _ (omega arith) (r3 .1) in
-    let r5 = lowest-none bad-check (checkWrong file) _ (omega arith) (r4 .1) in
+    let r5 = lowest-none bad-check (blockCheckWrong file) _ (omega arith) (r4 .1) in
     let tens : length (rowsOf file) % row-bytes ≡ 0 = omega (arith, count-rows file) in
     record {
       accepted =

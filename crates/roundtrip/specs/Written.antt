@@ -16,11 +16,12 @@ use Rattle.lingua.specs.Errors.{no-error, bad-length, bad-marker, bad-header, b
 use Rattle.lingua.specs.Value.{pad}
 use Rattle.lingua.specs.Compute.{sameText}
 use Rattle.lingua.specs.Rows.{word16, word32, rowCount, sectionAt}
-use Rattle.lingua.specs.Format.{File, profile, limits, marker, bytes16, bytes32, blockCheck, blockBody, withCheck, blocksFor, blocksFrom, fileLength, fileOf, blockCount, blockAt, rowArea, areasFrom, usedRows, rowsOf, modelOf, allZero, emptyBlock, headerFits, lengthWrong, markerWrong, headerWrong, checkWrong}
+use Rattle.lingua.specs.Format.{File, profile, limits, marker, bytes16, bytes32, blockCheck, blockBody, withCheck, blocksFor, blocksFrom, fileLength, fileOf, blockCount, blockAt, rowArea, areasFrom, usedRows, rowsOf, modelOf, allZero, emptyBlock, headerFits, lengthWrong, markerWrong, headerWrong, blockCheckWrong}
 use Rattle.lingua.specs.Refusal.{lowest, fileRules, rowRules}
 use Rattle.laws.specs.Lists.{length-pad}
 use Rattle.laws.specs.Parts.{length-taken, pad-get, part-get}
-use Rattle.laws.specs.Tests.{below-or, every-all, text-same, zero-not}
+use Rattle.laws.specs.Equal.{text-same}
+use Rattle.laws.specs.Tests.{below-or, every-all, zero-not}
 use Rattle.laws.specs.Outcomes.{and-both}
 use Rattle.laws.specs.Refusals.{lowest-skip}
 use Rattle.laws.specs.Blocks.{model-first}
@@ -221,8 +222,8 @@ module _ (f : File) (model : ℕ) (rows : List ℕ) (whole : length rows ≡ row
       (ap (λ (b : List ℕ). take 4 b) (block-written f model rows k (let n = count-written f model rows in omega (arith, n))) ∙ written-marker f model (count f model rows) rows k)
       ∙ text-same (marker f)))
 
-  check-right : checkWrong (file f model rows) ≡ false
-  unfolding checkWrong
+  check-right : blockCheckWrong (file f model rows) ≡ false
+  unfolding blockCheckWrong
   check-right =
       ap not (every-all (blockCount (file f model rows)) (λ k. eqb (word32 (blockAt (file f model rows) k) check-place) (blockCheck (blockAt (file f model rows) k)))
       (λ k h.
@@ -257,5 +258,5 @@ module _ (f : File) (model : ℕ) (rows : List ℕ) (whole : length rows ≡ row
       lowest-skip bad-length (lengthWrong f (file f model rows)) _ length-right
       ∙ lowest-skip bad-marker (markerWrong f (file f model rows)) _ marker-right
       ∙ lowest-skip bad-header (headerWrong f (file f model rows)) _ (header-right small)
-      ∙ lowest-skip bad-check (checkWrong (file f model rows)) _ check-right
+      ∙ lowest-skip bad-check (blockCheckWrong (file f model rows)) _ check-right
       ∙ ap (λ (l : List ℕ). lowest (rowRules f l)) rows-written ∙ fine

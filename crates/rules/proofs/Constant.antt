@@ -6,12 +6,14 @@ use mathlib.Core.List.{List}
 use Prim.Native.Nat.{ℕ, suc, _+_, _*_, _-_, _^_, _≤_, _<_}
 use native.Mathlib.Omega.{arith}
 use lib.Dec.{ltb, leb}
+use lib.ListN.{length}
 use lib.IntN.{pos, negsuc}
 use borrow.Author.Tests.{le-leb, lt-leb, ltb-true, ltb-false}
 use mir.Syntax.{w64}
 use mir.Val.{toZ, sel}
-use Rattle.lingua.specs.Value.{inRange}
-use Rattle.lingua.specs.Rows.{word32, word64, wideAt}
+use Rattle.lingua.specs.Value.{inRange, isCharacter}
+use Rattle.lingua.specs.Rows.{word32, word64, wideAt, word-constant}
+use Rattle.lingua.specs.Rules.{paddedBy, constantFits}
 use Rattle.rules.proofs.Counting.{order}
 
 pub small-fits : (n : ℕ) → n ≤ 1000000 → true ≡ inRange (toZ w64 n)
@@ -43,3 +45,8 @@ wide-is rows i = ap (λ (n : ℕ). word32 rows (10 * i + 2) + 4294967296 * word3
   where
     half : 10 * i + 6 ≡ 10 * i + 2 + 4
     half = omega arith
+
+-- a word's eight bytes
+pub word-is : (bytes cs : List ℕ) {b : Bool} → cs ≡ bytes → length cs ≡ 8 → b ≡ paddedBy isCharacter cs → b ≡ constantFits (word-constant bytes)
+unfolding constantFits
+word-is bytes cs {b} e l h = h ∙ (rw (← e, l))

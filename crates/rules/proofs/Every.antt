@@ -91,10 +91,3 @@ first-true false b c d e = sym e
 
 pub last-true : (a b c d : Bool) → not (a && b && c && d) ≡ false → d ≡ true
 last-true a b c d e = and-right (a && b && c) d (not-false (a && b && c && d) e)
-
-pub second-true : (a b c d : Bool) → not (a && b && c && d) ≡ false → b ≡ true
-second-true a b c d e = and-right a b (and-left (a && b) c (and-left (a && b && c) d (not-false (a && b && c && d) e)))
-
-pub first-of-three : (a b c : Bool) → not (a && b && c) ≡ false → a ≡ true
-first-of-three true b c e = refl
-first-of-three false b c e = sym e

@@ -1,16 +1,16 @@
--- What makes the tests of form and counts: the code's table of used bytes is the definition's, and what each test needs of a
--- row. Assumes nothing.
+-- What makes the tests of form and counts: the bytes that a row uses, and what each test needs of a row. Assumes nothing.
 use mathlib.Core.Path.{_≡_, refl, sym, ap, _∙_, subst}
 use mathlib.Core.Bool.{true, false, not, _&&_}
-use mathlib.Core.List.{List, map}
+use mathlib.Core.List.{List, [], _∷_}
 use mathlib.Core.Logic.{⊎-elim}
 use mathlib.Core.Option.{Option, some, none}
-use Prim.Native.Nat.{ℕ, _+_, _-_, _*_, _/_, _%_}
+use Prim.Native.Nat.{ℕ, zero, suc, _+_, _-_, _*_, _/_, _%_}
+use native.Mathlib.Numerals.{add-one}
 use native.Mathlib.Omega.{arith}
 use lib.Dec.{eqb, ltb, leb·zero}
-use lib.ListN.{getD, drop, List·getD-map}
+use lib.ListN.{getD, drop}
 use borrow.Author.Tests.{ne-eqb, lt-ltb, le-ltb, le-leb, lt-leb}
-use Rattle.lingua.specs.Rows.{sectionAt, kindAt, bytesAt, rowIn, tableCount, pairCount, nameRow}
+use Rattle.lingua.specs.Rows.{numbered, usedOf, typeKinds, expressionKinds, instructionKinds, sectionAt, kindAt, bytesAt, rowIn, tableCount, pairCount, nameRow}
 use Rattle.lingua.specs.Format.{File, profile, limits, allZero, everyBelow}
 use Rattle.lingua.specs.Compute.{sameText}
 use Rattle.lingua.specs.Trees.{nameAt}
@@ -21,12 +21,44 @@ use Rattle.rules.specs.declared.tables.Tables.{Tables}
 use Rattle.rules.proofs.Counting.{order}
 use Rattle.rules.specs.Form.{usedNumber}
 
--- ---- the table of used bytes
-pub used-map : (l : List (Option ℕ)) (k : ℕ) → getD (map usedNumber l) k 0 ≡ usedNumber (getD l k none)
+-- ---- used bytes
+-- the kinds of a pair
+pub pair-first : (k first second : ℕ) → k ≡ 0 → first + 1 ≡ usedNumber (getD (some first ∷ some second ∷ []) k none)
 unfolding usedNumber
-used-map l k = List·getD-map usedNumber l k none
+pair-first k first second e = rw e (add-one first)
 
-pub used-none : (s k : ℕ) → (s ≡ 1 → ⊥) → (s ≡ 2 → ⊥) → (s ≡ 3 → ⊥) → (s ≡ 4 → ⊥) → (s ≡ 5 → ⊥) → 0 ≡ usedNumber (getD (usedBytes s) k none)
+pub pair-second : (k first second : ℕ) → k ≡ 1 → second + 1 ≡ usedNumber (getD (some first ∷ some second ∷ []) k none)
+unfolding usedNumber
+pair-second k first second e = rw e (add-one second)
+
+pub pair-other : (k first second : ℕ) → (k ≡ 0 → ⊥) → (k ≡ 1 → ⊥) → 0 ≡ usedNumber (getD (some first ∷ some second ∷ []) k none)
+unfolding usedNumber
+pair-other zero first second p q = absurd (p refl)
+pair-other (suc zero) first second p q = absurd (q refl)
+pair-other (suc (suc k)) first second p q = refl
+
+module _ (s k : ℕ) where
+  pub used-declaration : s ≡ 1 → usedNumber (getD (some 8 ∷ some 4 ∷ []) k none) ≡ usedNumber (usedBytes s k)
+  unfolding usedBytes
+  used-declaration e = rw e
+
+  pub used-type : s ≡ 2 → usedNumber (usedOf (numbered k typeKinds)) ≡ usedNumber (usedBytes s k)
+  unfolding usedBytes
+  used-type e = rw e
+
+  pub used-expression : s ≡ 3 → usedNumber (usedOf (numbered k expressionKinds)) ≡ usedNumber (usedBytes s k)
+  unfolding usedBytes
+  used-expression e = rw e
+
+  pub used-instruction : s ≡ 4 → usedNumber (usedOf (numbered k instructionKinds)) ≡ usedNumber (usedBytes s k)
+  unfolding usedBytes
+  used-instruction e = rw e
+
+  pub used-limit : s ≡ 5 → usedNumber (getD (some 8 ∷ some 8 ∷ []) k none) ≡ usedNumber (usedBytes s k)
+  unfolding usedBytes
+  used-limit e = rw e
+
+pub used-none : (s k : ℕ) → (s ≡ 1 → ⊥) → (s ≡ 2 → ⊥) → (s ≡ 3 → ⊥) → (s ≡ 4 → ⊥) → (s ≡ 5 → ⊥) → 0 ≡ usedNumber (usedBytes s k)
 unfolding usedBytes usedNumber
 used-none s k a b c d e = rw (ne-eqb s 1 a, ne-eqb s 2 b, ne-eqb s 3 c, ne-eqb s 4 d, ne-eqb s 5 e)
 
@@ -44,21 +76,21 @@ fit-some (some n) bytes u e z = ap (λ (m : ℕ). allZero (drop m bytes)) less
     less = omega arith
 
 -- ---- a row
-module _ (f : File) (rows : List ℕ) (i s k u : ℕ) (es : s ≡ sectionAt rows i) where
+module _ (f : File) (rows : List ℕ) (i s u : ℕ) (es : s ≡ sectionAt rows i) where
   pub row-out : sectionBelongs f s ≡ false → false ≡ rowFits f rows i
   unfolding rowFits
   row-out e = rw (← es, e)
 
-  row-in : sectionBelongs f s ≡ true → rowFits f rows i ≡ bytesFit (getD (usedBytes s) (kindAt rows i) none) (bytesAt rows i)
+  row-in : sectionBelongs f s ≡ true → rowFits f rows i ≡ bytesFit (usedBytes s (kindAt rows i)) (bytesAt rows i)
   unfolding rowFits
   row-in e = rw (← es, e)
 
-  module _ (ek : k ≡ kindAt rows i) (eu : u ≡ usedNumber (getD (usedBytes s) k none)) (e : sectionBelongs f s ≡ true) where
+  module _ (eu : u ≡ usedNumber (usedBytes s (kindAt rows i))) (e : sectionBelongs f s ≡ true) where
     pub row-none : u ≡ 0 → false ≡ rowFits f rows i
-    row-none z = sym (row-in e ∙ rw (← ek) (fit-none (getD (usedBytes s) k none) (bytesAt rows i) (sym eu ∙ z)))
+    row-none z = sym (row-in e ∙ fit-none (usedBytes s (kindAt rows i)) (bytesAt rows i) (sym eu ∙ z))
 
     pub row-some : (u ≡ 0 → ⊥) → allZero (drop (u - 1) (bytesAt rows i)) ≡ rowFits f rows i
-    row-some z = sym (row-in e ∙ rw (← ek) (fit-some (getD (usedBytes s) k none) (bytesAt rows i) u (sym eu) z))
+    row-some z = sym (row-in e ∙ fit-some (usedBytes s (kindAt rows i)) (bytesAt rows i) u (sym eu) z)
 
 -- ---- a table by its own section
 pub own-section : (rows : List ℕ) (s : ℕ) (t : Table) → IsTable rows s t → IsTable rows (t .section) t

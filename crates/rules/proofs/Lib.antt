@@ -2,11 +2,12 @@ pub mod Counting
 pub mod Every
 pub mod Runs
 pub mod Forms
-pub mod Choices
+pub mod Decoding
 pub mod Short
 pub mod Constant
 pub mod Refers
 pub mod Usage
 pub mod Reading
 pub mod Lowest
-pub mod Bodies
+pub mod TypePlaces
+pub mod TypeRows

@@ -17,7 +17,7 @@ use Rattle.lingua.specs.Format.{File, profile, limits}
 use Rattle.lingua.specs.Rules.{between, formWrong, countWrong, nameWrong, constantWrong}
 use Rattle.lingua.specs.Refusal.{Rule, rule, lower-of, lowest, rowRules}
 use Rattle.rules.specs.Tables.{AreTables, Sized}
-use Rattle.rules.specs.Refusals.{linkRules}
+use Rattle.rules.specs.Refusals.{linkRules, Linked, Judged}
 use Rattle.rules.specs.declared.tables.Tables.{Tables}
 use Rattle.rules.proofs.Every.{and-left, and-right}
 use Rattle.rules.proofs.Forms.{counts-profile}
@@ -188,3 +188,14 @@ module _ (f : File) (rows : List ℕ) where
   refused-later ea eb ec ed p q r s =
       forms-pass (formWrong f rows) (countWrong f rows) (nameWrong f rows) (constantWrong f rows) (later f rows) (sym ea ∙ p) (sym eb ∙ q) (sym ec ∙ r) (sym ed ∙ s)
       ∙ ap lowest (sym (rules-are f rows))
+
+-- a rule that applies leaves nothing to say of the bodies
+pub refused-judged : (f : File) (rows : List ℕ) {r : ℕ} {bodies : List ℕ} → r ≡ lowest (rowRules f rows) → (r ≡ 0 → ⊥) → Judged r f rows bodies
+refused-judged f rows e h = record { refusal = e; held = λ p z. absurd (h z) }
+
+pub refused-linked : (rows : List ℕ) {r : ℕ} {bodies : List ℕ} → r ≡ lowest (linkRules rows) → (r ≡ 0 → ⊥) → Linked r rows bodies
+refused-linked rows e h = record { refusal = e; held = λ z. absurd (h z) }
+
+pub only-profile : {A : Type 0} (k : FileKind) → k ≡ Limits → fileMeaning k ≡ profile → A
+unfolding fileMeaning
+only-profile k e p = let z : _≡_ {A = ℕ} 0 1 = cc in absurd (let b : ⊥ = omega arith in b)

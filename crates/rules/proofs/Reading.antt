@@ -4,28 +4,25 @@ use mathlib.Core.Path.{_≡_, refl, sym, ap, ap₂, _∙_, fun-ext}
 use mathlib.Core.Bool.{Bool, true, false, not, _&&_, _||_}
 use mathlib.Core.List.{List, [], _∷_, _++_}
 use mathlib.Core.Logic.{⊎-elim}
-use Prim.Native.Nat.{ℕ, zero, suc, _+_, _≤_, _<_, min}
+use Prim.Native.Nat.{ℕ, zero, suc, _+_, _<_}
 use native.Mathlib.Nat.{not-suc-le-zero, zero-add}
 use native.Mathlib.Omega.{arith}
-use lib.Dec.{eqb, ltb, leb}
+use lib.Dec.{ltb}
 use lib.ListN.{length, getD, set}
 use lib.Seq.{getD-set-same, getD-set-other}
-use borrow.Author.Tests.{ltb-true, ne-eqb, le-leb, lt-leb}
+use borrow.Author.Tests.{ltb-true}
 use Rattle.lingua.specs.Numbers.{declaration-section, type-section, expression-section, instruction-section}
 use Rattle.lingua.specs.Value.{allOf}
 use Rattle.lingua.specs.Expression.{Expression}
-use Rattle.lingua.specs.Rows.{kindAt, aAt, bAt, cAt, tableCount, pairCount, detailRow, typeRow, parts, ExpressionRow, constant-row, variable-row, current-row, unary-row, binary-row, lazy-row, choice-row, all-list-row, constantKind, expressionKind, expressionRow, operands, instructionRow, evaluated, yokeRoot, yokeSet}
+use Rattle.lingua.specs.Rows.{aAt, tableCount, pairCount, detailRow, typeRow, parts, ExpressionRow, constant-row, variable-row, current-row, unary-row, binary-row, lazy-row, choice-row, all-list-row, unknown-expression, expressionRow, operands, instructionRow, evaluated, yokeRoot, yokeSet}
 use Rattle.lingua.specs.Trees.{below, lower, no-expression, expressionOf, expressionIn, expressionTree, tabulateFrom, tabulate}
 use Rattle.lingua.specs.Typing.{joined}
 use Rattle.lingua.specs.Format.{everyBelow}
 use Rattle.lingua.specs.References.{allBelow, typeParts, instructionVariables, expressionRefers, readsVariable, readsCurrent, declaredYoke, declarationRefers, instructionRefers, referenceWrong, yokeRoots, plainRoots, placeWrong}
-use Rattle.rules.specs.Tables.{IsTable}
 use Rattle.rules.specs.Reads.{reads, readsRow, Marked}
-use Rattle.rules.specs.declared.tables.Table.{Table}
 use Rattle.rules.proofs.Counting.{order}
 use Rattle.rules.proofs.Every.{every-at, and-left, and-right, first-true, last-true}
 use Rattle.rules.proofs.Short.{all-ext, all-append}
-use Rattle.rules.proofs.Choices.{cases, expressionOfKind, expression-is, expression-clamped}
 use Rattle.rules.proofs.Usage.{joined-snoc}
 
 -- ---- trees
@@ -73,6 +70,7 @@ reads-of true r (binary-row o a b) look = two-read (readsVariable (look a)) (rea
 reads-of true r (lazy-row k a b) look = two-read (readsVariable (look a)) (readsVariable (look b))
 reads-of true r (choice-row a b c) look = three-read (readsVariable (look a)) (readsVariable (look b)) (readsVariable (look c))
 reads-of true r (all-list-row a) look = one-reads (readsVariable (look a))
+reads-of true r unknown-expression look = refl
 reads-of false r (constant-row c) look = refl
 reads-of false r (variable-row n) look = refl
 reads-of false r current-row look = refl
@@ -81,6 +79,7 @@ reads-of false r (binary-row o a b) look = two-read (readsCurrent (look a)) (rea
 reads-of false r (lazy-row k a b) look = two-read (readsCurrent (look a)) (readsCurrent (look b))
 reads-of false r (choice-row a b c) look = three-read (readsCurrent (look a)) (readsCurrent (look b)) (readsCurrent (look c))
 reads-of false r (all-list-row a) look = refl
+reads-of false r unknown-expression look = refl
 
 reads-lower : (v : Bool) (rows : List ℕ) (r a : ℕ) (b : Bool) → reads v (below b (λ a. expressionTree rows a) (no-expression r) a) ≡ (b && reads v (expressionTree rows a))
 unfolding reads readsVariable readsCurrent
@@ -138,39 +137,6 @@ roots-read rows v n marks h xs e = marks-below rows v n marks xs h ∙ inner xs 
     inner : (xs : List ℕ) → allBelow n xs ≡ true → allOf (λ a. not (ltb a n && reads v (expressionTree rows a))) xs ≡ allOf (λ a. not (reads v (expressionTree rows a))) xs
     inner [] e = refl
     inner (x ∷ xs) e = ap₂ (λ (a b : Bool). a && b) (ap (λ (b : Bool). not (b && reads v (expressionTree rows x))) (and-left (ltb x n) (allBelow n xs) e)) (inner xs (and-right (ltb x n) (allBelow n xs) e))
-
--- ---- a row by its kind
-module _ (rows : List ℕ) (t : Table) (r : ℕ) (h : IsTable rows expression-section t) where
-  by-kind : (v : Bool) → (k : ℕ) → k ≡ kindAt rows (t .start + r) → readsRow v (expressionRow rows r) ≡ readsRow v (expressionOfKind (constantKind (kindAt rows (t .start + r)) rows (t .start + r)) (aAt rows (t .start + r)) (bAt rows (t .start + r)) (cAt rows (t .start + r)) (min k 25))
-  by-kind v k e = ap (readsRow v) (expression-is rows t r h ∙ expression-clamped rows t r h) ∙ (rw e)
-
-  pub variable-kind : (k : ℕ) → k ≡ kindAt rows (t .start + r) → eqb k 4 ≡ readsRow true (expressionRow rows r)
-  unfolding readsRow expressionKind
-  variable-kind k e =
-      same
-      ∙ cases (λ m. eqb m 4 ≡ readsRow true (expressionOfKind (constantKind (kindAt rows (t .start + r)) rows (t .start + r)) (aAt rows (t .start + r)) (bAt rows (t .start + r)) (cAt rows (t .start + r)) m)) 26 (min k 25)
-      (refl, (refl, (refl, (refl, (refl, (refl, (refl, (refl, (refl, (refl, (refl, (refl, (refl, (refl, (refl, (refl, (refl, (refl, (refl, (refl, (refl, (refl, (refl, (refl, (refl, (refl, tt)))))))))))))))))))))))))) (omega arith)
-      ∙ sym (by-kind true k e)
-    where
-      same : eqb k 4 ≡ eqb (min k 25) 4
-      same = ⊎-elim (λ l. ap (λ (m : ℕ). eqb m 4) (below-last (omega arith))) (⊎-elim (λ q. ap (λ (m : ℕ). eqb m 4) (below-last (omega arith))) (λ l. ne-eqb k 4 (λ q. omega arith) ∙ sym (ne-eqb (min k 25) 4 (λ q. omega arith)))) (order k 25)
-        where
-          below-last : k < 26 → k ≡ min k 25
-          below-last l = omega arith
-
-  pub current-kind : (k : ℕ) → k ≡ kindAt rows (t .start + r) → leb 24 k ≡ readsRow false (expressionRow rows r)
-  unfolding readsRow expressionKind
-  current-kind k e =
-      same
-      ∙ cases (λ m. leb 24 m ≡ readsRow false (expressionOfKind (constantKind (kindAt rows (t .start + r)) rows (t .start + r)) (aAt rows (t .start + r)) (bAt rows (t .start + r)) (cAt rows (t .start + r)) m)) 26 (min k 25)
-      (refl, (refl, (refl, (refl, (refl, (refl, (refl, (refl, (refl, (refl, (refl, (refl, (refl, (refl, (refl, (refl, (refl, (refl, (refl, (refl, (refl, (refl, (refl, (refl, (refl, (refl, tt)))))))))))))))))))))))))) (omega arith)
-      ∙ sym (by-kind false k e)
-    where
-      same : leb 24 k ≡ leb 24 (min k 25)
-      same = ⊎-elim (λ l. lt-leb 24 k l ∙ sym (lt-leb 24 (min k 25) (omega arith))) (λ q. at-least (⊎-elim (λ e. omega arith) (λ l. omega arith) q)) (order k 24)
-        where
-          at-least : 24 ≤ k → leb 24 k ≡ leb 24 (min k 25)
-          at-least l = le-leb 24 k l ∙ sym (le-leb 24 (min k 25) (omega arith))
 
 -- ---- roots
 all-joined : (p : ℕ → Bool) (f : ℕ → List ℕ) (n : ℕ) → allOf p (joined (tabulate n f)) ≡ everyBelow n (λ k. allOf p (f k))

@@ -4,16 +4,15 @@ use mathlib.Core.Bool.{Bool, true, false, _&&_, and-true, and-assoc}
 use mathlib.Core.List.{List, [], _∷_, _++_}
 use Prim.Native.Nat.{ℕ, zero, suc, _-_, _≤_, _<_}
 use native.Mathlib.Omega.{arith}
-use lib.Dec.{leb, ltb, leb·zero, leb·suc-suc}
+use lib.Dec.{leb, ltb, leb·zero}
 use lib.ListN.{take}
 use lib.Seq.{take-nil}
 use borrow.Author.Tests.{ne-eqb}
+use Rattle.lingua.specs.Errors.{isError, error-numbers}
 use Rattle.lingua.specs.Value.{allOf}
 use Rattle.lingua.specs.Rows.{yokeRoot}
-use Rattle.lingua.specs.Rules.{between}
 use Rattle.lingua.specs.References.{allBelow}
-use Rattle.rules.specs.Picks.{choose}
-use Rattle.rules.specs.Types.{first, second, namedKind}
+use Rattle.laws.specs.Classes.{error-is}
 
 -- ---- a test of all
 module _ (p : ℕ → Bool) (n x y z : ℕ) where
@@ -57,20 +56,18 @@ all-ext p q (x ∷ xs) h = ap₂ (λ (a b : Bool). a && b) (h x) (all-ext p q xs
 pub below-is : (n : ℕ) (xs : List ℕ) → allOf (λ k. leb 0 k && ltb k n) xs ≡ allBelow n xs
 below-is n xs = all-ext (λ k. leb 0 k && ltb k n) (λ k. ltb k n) xs (λ k. rw (leb·zero k))
 
-pub errors-is : (xs : List ℕ) → allOf (λ k. leb 1 k && ltb k 19) xs ≡ allOf (λ k. between 1 18 k) xs
-errors-is xs = all-ext (λ k. leb 1 k && ltb k 19) (λ k. between 1 18 k) xs (λ k. ap (λ (b : Bool). leb 1 k && b) (leb·suc-suc k 18))
-
--- ---- the fields by their number
-pub choose-none : (s a b c : ℕ) → (s ≡ 1 → ⊥) → (s ≡ 2 → ⊥) → (s ≡ 3 → ⊥) → (s ≡ 4 → ⊥) → (s ≡ 5 → ⊥) → (s ≡ 6 → ⊥) → [] ≡ choose s a b c
-unfolding choose
-choose-none s a b c n1 n2 n3 n4 n5 n6 = rw (ne-eqb s 1 n1, ne-eqb s 2 n2, ne-eqb s 3 n3, ne-eqb s 4 n4, ne-eqb s 5 n5, ne-eqb s 6 n6)
+pub errors-is : (xs : List ℕ) → allOf (λ k. leb 1 k && ltb k error-numbers) xs ≡ allOf isError xs
+errors-is xs = all-ext (λ k. leb 1 k && ltb k error-numbers) isError xs (λ k. sym (error-is k))
 
 -- what is asked of a short list is asked of the definition's
 pub within-below : (n : ℕ) {xs ys : List ℕ} {b : Bool} → ys ≡ xs → b ≡ allOf (λ k. leb 0 k && ltb k n) ys → allBelow n xs ≡ b
 within-below n {xs} {ys} {b} e h = sym (h ∙ below-is n ys ∙ ap (λ (l : List ℕ). allBelow n l) e)
 
-pub within-errors : {xs ys : List ℕ} {b : Bool} → ys ≡ xs → b ≡ allOf (λ k. leb 1 k && ltb k 19) ys → allOf (λ k. between 1 18 k) xs ≡ b
-within-errors {xs} {ys} {b} e h = sym (h ∙ errors-is ys ∙ ap (λ (l : List ℕ). allOf (λ k. between 1 18 k) l) e)
+pub within-attributes : (xs ys : List ℕ) {b : Bool} → allBelow 64 ys ≡ allBelow 64 xs → b ≡ allOf (λ k. leb 0 k && ltb k 64) ys → allBelow 64 xs ≡ b
+within-attributes xs ys {b} e h = sym (h ∙ below-is 64 ys ∙ e)
+
+pub within-errors : {xs ys : List ℕ} {b : Bool} → ys ≡ xs → b ≡ allOf (λ k. leb 1 k && ltb k error-numbers) ys → allOf isError xs ≡ b
+within-errors {xs} {ys} {b} e h = sym (h ∙ errors-is ys ∙ ap (λ (l : List ℕ). allOf isError l) e)
 
 pub root-more : (y : ℕ) → (y ≡ 0 → ⊥) → (y - 1) ∷ [] ≡ yokeRoot y
 unfolding yokeRoot
@@ -80,46 +77,7 @@ root-more (suc y) n0 = ap (λ (m : ℕ). m ∷ []) less
     less : suc y - 1 ≡ y
     less = omega arith
 
-pub three-same : {a b c x y z : ℕ} → a ≡ x → b ≡ y → c ≡ z → _≡_ {A = List ℕ} (a ∷ b ∷ c ∷ []) (x ∷ y ∷ z ∷ [])
-three-same p q r = cc
-
 pub all-append : (p : ℕ → Bool) (xs ys : List ℕ) → allOf p (xs ++ ys) ≡ (allOf p xs && allOf p ys)
 unfolding allOf
 all-append p [] ys = refl
 all-append p (x ∷ xs) ys = ap (λ (b : Bool). p x && b) (all-append p xs ys) ∙ sym (and-assoc (p x) (allOf p xs) (allOf p ys))
-
--- ---- the first and the second number
-module _ (n x y z : ℕ) where
-  pub no-first : n ≡ 0 → 0 ≡ first (take n (x ∷ y ∷ z ∷ []))
-  unfolding first
-  no-first e = rw e
-
-pub some-first : (n x y z : ℕ) → (n ≡ 0 → ⊥) → x ≡ first (take n (x ∷ y ∷ z ∷ []))
-unfolding first
-some-first zero x y z h = absurd (h refl)
-some-first (suc n) x y z h = refl
-
-pub no-second : (n x y z : ℕ) → n < 2 → 0 ≡ second (take n (x ∷ y ∷ z ∷ []))
-unfolding first second
-no-second zero x y z h = refl
-no-second (suc zero) x y z h = refl
-no-second (suc (suc n)) x y z h = absurd (omega arith)
-
-pub some-second : (n x y z : ℕ) → 2 ≤ n → y ≡ second (take n (x ∷ y ∷ z ∷ []))
-unfolding first second
-some-second zero x y z h = absurd (omega arith)
-some-second (suc zero) x y z h = absurd (omega arith)
-some-second (suc (suc n)) x y z h = refl
-
--- ---- a type row's kind
-pub kind-none : (k : ℕ) → k ≡ 0 → 6 ≡ namedKind k
-unfolding namedKind
-kind-none k e = rw e
-
-pub kind-low : (k : ℕ) → (k ≡ 0 → ⊥) → k < 6 → k ≡ namedKind k
-unfolding namedKind
-kind-low k n l = rw (ne-eqb k 0 n) (omega arith)
-
-pub kind-high : (k : ℕ) → 6 ≤ k → 6 ≡ namedKind k
-unfolding namedKind
-kind-high k l = rw (ne-eqb k 0 (λ e. omega arith)) (omega arith)

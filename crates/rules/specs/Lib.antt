@@ -1,7 +1,10 @@
 pub mod Tables
+pub mod Decoded
 pub mod Form
 pub mod Picks
 pub mod Uses
 pub mod Reads
+pub mod Unrolled
+pub mod Accepted
 pub mod Types
 pub mod Refusals

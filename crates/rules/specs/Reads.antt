@@ -5,7 +5,7 @@ use mathlib.Core.List.{List}
 use Prim.Native.Nat.{ℕ, _<_}
 use lib.ListN.{getD}
 use Rattle.lingua.specs.Expression.{Expression}
-use Rattle.lingua.specs.Rows.{ExpressionRow, constant-row, variable-row, current-row, unary-row, binary-row, lazy-row, choice-row, all-list-row}
+use Rattle.lingua.specs.Rows.{ExpressionRow, constant-row, variable-row, current-row, unary-row, binary-row, lazy-row, choice-row, all-list-row, unknown-expression}
 use Rattle.lingua.specs.Trees.{expressionTree}
 use Rattle.lingua.specs.References.{readsVariable, readsCurrent}
 
@@ -18,7 +18,7 @@ reads false e = readsCurrent e
 unfoldable pub Marked : List ℕ → Bool → ℕ → List Bool → Type 0
 Marked rows variable n marks = (r : ℕ) → r < n → getD marks r false ≡ reads variable (expressionTree rows r)
 
--- whether a row reads by its own kind
+-- whether a row reads by itself
 unfoldable pub readsRow : Bool → ExpressionRow → Bool
 readsRow variable (constant-row c) = false
 readsRow variable (variable-row n) = variable
@@ -28,3 +28,4 @@ readsRow variable (binary-row o a b) = false
 readsRow variable (lazy-row k a b) = false
 readsRow variable (choice-row a b c) = false
 readsRow variable (all-list-row a) = not variable
+readsRow variable unknown-expression = false

@@ -1,18 +1,54 @@
--- How the code reads a type row: its kind, and the numbers that it names. Assumes nothing: these are definitions.
-use mathlib.Core.List.{List, [], _∷_}
-use Prim.Native.Nat.{ℕ, min}
-use lib.Dec.{eqb}
-use Rattle.lingua.specs.Outcome.{if_then_else_}
+-- Type rows and the array of their bodies, 96 bytes for each. Assumes nothing.
+use mathlib.Core.Path.{_≡_}
+use mathlib.Core.Bool.{true, false}
+use mathlib.Core.List.{List}
+use Prim.Native.Nat.{ℕ, _+_, _*_, _≤_, _<_}
+use lib.ListN.{length, take, drop}
+use Rattle.lingua.specs.Numbers.{most-types, type-section}
+use Rattle.lingua.specs.Outcome.{ok, Result}
+use Rattle.lingua.specs.Body.{Body}
+use Rattle.lingua.specs.Rows.{tableCount, typeRow}
+use Rattle.lingua.specs.Trees.{typeBody}
+use Rattle.lingua.specs.Format.{profile}
+use Rattle.lingua.specs.Rules.{attributesFit, typeAttributes, countWrong, constantWrong}
+use Rattle.lingua.specs.References.{typeParts, referenceWrong}
+use Rattle.safety.specs.Every.{Every}
+use Rattle.body.specs.Encode.{Holds, Held}
+use Rattle.body.specs.Typed.{Types}
+use Rattle.body.specs.declared.typed.Typed.{Typed}
+use Rattle.rules.specs.Accepted.{counts, type-attributes, type-parts}
 
--- the first and the second number of a list, 0 where there is none
-unfoldable pub first : List ℕ → ℕ
-first [] = 0
-first (x ∷ xs) = x
+-- the bytes of row r's body
+unfoldable pub bodyAt : List ℕ → ℕ → List ℕ
+bodyAt bodies r = take 96 (drop (96 * r) bodies)
 
-unfoldable pub second : List ℕ → ℕ
-second [] = 0
-second (x ∷ xs) = first xs
+-- some body stands at row p's place
+pub record HeldAt (bodies : List ℕ) (p : ℕ) : Type 0 where
+  pub within : 96 * p + 96 ≤ length bodies
+  pub held : Held (bodyAt bodies p)
 
--- what is none of 1 to 5 is 6
-unfoldable pub namedKind : ℕ → ℕ
-namedKind k = if eqb k 0 then 6 else min k 6
+-- the body that is looked up for row p stands at its place
+pub record LooksUp (look : ℕ → Result Body) (bodies : List ℕ) (p : ℕ) : Type 0 where
+  pub body : Body
+  pub is : look p ≡ ok body
+  pub holds : Holds (bodyAt bodies p) body
+
+-- an operation's answer on bodies, whatever the offset beside it
+pub record Answers (t : Typed) (o : Result Body) : Type 0 where
+  pub offset : ℕ
+  pub types : Types t o offset
+
+-- what the rules before 13 show of the type rows
+pub record TypesReady (rows : List ℕ) : Type 0 where
+  pub few : tableCount rows type-section ≤ most-types
+  pub attributes : (r : ℕ) → r < tableCount rows type-section → attributesFit (typeAttributes (typeRow rows r)) ≡ true
+  pub parts : (r : ℕ) → r < tableCount rows type-section → Every (λ a. a < r) (typeParts (typeRow rows r))
+
+pub types-ready : (rows : List ℕ) → countWrong profile rows ≡ false → constantWrong profile rows ≡ false → referenceWrong rows ≡ false → TypesReady rows
+types-ready rows c k r =
+    record { few = counts rows c .types .most; attributes = type-attributes rows k; parts = type-parts rows r }
+
+-- the array holds the bodies of the first n type rows
+pub record BodiesBelow (rows bodies : List ℕ) (n : ℕ) : Type 0 where
+  pub long : length bodies ≡ 3072
+  pub each : (r : ℕ) → r < n → LooksUp (λ a. typeBody rows a) bodies r

@@ -1,6 +1,9 @@
 // Rule 9: constants, attributes and handled errors. A limits file has none.
+use crate::decode::DecodedExpression;
+use crate::decode::ExpressionRow;
+use crate::decode::Simple;
+use crate::decode::expression_at;
 use crate::fields::bytes_at;
-use crate::fields::kind_at;
 use crate::fields::padded;
 use crate::fields::wide_at;
 use crate::picks::all_within;
@@ -10,23 +13,25 @@ use crate::picks::type_attributes_of;
 use crate::tables::Table;
 use crate::tables::Tables;
 use lingua::FileKind;
+use lingua::errors::ERROR_NUMBERS;
 use lingua::sizes::ATTRIBUTE_NUMBERS;
 use lingua::sizes::HIGHEST_CHARACTER;
 use lingua::sizes::LOWEST_CHARACTER;
 ghost use mathlib.Core.Path.{_≡_};
 ghost use mathlib.Core.Bool.{_&&_};
-ghost use Prim.Native.Nat.{_+_, _*_, _≤_};
+ghost use Prim.Native.Nat.{_+_, _*_, _≤_, _<_};
 ghost use lib.ListN.{length};
 ghost use mir.Syntax.{w64};
 ghost use mir.Val.{toZ};
 ghost use Rattle.lingua.specs.Numbers.{type-section, expression-section, instruction-section};
-ghost use Rattle.lingua.specs.Errors.{last-error};
+ghost use Rattle.lingua.specs.Errors.{isError};
 ghost use Rattle.lingua.specs.Answers.{fileMeaning};
 ghost use Rattle.lingua.specs.Value.{inRange, allOf};
-ghost use Rattle.lingua.specs.Rows.{rowIn, tableCount, typeRow, expressionRow, instructionRow};
+ghost use Rattle.lingua.specs.Rows.{tableCount, typeRow, expressionRow, instructionRow};
 ghost use Rattle.lingua.specs.Format.{profile, everyBelow};
-ghost use Rattle.lingua.specs.Rules.{between, constantFits, attributesFit, typeAttributes, expressionAttributes, handledErrors, constantWrong};
+ghost use Rattle.lingua.specs.Rules.{constantFits, rowConstantFits, attributesFit, typeAttributes, expressionAttributes, handledErrors, constantWrong};
 ghost use Rattle.rules.specs.Tables.{IsTable, AreTables};
+ghost use Rattle.rules.specs.Decoded.{constantMeaning, expressionMeaning};
 
 // Whether the 64 bits, read with a sign, are a number's: from -1,000,000 to 1,000,000.
 fn number_fits(n: usize) -> bool
@@ -38,21 +43,46 @@ fn number_fits(n: usize) -> bool
     18446744073708551616 <= n
 }
 
-fn constant_fits(rows: &[u8], i: usize) -> bool
+// Row i, a constant's.
+fn constant_fits(s: Simple, rows: &[u8], i: usize) -> bool
     requires { ⌜ 10 * i + 10 ≤ length (now rows) ⌝ }
-    ensures { λ r. ⌜ r ≡ constantFits (now (rows .entry)) i ⌝ }
+    ensures { λ r. ⌜ r ≡ constantFits (constantMeaning (now (rows .entry)) i s) ⌝ }
 {
-    let kind = kind_at(rows, i);
-    if kind == 1 {
-        return wide_at(rows, i) <= 1;
+    match s {
+        Simple::Boolean => wide_at(rows, i) <= 1,
+        Simple::Number => number_fits(wide_at(rows, i)),
+        Simple::Word => padded(bytes_at(rows, i), LOWEST_CHARACTER, HIGHEST_CHARACTER),
     }
-    if kind == 2 {
-        return number_fits(wide_at(rows, i));
+}
+
+// Only constants have bytes that may be out of range for them.
+fn row_constant_fits(row: ExpressionRow, rows: &[u8], i: usize) -> bool
+    requires { ⌜ 10 * i + 10 ≤ length (now rows) ⌝ }
+    ensures { λ r. ⌜ r ≡ rowConstantFits (expressionMeaning (now (rows .entry)) i row) ⌝ }
+{
+    match row {
+        ExpressionRow::Constant(s) => constant_fits(s, rows, i),
+        ExpressionRow::Variable(_) => true,
+        ExpressionRow::Current => true,
+        ExpressionRow::Unary(_, _) => true,
+        ExpressionRow::Binary(_, _, _) => true,
+        ExpressionRow::Lazy(_, _, _) => true,
+        ExpressionRow::Choice(_, _, _) => true,
+        ExpressionRow::AllList(_) => true,
     }
-    if kind == 3 {
-        return padded(bytes_at(rows, i), LOWEST_CHARACTER, HIGHEST_CHARACTER);
+}
+
+fn constant_fits_at(rows: &[u8], t: Table, r: usize) -> bool
+    requires { ⌜ IsTable (now rows) expression-section t ⌝ }
+    requires { ⌜ r < t .count ⌝ }
+    ensures { λ b. ⌜ b ≡ rowConstantFits (expressionRow (now (rows .entry)) r) ⌝ }
+{
+    let i = t.start + r;
+    let d = expression_at(rows, i);
+    match d {
+        DecodedExpression::Unknown => true,
+        DecodedExpression::Known(_, row) => row_constant_fits(row, rows, i),
     }
-    true
 }
 
 fn types_fit(rows: &[u8], t: Table) -> bool
@@ -72,13 +102,12 @@ fn types_fit(rows: &[u8], t: Table) -> bool
 
 fn expressions_fit(rows: &[u8], t: Table) -> bool
     requires { ⌜ IsTable (now rows) expression-section t ⌝ }
-    ensures { λ r. ⌜ r ≡ everyBelow (tableCount (now (rows .entry)) expression-section) (λ r. constantFits (now (rows .entry)) (rowIn (now (rows .entry)) expression-section r) && attributesFit (expressionAttributes (expressionRow (now (rows .entry)) r))) ⌝ }
+    ensures { λ r. ⌜ r ≡ everyBelow (tableCount (now (rows .entry)) expression-section) (λ r. rowConstantFits (expressionRow (now (rows .entry)) r) && attributesFit (expressionAttributes (expressionRow (now (rows .entry)) r))) ⌝ }
 {
-    let start = t.start;
     let count = t.count;
     let mut r = 0;
     while r < count {
-        if !constant_fits(rows, start + r) {
+        if !constant_fits_at(rows, t, r) {
             return false;
         }
         if !all_within(attributes_of(rows, t, r), 0, ATTRIBUTE_NUMBERS) {
@@ -91,13 +120,12 @@ fn expressions_fit(rows: &[u8], t: Table) -> bool
 
 fn handlers_fit(rows: &[u8], t: Table) -> bool
     requires { ⌜ IsTable (now rows) instruction-section t ⌝ }
-    ensures { λ r. ⌜ r ≡ everyBelow (tableCount (now (rows .entry)) instruction-section) (λ r. allOf (λ n. between 1 last-error n) (handledErrors (instructionRow (now (rows .entry)) r))) ⌝ }
+    ensures { λ r. ⌜ r ≡ everyBelow (tableCount (now (rows .entry)) instruction-section) (λ r. allOf isError (handledErrors (instructionRow (now (rows .entry)) r))) ⌝ }
 {
     let count = t.count;
     let mut r = 0;
     while r < count {
-        // a handler names 1 to 18
-        if !all_within(handled_of(rows, t, r), 1, 19) {
+        if !all_within(handled_of(rows, t, r), 1, ERROR_NUMBERS) {
             return false;
         }
         r += 1;

@@ -1,5 +1,11 @@
 // Rule 6: the form of rows, each by itself and in their order.
 use crate::counts::in_between;
+use crate::decode::DecodedExpression;
+use crate::decode::DecodedInstruction;
+use crate::decode::DecodedType;
+use crate::decode::expression_at;
+use crate::decode::instruction_at;
+use crate::decode::type_at;
 use crate::fields::bytes_at;
 use crate::fields::kind_at;
 use crate::fields::section_at;
@@ -14,53 +20,17 @@ use lingua::sizes::LIMIT_SECTION;
 use lingua::sizes::ROW_BYTES;
 use lingua::sizes::TYPE_SECTION;
 ghost use mathlib.Core.Path.{_≡_};
-ghost use mathlib.Core.Option.{none};
+ghost use mathlib.Core.List.{[], _∷_};
+ghost use mathlib.Core.Option.{some, none};
 ghost use Prim.Native.Nat.{_+_, _*_, _-_, _/_, _≤_};
 ghost use lib.ListN.{length, getD};
 ghost use Rattle.lingua.specs.Answers.{fileMeaning};
-ghost use Rattle.lingua.specs.Rows.{rowCount};
+ghost use Rattle.lingua.specs.Rows.{rowCount, kindAt};
 ghost use Rattle.lingua.specs.Format.{everyBelow};
 ghost use Rattle.lingua.specs.Rules.{usedBytes, sectionBelongs, rowFits, ascending, paired, formWrong};
 ghost use Rattle.rules.specs.Tables.{IsTable, AreTables};
 ghost use Rattle.rules.specs.Form.{usedNumber};
-
-// By kind, from 0 on: one more than the number of bytes that a row uses of its eight, and 0 where there is no such kind.
-const DECLARATION_BYTES: [u8; 2] = [9, 5];
-
-const TYPE_BYTES: [u8; 7] = [0, 1, 1, 1, 3, 5, 7];
-
-const EXPRESSION_BYTES: [u8; 26] = [
-    0,
-    9,
-    9,
-    9,
-    3,
-    5,
-    5,
-    5,
-    5,
-    5,
-    5,
-    5,
-    5,
-    5,
-    3,
-    7,
-    5,
-    7,
-    5,
-    7,
-    3,
-    5,
-    3,
-    3,
-    1,
-    3,
-];
-
-const INSTRUCTION_BYTES: [u8; 8] = [0, 1, 5, 5, 5, 7, 5, 5];
-
-const LIMIT_BYTES: [u8; 2] = [9, 9];
+ghost use Rattle.rules.specs.Decoded.{typeUses, expressionUses, instructionUses};
 
 // Limits stand alone in limits files.
 fn section_belongs(file: FileKind, section: u8) -> bool
@@ -72,34 +42,63 @@ fn section_belongs(file: FileKind, section: u8) -> bool
     }
 }
 
-// The entry of a kind, 0 where there is none.
-fn entry(table: &[u8], kind: u8) -> u8
-    ensures { λ r. ⌜ r ≡ getD (now (table .entry)) kind 0 ⌝ }
+// How many bytes a row of a pair uses: the first has kind 0, the second kind 1.
+fn used_by_pair(kind: u8, first: u8, second: u8) -> usize
+    ensures { λ r. ⌜ r ≡ usedNumber (getD (some first ∷ some second ∷ []) kind none) ⌝ }
 {
-    let k = kind as usize;
-    if k < table.len() {
-        return table[k];
+    match kind {
+        0 => first as usize + 1,
+        1 => second as usize + 1,
+        _ => 0,
     }
-    0
 }
 
-fn used_bytes(section: u8, kind: u8) -> u8
-    ensures { λ r. ⌜ r ≡ usedNumber (getD (usedBytes section) kind none) ⌝ }
+fn used_by_type(d: DecodedType) -> usize
+    ensures { λ r. ⌜ r ≡ usedNumber (typeUses d) ⌝ }
+{
+    match d {
+        DecodedType::Unknown => 0,
+        DecodedType::Known(n, _) => n as usize + 1,
+    }
+}
+
+fn used_by_expression(d: DecodedExpression) -> usize
+    ensures { λ r. ⌜ r ≡ usedNumber (expressionUses d) ⌝ }
+{
+    match d {
+        DecodedExpression::Unknown => 0,
+        DecodedExpression::Known(n, _) => n as usize + 1,
+    }
+}
+
+fn used_by_instruction(d: DecodedInstruction) -> usize
+    ensures { λ r. ⌜ r ≡ usedNumber (instructionUses d) ⌝ }
+{
+    match d {
+        DecodedInstruction::Unknown => 0,
+        DecodedInstruction::Known(n, _) => n as usize + 1,
+    }
+}
+
+// One more than the number of bytes that row i uses of its eight, and 0 where the section has no such kind.
+fn used_bytes(rows: &[u8], i: usize, section: u8) -> usize
+    requires { ⌜ 10 * i + 10 ≤ length (now rows) ⌝ }
+    ensures { λ r. ⌜ r ≡ usedNumber (usedBytes section (kindAt (now (rows .entry)) i)) ⌝ }
 {
     if section == DECLARATION_SECTION {
-        return entry(&DECLARATION_BYTES, kind);
+        return used_by_pair(kind_at(rows, i), 8, 4);
     }
     if section == TYPE_SECTION {
-        return entry(&TYPE_BYTES, kind);
+        return used_by_type(type_at(rows, i));
     }
     if section == EXPRESSION_SECTION {
-        return entry(&EXPRESSION_BYTES, kind);
+        return used_by_expression(expression_at(rows, i));
     }
     if section == INSTRUCTION_SECTION {
-        return entry(&INSTRUCTION_BYTES, kind);
+        return used_by_instruction(instruction_at(rows, i));
     }
     if section == LIMIT_SECTION {
-        return entry(&LIMIT_BYTES, kind);
+        return used_by_pair(kind_at(rows, i), 8, 8);
     }
     0
 }
@@ -112,7 +111,7 @@ fn row_fits(file: FileKind, rows: &[u8], i: usize) -> bool
     if !section_belongs(file, section) {
         return false;
     }
-    let used = used_bytes(section, kind_at(rows, i)) as usize;
+    let used = used_bytes(rows, i, section);
     if used == 0 {
         return false;
     }

@@ -1,8 +1,10 @@
 // Rule 12: variables are read outside yokes, the current value inside. Each expression row is marked once, from the lowest up, as
 // to whether anything in its tree reads; then the rows that yokes and instructions name are asked.
+use crate::decode::DecodedExpression;
+use crate::decode::ExpressionRow;
+use crate::decode::expression_at;
 use crate::fields::b_at;
-use crate::fields::kind_at;
-use crate::picks::Few;
+use crate::picks::UpToThree;
 use crate::picks::evaluated_of;
 use crate::picks::operands_of;
 use crate::picks::yoke_root;
@@ -12,10 +14,11 @@ use crate::tables::Tables;
 use lingua::sizes::MOST_EXPRESSIONS;
 ghost use mathlib.Core.Path.{_≡_};
 ghost use mathlib.Core.Bool.{true, false, not, _&&_};
-ghost use Prim.Native.Nat.{_+_, _*_, _≤_, _<_};
+ghost use mathlib.Core.List.{List};
+ghost use Prim.Native.Nat.{ℕ, _+_, _*_, _≤_, _<_};
 ghost use lib.Dec.{ltb};
 ghost use lib.ListN.{getD};
-ghost use Rattle.lingua.specs.Numbers.{declaration-section, expression-section, instruction-section};
+ghost use Rattle.lingua.specs.Numbers.{declaration-section, expression-section, instruction-section, most-expressions};
 ghost use Rattle.lingua.specs.Value.{allOf};
 ghost use Rattle.lingua.specs.Rows.{tableCount, pairCount, expressionRow, instructionRow, evaluated, yokeRoot, yokeSet};
 ghost use Rattle.lingua.specs.Trees.{expressionTree};
@@ -23,24 +26,40 @@ ghost use Rattle.lingua.specs.Format.{everyBelow};
 ghost use Rattle.lingua.specs.References.{declaredYoke, referenceWrong, placeWrong};
 ghost use Rattle.rules.specs.Tables.{IsTable, AreTables, Sized};
 ghost use Rattle.rules.specs.Picks.{listed};
+ghost use Rattle.rules.specs.Decoded.{expressionMeaning};
 ghost use Rattle.rules.specs.Reads.{reads, readsRow, Marked};
 
-// Whether a row reads a variable, or else the current value, by its own kind.
+// Whether a row by itself reads a variable, or else the current value.
+fn row_reads(row: ExpressionRow, variable: bool) -> bool
+    ensures { λ b. ⌜ ((rows : List ℕ) (i : ℕ) → b ≡ readsRow variable (expressionMeaning rows i row)) ⌝ }
+{
+    match row {
+        ExpressionRow::Constant(_) => false,
+        ExpressionRow::Variable(_) => variable,
+        ExpressionRow::Current => !variable,
+        ExpressionRow::Unary(_, _) => false,
+        ExpressionRow::Binary(_, _, _) => false,
+        ExpressionRow::Lazy(_, _, _) => false,
+        ExpressionRow::Choice(_, _, _) => false,
+        ExpressionRow::AllList(_) => !variable,
+    }
+}
+
 fn reads_itself(rows: &[u8], t: Table, r: usize, variable: bool) -> bool
     requires { ⌜ IsTable (now rows) expression-section t ⌝ }
     requires { ⌜ r < t .count ⌝ }
     ensures { λ b. ⌜ b ≡ readsRow variable (expressionRow (now (rows .entry)) r) ⌝ }
 {
-    let kind = kind_at(rows, t.start + r);
-    if variable {
-        return kind == 4;
+    let d = expression_at(rows, t.start + r);
+    match d {
+        DecodedExpression::Unknown => false,
+        DecodedExpression::Known(_, row) => row_reads(row, variable),
     }
-    kind >= 24
 }
 
 // Whether row a is below r and marked.
 fn is_marked(marks: &[bool; MOST_EXPRESSIONS], r: usize, a: usize) -> bool
-    requires { ⌜ r ≤ 512 ⌝ }
+    requires { ⌜ r ≤ most-expressions ⌝ }
     ensures { λ b. ⌜ b ≡ (ltb a r && getD (now (marks .entry)) a false) ⌝ }
 {
     if a < r {
@@ -49,7 +68,7 @@ fn is_marked(marks: &[bool; MOST_EXPRESSIONS], r: usize, a: usize) -> bool
     false
 }
 
-fn none_marked(f: Few, marks: &[bool; MOST_EXPRESSIONS], r: usize) -> bool
+fn none_marked(f: UpToThree, marks: &[bool; MOST_EXPRESSIONS], r: usize) -> bool
     requires { ⌜ r ≤ 512 ⌝ }
     ensures { λ b. ⌜ b ≡ allOf (λ a. not (ltb a r && getD (now (marks .entry)) a false)) (listed f) ⌝ }
 {
@@ -81,7 +100,7 @@ fn tree_reads(
     variable: bool,
 ) -> bool
     requires { ⌜ IsTable (now rows) expression-section t ⌝ }
-    requires { ⌜ (r < t .count) × (r ≤ 512) ⌝ }
+    requires { ⌜ (r < t .count) × (r ≤ most-expressions) ⌝ }
     requires { ⌜ Marked (now rows) variable r (now marks) ⌝ }
     ensures { λ b. ⌜ b ≡ reads variable (expressionTree (now (rows .entry)) r) ⌝ }
 {
@@ -93,7 +112,7 @@ fn tree_reads(
 
 fn readers(rows: &[u8], t: Table, variable: bool) -> [bool; MOST_EXPRESSIONS]
     requires { ⌜ IsTable (now rows) expression-section t ⌝ }
-    requires { ⌜ t .count ≤ 512 ⌝ }
+    requires { ⌜ t .count ≤ most-expressions ⌝ }
     ensures { λ marks. ⌜ Marked (now (rows .entry)) variable (tableCount (now (rows .entry)) expression-section) marks ⌝ }
 {
     let count = t.count;

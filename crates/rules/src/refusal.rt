@@ -6,7 +6,6 @@ use crate::names::name_wrong;
 use crate::places::place_wrong;
 use crate::references::reference_wrong;
 use crate::tables::Tables;
-use crate::tables::tables_of;
 use crate::types::type_wrong;
 use crate::uses::use_wrong;
 use lingua::FileKind;
@@ -20,20 +19,15 @@ use lingua::errors::BAD_USE;
 use lingua::errors::MISPLACED;
 use lingua::errors::NO_ERROR;
 ghost use mathlib.Core.Path.{_≡_};
-ghost use mathlib.Core.Bool.{false};
+ghost use lib.ListN.{length};
 ghost use Rattle.lingua.specs.Answers.{fileMeaning};
-ghost use Rattle.lingua.specs.Format.{profile};
-ghost use Rattle.lingua.specs.Rules.{constantWrong};
-ghost use Rattle.lingua.specs.Refusal.{lowest, rowRules};
-ghost use Rattle.rules.specs.Tables.{AreTables, Sized};
-ghost use Rattle.rules.specs.Refusals.{linkRules};
+ghost use Rattle.rules.specs.Tables.{AreTables};
+ghost use Rattle.rules.specs.Refusals.{Linkable, Linked, Judged};
 
 // Rules 10 to 13, which only a profile has.
-fn link_refusal(rows: &[u8], t: Tables) -> u8
-    requires { ⌜ AreTables (now rows) t ⌝ }
-    requires { ⌜ Sized t ⌝ }
-    requires { ⌜ constantWrong profile (now rows) ≡ false ⌝ }
-    ensures { λ r. ⌜ r ≡ lowest (linkRules (now (rows .entry))) ⌝ }
+fn link_refusal(rows: &[u8], t: Tables, bodies: &mut [u8]) -> u8
+    requires { ⌜ Linkable (now rows) t (now bodies) ⌝ }
+    ensures { λ r. ⌜ Linked r (now (rows .entry)) (now (bodies .exit)) ⌝ }
 {
     if reference_wrong(rows, t) {
         return BAD_REFERENCE;
@@ -45,33 +39,32 @@ fn link_refusal(rows: &[u8], t: Tables) -> u8
         return MISPLACED;
     }
     let types = t.types;
-    if type_wrong(rows, types) {
+    if type_wrong(rows, types, bodies) {
         return BAD_TYPE;
     }
     NO_ERROR
 }
 
-// 0 where no rule applies.
-pub fn rows_refusal(file: FileKind, rows: &[u8]) -> u8
-    ensures { λ r. ⌜ r ≡ lowest (rowRules (fileMeaning file) (now (rows .entry))) ⌝ }
+// 0 where no rule applies. Rule 13 makes the bodies of a profile's type rows, and leaves them in the array.
+pub fn rows_refusal(file: FileKind, rows: &[u8], t: Tables, bodies: &mut [u8]) -> u8
+    requires { ⌜ AreTables (now rows) t ⌝ }
+    requires { ⌜ length (now bodies) ≡ 3072 ⌝ }
+    ensures { λ r. ⌜ Judged r (fileMeaning file) (now (rows .entry)) (now (bodies .exit)) ⌝ }
 {
-    let t = tables_of(rows);
     if form_wrong(file, rows, t) {
         return BAD_FORM;
     }
     if count_wrong(file, t) {
         return BAD_COUNT;
     }
-    let name = name_wrong(file, rows, t);
-    let constant = constant_wrong(file, rows, t);
-    if name {
+    if name_wrong(file, rows, t) {
         return BAD_NAME;
     }
-    if constant {
+    if constant_wrong(file, rows, t) {
         return BAD_CONSTANT;
     }
     match file {
-        FileKind::Profile => link_refusal(rows, t),
+        FileKind::Profile => link_refusal(rows, t, bodies),
         FileKind::Limits => NO_ERROR,
     }
 }

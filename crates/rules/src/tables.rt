@@ -7,6 +7,7 @@ use lingua::sizes::LIMIT_SECTION;
 use lingua::sizes::ROW_BYTES;
 use lingua::sizes::TYPE_SECTION;
 ghost use mathlib.Core.Path.{_≡_};
+ghost use mathlib.Core.List.{[]};
 ghost use Prim.Native.Nat.{ℕ, _+_, _*_, _≤_, _<_, min};
 ghost use lib.ListN.{length, getD};
 ghost use Rattle.lingua.specs.Rows.{sectionAt, tableCount};
@@ -90,4 +91,12 @@ pub fn tables_of(rows: &[u8]) -> Tables
         instructions: instructions,
         limits: limits,
     }
+}
+
+// The tables of no rows.
+pub fn no_tables() -> Tables
+    ensures { λ r. ⌜ AreTables [] r ⌝ }
+{
+    let none = [0u8; 0];
+    tables_of(&none)
 }

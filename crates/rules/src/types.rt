@@ -1,81 +1,120 @@
-// Rule 13: each type row's body is within the bounds. Bodies are made from the lowest row up, each once.
-use crate::fields::kind_at;
-use crate::picks::Few;
-use crate::picks::type_attributes_of;
-use crate::picks::type_parts_of;
+// Rule 13 and the bodies of type rows, in a flat array of 96 bytes for each.
+use crate::decode::DecodedType;
+use crate::decode::Simple;
+use crate::decode::TypeRow;
+use crate::decode::type_at;
 use crate::tables::Table;
-use body::make::simple;
-use body::types::type_body;
-use lingua::sizes::MOST_TYPES;
+use body::binary::expand;
+use body::typed::Typed;
+use body::typed::scalar;
+use body::unary::make_list;
+use body::unary::make_record;
+use body::walk::BOOLEAN;
+use body::walk::NUMBER;
+use body::walk::WORD;
 ghost use mathlib.Core.Path.{_≡_};
-ghost use mathlib.Core.Bool.{false};
-ghost use Prim.Native.Nat.{_+_, _<_, _≤_};
+ghost use mathlib.Core.Bool.{true, false};
+ghost use Prim.Native.Nat.{ℕ, _+_, _*_, _<_, _≤_};
+ghost use lib.ListN.{length};
+ghost use lib.Seq.{paste};
 ghost use Rattle.lingua.specs.Numbers.{type-section};
-ghost use Rattle.lingua.specs.Rows.{kindAt};
-ghost use Rattle.lingua.specs.Format.{profile};
-ghost use Rattle.lingua.specs.Rules.{constantWrong};
-ghost use Rattle.lingua.specs.References.{referenceWrong, typeWrong};
+ghost use Rattle.lingua.specs.Outcome.{ok, Result};
+ghost use Rattle.lingua.specs.Body.{Body};
+ghost use Rattle.lingua.specs.Rows.{tableCount};
+ghost use Rattle.lingua.specs.Rules.{attributesFit, typeAttributes};
+ghost use Rattle.lingua.specs.References.{typeParts, typeWrong};
+ghost use Rattle.lingua.specs.Trees.{typeBodyOf, typeBody};
+ghost use Rattle.safety.specs.Every.{Every};
+ghost use Rattle.body.specs.Typed.{Types};
 ghost use Rattle.rules.specs.Tables.{IsTable};
-ghost use Rattle.rules.specs.Picks.{listed};
-ghost use Rattle.rules.specs.Types.{first, second, namedKind};
+ghost use Rattle.rules.specs.Decoded.{simpleMeaning, typeMeaning};
+ghost use Rattle.rules.specs.Types.{bodyAt, HeldAt, LooksUp, Answers, TypesReady, BodiesBelow};
 
-// The first and the second number of a short list, 0 where there is none.
-fn first_of(f: Few) -> usize
-    ensures { λ r. ⌜ r ≡ first (listed f) ⌝ }
+// The body of type row r, by itself.
+pub fn type_body(bodies: &[u8], r: usize) -> [u8; 96]
+    requires { ⌜ 96 * r + 96 ≤ length (now bodies) ⌝ }
+    ensures { λ x. ⌜ x ≡ bodyAt (now (bodies .entry)) r ⌝ }
 {
-    if f.count == 0 {
-        return 0;
+    let from = 96 * r;
+    let mut out = [0u8; 96];
+    let mut i = 0;
+    while i < 96 {
+        out[i] = bodies[from + i];
+        i += 1;
     }
-    f.x
+    out
 }
 
-fn second_of(f: Few) -> usize
-    ensures { λ r. ⌜ r ≡ second (listed f) ⌝ }
+// A body is kept in place r of an array of bodies: a type row's, or a variable's.
+pub fn keep_body(bodies: &mut [u8], r: usize, body: [u8; 96])
+    requires { ⌜ 96 * r + 96 ≤ length (now bodies) ⌝ }
+    ensures { λ u. ⌜ now (bodies .exit) ≡ paste (now (bodies .entry)) (96 * r) body 96 ⌝ }
 {
-    if f.count < 2 {
-        return 0;
+    let at = 96 * r;
+    let mut i = 0;
+    while i < 96 {
+        bodies[at + i] = body[i];
+        i += 1;
     }
-    f.y
 }
 
-// The kind of a type row; what is none of 1 to 5 reads as 6, as in the definitions.
-fn type_kind(rows: &[u8], t: Table, r: usize) -> u8
+fn simple_body(s: Simple) -> Typed
+    ensures { λ o. ⌜ Types o (ok (simpleMeaning s)) 0 ⌝ }
+{
+    match s {
+        Simple::Boolean => scalar(BOOLEAN),
+        Simple::Number => scalar(NUMBER),
+        Simple::Word => scalar(WORD),
+    }
+}
+
+// The body that a type row makes of those that it names.
+fn made_body(row: TypeRow, bodies: &[u8]) -> Typed
+    requires { ⌜ attributesFit (typeAttributes (typeMeaning row)) ≡ true ⌝ }
+    requires { ⌜ Every (λ p. HeldAt (now bodies) p) (typeParts (typeMeaning row)) ⌝ }
+    ensures { λ r. ⌜ ((look : ℕ → Result Body) → Every (λ p. LooksUp look (now (bodies .entry)) p) (typeParts (typeMeaning row)) → Answers r (typeBodyOf (typeMeaning row) look)) ⌝ }
+{
+    match row {
+        TypeRow::Simple(s) => simple_body(s),
+        TypeRow::List(a) => make_list(type_body(bodies, a)),
+        TypeRow::Record(n, a) => make_record(n as u8, type_body(bodies, a)),
+        TypeRow::Expand(a, n, b) => expand(n as u8, type_body(bodies, a), type_body(bodies, b)),
+    }
+}
+
+// The body of type row r, from those of lower rows.
+fn row_body(rows: &[u8], t: Table, r: usize, bodies: &[u8]) -> Typed
     requires { ⌜ IsTable (now rows) type-section t ⌝ }
     requires { ⌜ r < t .count ⌝ }
-    ensures { λ k. ⌜ k ≡ namedKind (kindAt (now (rows .entry)) (t .start + r)) ⌝ }
+    requires { ⌜ TypesReady (now rows) ⌝ }
+    requires { ⌜ BodiesBelow (now rows) (now bodies) r ⌝ }
+    ensures { λ o. ⌜ Answers o (typeBody (now (rows .entry)) r) ⌝ }
 {
-    let kind = kind_at(rows, t.start + r);
-    if kind == 0 {
-        return 6;
+    let d = type_at(rows, t.start + r);
+    match d {
+        DecodedType::Unknown => scalar(BOOLEAN),
+        DecodedType::Known(_, row) => made_body(row, bodies),
     }
-    if kind < 6 {
-        return kind;
-    }
-    6
 }
 
-pub fn type_wrong(rows: &[u8], t: Table) -> bool
+// Rule 13: each type row's body is within the bounds. Bodies are made from the lowest row up, each once; if no row is wrong, the array holds
+// them all.
+pub fn type_wrong(rows: &[u8], t: Table, bodies: &mut [u8]) -> bool
     requires { ⌜ IsTable (now rows) type-section t ⌝ }
-    requires { ⌜ t .count ≤ 32 ⌝ }
-    requires { ⌜ constantWrong profile (now rows) ≡ false ⌝ }
-    requires { ⌜ referenceWrong (now rows) ≡ false ⌝ }
-    ensures { λ b. ⌜ b ≡ typeWrong (now (rows .entry)) ⌝ }
+    requires { ⌜ TypesReady (now rows) ⌝ }
+    requires { ⌜ length (now bodies) ≡ 3072 ⌝ }
+    ensures { λ w. ⌜ w ≡ typeWrong (now (rows .entry)) ⌝ }
+    ensures { λ w. ⌜ (w ≡ false → BodiesBelow (now (rows .entry)) (now (bodies .exit)) (tableCount (now (rows .entry)) type-section)) ⌝ }
 {
     let count = t.count;
-    let none = simple(1);
-    let mut bodies = [none; MOST_TYPES];
     let mut r = 0;
     while r < count {
-        let attribute = first_of(type_attributes_of(rows, t, r));
-        let parts = type_parts_of(rows, t, r);
-        let i = first_of(parts);
-        let j = second_of(parts);
-        let made = type_body(type_kind(rows, t, r), attribute as u8, bodies[i], bodies[j]);
+        let made = row_body(rows, t, r, bodies);
         if made.error != 0 {
             return true;
         }
         let body = made.body;
-        bodies[r] = body;
+        keep_body(bodies, r, body);
         r += 1;
     }
     false

@@ -1,7 +1,7 @@
 // Rule 11: each expression row and each instruction row but the last is used once.
 // Uses are counted in one pass over the rows, up to 2: more makes no difference.
 use crate::fields::b_at;
-use crate::picks::Few;
+use crate::picks::UpToThree;
 use crate::picks::evaluated_of;
 use crate::picks::operands_of;
 use crate::picks::parts_of;
@@ -14,7 +14,7 @@ ghost use mathlib.Core.Path.{_≡_};
 ghost use mathlib.Core.List.{List, [], _∷_, _++_};
 ghost use Prim.Native.Nat.{ℕ, _+_, _≤_, pred};
 ghost use lib.Dec.{eqb};
-ghost use Rattle.lingua.specs.Numbers.{declaration-section, expression-section, instruction-section};
+ghost use Rattle.lingua.specs.Numbers.{declaration-section, expression-section, instruction-section, most-expressions, most-instructions};
 ghost use Rattle.lingua.specs.Rows.{tableCount, pairCount, expressionRow, instructionRow, operands, parts, evaluated, yokeRoot, yokeSet};
 ghost use Rattle.lingua.specs.Trees.{tabulate};
 ghost use Rattle.lingua.specs.Typing.{joined};
@@ -38,7 +38,7 @@ fn note(uses: &mut [u8; MOST_EXPRESSIONS], x: usize)
     }
 }
 
-fn note_all(uses: &mut [u8; MOST_EXPRESSIONS], f: Few)
+fn note_all(uses: &mut [u8; MOST_EXPRESSIONS], f: UpToThree)
     ensures { λ _. ⌜ ((xs : List ℕ) → Counted (now (uses .entry)) xs → Counted (now (uses .exit)) (xs ++ listed f)) ⌝ }
 {
     let count = f.count;
@@ -122,7 +122,7 @@ fn note_parts(uses: &mut [u8; MOST_EXPRESSIONS], rows: &[u8], t: Table)
 
 // Whether each row below n is used once.
 fn all_once(uses: &[u8; MOST_EXPRESSIONS], n: usize) -> bool
-    requires { ⌜ n ≤ 512 ⌝ }
+    requires { ⌜ n ≤ most-expressions ⌝ }
     ensures { λ b. ⌜ ((xs : List ℕ) → Counted (now (uses .entry)) xs → b ≡ everyBelow n (λ r. eqb (occurrences r xs) 1)) ⌝ }
 {
     let mut r = 0;
@@ -137,7 +137,7 @@ fn all_once(uses: &[u8; MOST_EXPRESSIONS], n: usize) -> bool
 
 fn expressions_once(rows: &[u8], t: Tables) -> bool
     requires { ⌜ AreTables (now rows) t ⌝ }
-    requires { ⌜ t .expressions .count ≤ 512 ⌝ }
+    requires { ⌜ t .expressions .count ≤ most-expressions ⌝ }
     ensures { λ b. ⌜ b ≡ everyBelow (tableCount (now (rows .entry)) expression-section) (λ r. eqb (occurrences r (expressionUses (now (rows .entry)))) 1) ⌝ }
 {
     let mut uses = [0u8; MOST_EXPRESSIONS];
@@ -154,7 +154,7 @@ fn expressions_once(rows: &[u8], t: Tables) -> bool
 // The last instruction row is the program, and no row names it.
 fn instructions_once(rows: &[u8], t: Table) -> bool
     requires { ⌜ IsTable (now rows) instruction-section t ⌝ }
-    requires { ⌜ (1 ≤ t .count) × (t .count ≤ 256) ⌝ }
+    requires { ⌜ (1 ≤ t .count) × (t .count ≤ most-instructions) ⌝ }
     ensures { λ b. ⌜ b ≡ everyBelow (pred (tableCount (now (rows .entry)) instruction-section)) (λ r. eqb (occurrences r (instructionUses (now (rows .entry)))) 1) ⌝ }
 {
     let mut uses = [0u8; MOST_EXPRESSIONS];

@@ -1,35 +1,48 @@
 -- One variable more in the arrays of declared bodies and of limits, and all of a run's start. Assumes nothing.
-use mathlib.Core.Path.{_≡_, sym, ap, _∙_, subst}
+use mathlib.Core.Path.{_≡_, refl, sym, ap, _∙_, subst}
+use mathlib.Core.Bool.{Bool, true, false}
 use mathlib.Core.Logic.{⊎-elim}
 use mathlib.Core.List.{List}
 use mathlib.Core.Option.{Option, some, none}
-use Prim.Native.Nat.{ℕ, suc, _+_, _*_, _≤_, _<_}
+use Prim.Native.Nat.{ℕ, zero, suc, _+_, _-_, _*_, _≤_, _<_}
+use native.Mathlib.Numerals.{add-one}
+use lib.Dec.{ltb}
+use borrow.Author.Tests.{ltb-true, ltb-false}
 use native.Mathlib.Omega.{arith}
 use lib.IntN.{ℤ, pos}
 use lib.Signed.{mag}
 use mir.Syntax.{w64}
 use mir.Val.{toZ, ofZ}
 use mir.ValLaws.{toZ-ofZ}
-use lib.ListN.{length, take, drop, getD, set, replicate, length-set}
+use lib.ListN.{length, take, drop, getD, set, replicate, length-set, length-replicate}
 use lib.Seq.{paste, length-paste, getD-set-same, getD-set-other}
-use Rattle.lingua.specs.Numbers.{most-variables, cells-length, declaration-section}
+use Rattle.lingua.specs.Numbers.{most-variables, cells-length, declaration-section, limit-section}
 use Rattle.lingua.specs.Outcome.{Result}
 use Rattle.lingua.specs.Body.{Body}
-use Rattle.lingua.specs.Rows.{pairCount}
+use Rattle.lingua.specs.Rows.{bytesAt, pairCount}
 use Rattle.lingua.specs.Store.{Limit, Variable, variableAt}
-use Rattle.lingua.specs.Trees.{bodyOr, declarationAt, limitOf, nameAt}
+use Rattle.lingua.specs.Compute.{sameText}
+use Rattle.lingua.specs.Format.{profile}
+use Rattle.lingua.specs.Rules.{nameWrong}
+use Rattle.lingua.specs.Trees.{bodyOr, declarationAt, limitIf, limitFrom, limitOf, limitRow, nameAt}
 use Rattle.laws.specs.Tests.{below-suc}
+use Rattle.laws.specs.Equal.{same-text, text-same}
+use Rattle.safety.specs.Answers.{true-is-false}
+use Rattle.safety.specs.Limited.{one-variable}
 use Rattle.safety.specs.Accepted.{AcceptedRows}
 use Rattle.body.specs.Encode.{Holds}
 use Rattle.body.proofs.Bytes.{length-encoded}
-use Rattle.profile.specs.Types.{bodyAt}
-use Rattle.profile.specs.Variables.{DeclaredIs, limitMeaning, LimitAt}
-use Rattle.profile.specs.declared.limits.Limit.the-variants.{Within, Nothing}
-use Rattle.profile.specs.declared.limits.Limit.{Limit as CodeLimit}
-use Rattle.profile.proofs.TypePlaces.{kept-other, kept-own}
+use Rattle.rules.specs.Types.{bodyAt}
+use Rattle.profile.specs.Variables.{DeclaredIs, LimitAt}
+use Rattle.profile.specs.Find.{Unnamed, NamedAt, FoundIs}
+use Rattle.profile.specs.declared.find.Found.{Found}
+use Rattle.profile.proofs.Declaring.{name-is}
+use Rattle.rules.specs.Tables.{IsTable}
+use Rattle.rules.specs.declared.tables.Table.{Table}
+use Rattle.rules.proofs.TypePlaces.{kept-other, kept-own}
 use Rattle.run.specs.Begun.{startStore, Begun}
-use Rattle.run.specs.Kept.{BodiesKept, YokesKept, LimitsKept, LimitPut}
-use Rattle.run.proofs.Unfilled.{start-count, start-at, start-cells, start-states}
+use Rattle.run.specs.Kept.{BodiesKept, YokesKept, LimitsFrom}
+use Rattle.run.proofs.Unfilled.{few-variables, start-count, start-at, start-cells, start-states}
 
 -- ---- bodies
 pub bodies-none : (rows variables : List ℕ) → length variables ≡ 1536 → BodiesKept rows variables 0
@@ -62,77 +75,146 @@ start-bodies rows limits variables kept n l =
     (sym (ap (λ (v : Variable). v .body) (start-at rows limits n inside) ∙ ap (λ (o : Result Body). bodyOr o) (h .is))) (h .holds)
 
 -- ---- limits
-same-limit : (before after : List ℤ) (at : ℕ) (limit : Option Limit) → ((j : ℕ) → j < at + 3 → getD after j (pos 0) ≡ getD before j (pos 0)) → LimitAt before at limit → LimitAt after at limit
+same-limit : (before after : List ℤ) (at : ℕ) (limit : Option Limit) → ((j : ℕ) → at ≤ j → j < at + 3 → getD after j (pos 0) ≡ getD before j (pos 0)) → LimitAt before at limit → LimitAt after at limit
 unfolding LimitAt
-same-limit before after at none s h = s at (omega arith) ∙ h
-same-limit before after at (some l) s (a, b, c) = (s at (omega arith) ∙ a, s (at + 1) (omega arith) ∙ b, s (at + 2) (omega arith) ∙ c)
+same-limit before after at none s h = s at (omega arith) (omega arith) ∙ h
+same-limit before after at (some l) s (a, b, c) = (s at (omega arith) (omega arith) ∙ a, s (at + 1) (omega arith) (omega arith) ∙ b, s (at + 2) (omega arith) (omega arith) ∙ c)
 
-pub limits-none : (rows limits : List ℕ) (kept : List ℤ) → length kept ≡ 48 → LimitsKept rows limits kept 0
-limits-none rows limits kept l = record { room = l; each = λ d h. absurd (let k : ⊥ = omega arith in k) }
+zeros : (n i : ℕ) → getD (replicate n (pos 0)) i (pos 0) ≡ pos 0
+zeros zero i = refl
+zeros (suc n) zero = refl
+zeros (suc n) (suc i) = zeros n i
 
-pub limits-more : (rows limits : List ℕ) (before after : List ℤ) (d : ℕ) (limit : Option Limit) → LimitsKept rows limits before d
-    → limit ≡ limitOf limits (nameAt rows declaration-section d) → LimitPut before after d limit → LimitsKept rows limits after (d + 1)
-limits-more rows limits before after d limit kept e put =
+-- behind the last row there is no limit
+pub limits-none : (rows limits : List ℕ) (kept : List ℤ) (n l : ℕ) → kept ≡ replicate n (pos 0) → n ≡ 48 → l ≡ pairCount limits limit-section → LimitsFrom rows limits kept l
+unfolding limitFrom LimitAt
+limits-none rows limits kept n l e m q =
     record {
-      room = put .same-length ∙ kept .room;
-      each = λ p l. ⊎-elim
-          (λ m. same-limit before after (3 * p) _ (λ j k. put .others j (omega arith)) (kept .each p m))
-          (λ m. subst (λ (j : ℕ). LimitAt after (3 * j) (limitOf limits (nameAt rows declaration-section j))) (sym m) (subst (λ (o : Option Limit). LimitAt after (3 * d) o) e (put .own)))
-          (below-suc d p (let z : p < suc d = omega arith in z));
+      room = ap length e ∙ length-replicate n (pos 0) ∙ m;
+      each = λ d h. subst (λ (k : ℕ). LimitAt kept (3 * d) (limitFrom l k limits (nameAt rows declaration-section d)))
+          (let z : 0 ≡ pairCount limits limit-section - l = omega arith in z)
+          (ap (λ (x : List ℤ). getD x (3 * d) (pos 0)) e ∙ zeros n (3 * d));
     }
 
-pub all-limits : (rows limits : List ℕ) (kept : List ℤ) (d : ℕ) → d ≡ pairCount rows declaration-section → LimitsKept rows limits kept d → LimitsKept rows limits kept (pairCount rows declaration-section)
-all-limits rows limits kept d e h = subst (λ (n : ℕ). LimitsKept rows limits kept n) e h
+other-way : (a b : List ℕ) → sameText a b ≡ false → sameText b a ≡ false
+other-way a b e = by (sameText b a) refl
+  where
+    by : (t : Bool) → sameText b a ≡ t → sameText b a ≡ false
+    by true q = true-is-false (sym (ap (λ (x : List ℕ). sameText a x) (same-text b a q) ∙ text-same a) ∙ e)
+    by false q = q
 
-pub start-limits : (rows limits : List ℕ) (kept : List ℤ) → LimitsKept rows limits kept (pairCount rows declaration-section) → (n : ℕ) → n < length (startStore rows limits)
+-- the cells of a variable's limit, once they are written
+unfoldable within : List ℤ → ℕ → ℤ → ℤ → List ℤ
+within kept d low high = set (set (set kept (3 * d) (pos 1)) (3 * d + 1) low) (3 * d + 2) high
+
+within-length : (kept : List ℤ) (d : ℕ) (low high : ℤ) → length (within kept d low high) ≡ length kept
+unfolding within
+within-length kept d low high =
+    length-set (set (set kept (3 * d) (pos 1)) (3 * d + 1) low) (3 * d + 2) high ∙ length-set (set kept (3 * d) (pos 1)) (3 * d + 1) low ∙ length-set kept (3 * d) (pos 1)
+
+within-other : (kept : List ℤ) (d : ℕ) (low high : ℤ) (j : ℕ) → (j ≡ 3 * d + 2 → ⊥) → (j ≡ 3 * d + 1 → ⊥) → (j ≡ 3 * d → ⊥) → getD (within kept d low high) j (pos 0) ≡ getD kept j (pos 0)
+unfolding within
+within-other kept d low high j p q r =
+    getD-set-other (set (set kept (3 * d) (pos 1)) (3 * d + 1) low) (3 * d + 2) j high (pos 0) p
+    ∙ getD-set-other (set kept (3 * d) (pos 1)) (3 * d + 1) j low (pos 0) q
+    ∙ getD-set-other kept (3 * d) j (pos 1) (pos 0) r
+
+within-own : (kept : List ℤ) (d : ℕ) (l : Limit) → 3 * d + 3 ≤ length kept → LimitAt (within kept d (l .low) (l .high)) (3 * d) (some l)
+unfolding LimitAt within
+within-own kept d l h =
+    let a = set kept (3 * d) (pos 1) in
+    let b = set a (3 * d + 1) (l .low) in
+    let la = length-set kept (3 * d) (pos 1) in
+    let lb = length-set a (3 * d + 1) (l .low) in (
+      getD-set-other b (3 * d + 2) (3 * d) (l .high) (pos 0) (λ e. omega arith)
+          ∙ getD-set-other a (3 * d + 1) (3 * d) (l .low) (pos 0) (λ e. omega arith)
+          ∙ getD-set-same kept (3 * d) (pos 1) (pos 0) (omega arith),
+      getD-set-other b (3 * d + 2) (3 * d + 1) (l .high) (pos 0) (λ e. omega arith)
+          ∙ getD-set-same a (3 * d + 1) (l .low) (pos 0) (omega arith),
+      getD-set-same b (3 * d + 2) (l .high) (pos 0) (omega arith),
+    )
+
+-- one row more: its limit is that of the variable that has its name, and of no other
+module _ (rows limits : List ℕ) (kept : List ℤ) (l : ℕ) (inside : l < pairCount limits limit-section) (h : LimitsFrom rows limits kept (l + 1)) where
+  abbrev name : List ℕ
+  name = nameAt limits limit-section l
+
+  abbrev later : ℕ → Option Limit
+  later d = limitFrom (l + 1) (pairCount limits limit-section - (l + 1)) limits (nameAt rows declaration-section d)
+
+  turn : (d : ℕ) (t : Bool) → sameText name (nameAt rows declaration-section d) ≡ t → limitFrom l (pairCount limits limit-section - l) limits (nameAt rows declaration-section d) ≡ limitIf t (limitRow limits l) (later d)
+  unfolding limitFrom
+  turn d t e =
+      ap (λ (n : ℕ). limitFrom l n limits (nameAt rows declaration-section d)) (let q : pairCount limits limit-section - l ≡ suc (pairCount limits limit-section - (l + 1)) = omega arith in q)
+      ∙ ap (λ (b : Bool). limitIf b (limitRow limits l) (limitFrom (suc l) (pairCount limits limit-section - (l + 1)) limits (nameAt rows declaration-section d))) e
+      ∙ ap (λ (k : ℕ). limitIf t (limitRow limits l) (limitFrom k (pairCount limits limit-section - (l + 1)) limits (nameAt rows declaration-section d))) (sym (add-one l))
+
+  not-its : (after : List ℤ) (d : ℕ) → d < pairCount rows declaration-section → sameText name (nameAt rows declaration-section d) ≡ false
+      → ((j : ℕ) → 3 * d ≤ j → j < 3 * d + 3 → getD after j (pos 0) ≡ getD kept j (pos 0))
+      → LimitAt after (3 * d) (limitFrom l (pairCount limits limit-section - l) limits (nameAt rows declaration-section d))
+  not-its after d i e s = subst (λ (o : Option Limit). LimitAt after (3 * d) o) (sym (turn d false e)) (same-limit kept after (3 * d) (later d) s (h .each d i))
+
+  pub limit-of-none : Unnamed rows name (pairCount rows declaration-section) → LimitsFrom rows limits kept l
+  limit-of-none u = record { room = h .room; each = λ d i. not-its kept d i (other-way _ _ (u .other d i)) (λ j a b. refl) }
+
+  module _ (names : nameWrong profile rows ≡ false) (few : pairCount rows declaration-section ≤ most-variables) (n : ℕ) (at : NamedAt rows name n) where
+    its : nameAt rows declaration-section n ≡ name
+    its = same-text _ _ (at .named)
+
+    own : LimitAt (within kept n (limitRow limits l .low) (limitRow limits l .high)) (3 * n) (limitFrom l (pairCount limits limit-section - l) limits (nameAt rows declaration-section n))
+    own =
+        subst (λ (o : Option Limit). LimitAt (within kept n (limitRow limits l .low) (limitRow limits l .high)) (3 * n) o)
+        (sym (turn n true (ap (λ (x : List ℕ). sameText name x) its ∙ text-same name)))
+        (within-own kept n (limitRow limits l) (omega (arith, h .room, at .there)))
+
+    others : (d : ℕ) → d < pairCount rows declaration-section → (d ≡ n → ⊥) → ((j : ℕ) → 3 * d ≤ j → j < 3 * d + 3 → getD (within kept n (limitRow limits l .low) (limitRow limits l .high)) j (pos 0) ≡ getD kept j (pos 0))
+        → LimitAt (within kept n (limitRow limits l .low) (limitRow limits l .high)) (3 * d) (limitFrom l (pairCount limits limit-section - l) limits (nameAt rows declaration-section d))
+    others d i other s = by (sameText name (nameAt rows declaration-section d)) refl
+      where
+        by : (t : Bool) → sameText name (nameAt rows declaration-section d) ≡ t → LimitAt (within kept n (limitRow limits l .low) (limitRow limits l .high)) (3 * d) (limitFrom l (pairCount limits limit-section - l) limits (nameAt rows declaration-section d))
+        by true q = absurd (other (one-variable rows names d n i (at .there) (sym (same-text _ _ q) ∙ sym its)))
+        by false q = not-its _ d i q s
+
+    limit-of-its : LimitsFrom rows limits (within kept n (limitRow limits l .low) (limitRow limits l .high)) l
+    limit-of-its = record { room = within-length kept n (limitRow limits l .low) (limitRow limits l .high) ∙ h .room; each = λ d i. by d i (ltb d n) (ltb n d) refl refl }
+      where
+        by : (d : ℕ) → d < pairCount rows declaration-section → (a b : Bool) → ltb d n ≡ a → ltb n d ≡ b
+            → LimitAt (within kept n (limitRow limits l .low) (limitRow limits l .high)) (3 * d) (limitFrom l (pairCount limits limit-section - l) limits (nameAt rows declaration-section d))
+        by d i true b p q =
+            let less : d < n = ltb-true d n p in
+            others d i (λ e. omega arith) (λ j x y. within-other kept n _ _ j (λ e. omega arith) (λ e. omega arith) (λ e. omega arith))
+        by d i false true p q =
+            let more : n < d = ltb-true n d q in
+            others d i (λ e. omega arith) (λ j x y. within-other kept n _ _ j (λ e. omega arith) (λ e. omega arith) (λ e. omega arith))
+        by d i false false p q =
+            let e : n ≡ d = omega (arith, ltb-false d n p, ltb-false n d q) in
+            subst (λ (k : ℕ). LimitAt (within kept n (limitRow limits l .low) (limitRow limits l .high)) (3 * k) (limitFrom l (pairCount limits limit-section - l) limits (nameAt rows declaration-section k))) e own
+
+    -- an end comes back from its cell as it was: it fits one
+    pub limit-kept : (low high : ℤ) → low ≡ limitRow limits l .low → high ≡ limitRow limits l .high → mag low < 9223372036854775808 → mag high < 9223372036854775808
+        → LimitsFrom rows limits (set (set (set kept (3 * n) (pos 1)) (3 * n + 1) (toZ w64 (ofZ w64 low))) (3 * n + 2) (toZ w64 (ofZ w64 high))) l
+    unfolding within
+    limit-kept low high e f p q =
+        rw (toZ-ofZ w64 low (record { sfits = p }), toZ-ofZ w64 high (record { sfits = q }), e, f) limit-of-its
+
+-- what the search for a limit's name finds
+pub find-name : (rows limits : List ℕ) (u : Table) (l : ℕ) (r : Found) (cs : List ℕ) → IsTable limits limit-section u → cs ≡ bytesAt limits (u .start + 2 * l) → FoundIs r rows cs → FoundIs r rows (nameAt limits limit-section l)
+find-name rows limits u l r cs is e h = subst (λ (n : List ℕ). FoundIs r rows n) (name-is limits limit-section u is l cs e) h
+
+pub found-room : (rows limits : List ℕ) (kept : List ℤ) (l d : ℕ) {name : List ℕ} → AcceptedRows rows → LimitsFrom rows limits kept l → NamedAt rows name d → 3 * d + 3 ≤ length kept
+found-room rows limits kept l d a h at = omega (arith, few-variables rows a, h .room, at .there)
+
+pub start-limits : (rows limits : List ℕ) (kept : List ℤ) → LimitsFrom rows limits kept 0 → (n : ℕ) → n < length (startStore rows limits)
     → LimitAt kept (3 * n) (variableAt (startStore rows limits) n .limit)
-unfolding declarationAt
+unfolding declarationAt limitOf
 start-limits rows limits kept h n l =
     let inside : n < pairCount rows declaration-section = omega (arith, start-count rows limits) in
-    subst (λ (o : Option Limit). LimitAt kept (3 * n) o) (sym (ap (λ (v : Variable). v .limit) (start-at rows limits n inside))) (h .each n inside)
-
--- a limit is put: its flag and its ends, or the flag alone
-put-within : (kept : List ℤ) (d : ℕ) (low high : ℤ) → 3 * d + 3 ≤ length kept
-    → LimitPut kept (set (set (set kept (3 * d) (pos 1)) (3 * d + 1) low) (3 * d + 2) high) d (limitMeaning (Within low high))
-unfolding limitMeaning LimitAt
-put-within kept d low high h =
-    let a = set kept (3 * d) (pos 1) in
-    let b = set a (3 * d + 1) low in
-    let la = length-set kept (3 * d) (pos 1) in
-    let lb = length-set a (3 * d + 1) low in
-    let other : (j : ℕ) → j < 3 * d → getD (set b (3 * d + 2) high) j (pos 0) ≡ getD kept j (pos 0) = λ j l.
-    getD-set-other b (3 * d + 2) j high (pos 0) (λ e. omega arith)
-    ∙ getD-set-other a (3 * d + 1) j low (pos 0) (λ e. omega arith)
-    ∙ getD-set-other kept (3 * d) j (pos 1) (pos 0) (λ e. omega arith) in
-    record {
-      same-length = length-set b (3 * d + 2) high ∙ lb ∙ la;
-      own = (
-        getD-set-other b (3 * d + 2) (3 * d) high (pos 0) (λ e. omega arith)
-            ∙ getD-set-other a (3 * d + 1) (3 * d) low (pos 0) (λ e. omega arith)
-            ∙ getD-set-same kept (3 * d) (pos 1) (pos 0) (omega arith),
-        getD-set-other b (3 * d + 2) (3 * d + 1) high (pos 0) (λ e. omega arith)
-            ∙ getD-set-same a (3 * d + 1) low (pos 0) (omega arith),
-        getD-set-same b (3 * d + 2) high (pos 0) (omega arith),
-      );
-      others = other;
-    }
-
-put-nothing : (kept : List ℤ) (d : ℕ) → 3 * d + 3 ≤ length kept → LimitPut kept (set kept (3 * d) (pos 0)) d (limitMeaning Nothing)
-unfolding limitMeaning LimitAt
-put-nothing kept d h =
-    record { same-length = length-set kept (3 * d) (pos 0); own = getD-set-same kept (3 * d) (pos 0) (pos 0) (omega arith); others = λ j l. getD-set-other kept (3 * d) j (pos 0) (pos 0) (λ e. omega arith) }
-
--- an end comes back from its cell as it was: it fits one
-pub kept-within : (kept : List ℤ) (d : ℕ) (limit : CodeLimit) (low high : ℤ) → limit ≡ Within low high → mag low < 9223372036854775808 → mag high < 9223372036854775808 → 3 * d + 3 ≤ length kept
-    → LimitPut kept (set (set (set kept (3 * d) (pos 1)) (3 * d + 1) (toZ w64 (ofZ w64 low))) (3 * d + 2) (toZ w64 (ofZ w64 high))) d (limitMeaning limit)
-kept-within kept d limit low high e p q h =
-    rw (toZ-ofZ w64 low (record { sfits = p }), toZ-ofZ w64 high (record { sfits = q }), e) (put-within kept d low high h)
-
-pub kept-nothing : (kept : List ℤ) (d : ℕ) (limit : CodeLimit) → limit ≡ Nothing → 3 * d + 3 ≤ length kept → LimitPut kept (set kept (3 * d) (pos 0)) d (limitMeaning limit)
-kept-nothing kept d limit e h = rw e (put-nothing kept d h)
+    let all : pairCount limits limit-section - 0 ≡ pairCount limits limit-section = omega arith in
+    subst (λ (o : Option Limit). LimitAt kept (3 * n) o)
+    (ap (λ (k : ℕ). limitFrom 0 k limits (nameAt rows declaration-section n)) all ∙ sym (ap (λ (v : Variable). v .limit) (start-at rows limits n inside))) (h .each n inside)
 
 -- ---- all of it
 pub begun : (rows limits : List ℕ) (kept cells : List ℤ) (states : List ℕ) → AcceptedRows rows → cells ≡ replicate cells-length (pos 0)
-    → YokesKept rows states (pairCount rows declaration-section) → LimitsKept rows limits kept (pairCount rows declaration-section) → Begun rows limits kept cells states
+    → YokesKept rows states (pairCount rows declaration-section) → LimitsFrom rows limits kept 0 → Begun rows limits kept cells states
 begun rows limits kept cells states h e y l =
     record { cells-are = start-cells rows limits cells h e; states-are = start-states rows limits states y; count = start-count rows limits; room = l .room; limited = start-limits rows limits kept l }

@@ -1,33 +1,32 @@
 -- A variable's part of the caller's memory: its cells, its filled flag and its yoke's number are where the definitions put them. Assumes
 -- nothing.
 use mathlib.Core.Path.{_≡_, refl, sym, ap, _∙_}
+use mathlib.Core.Bool.{true, false}
 use mathlib.Core.List.{List, [], _∷_}
 use mathlib.Core.Option.{Option, some, none}
 use Prim.Native.Nat.{ℕ, suc, _+_, _-_, _*_, _≤_, _<_}
 use native.Mathlib.Omega.{arith}
 use lib.IntN.{ℤ, pos}
-use lib.ListN.{length, take, drop, getD, replicate, length-append, length-replicate}
-use lib.Seq.{take-at, take-take, getD-take, getD-drop}
-use Rattle.lingua.specs.Numbers.{body-cells, cells-length, states-length, expression-section}
+use lib.Dec.{eqb}
+use lib.ListN.{length, take, drop}
+use lib.Seq.{take-at, take-take}
+use borrow.Author.Tests.{eqb-true, eqb-false, not-true, not-false}
+use Rattle.lingua.specs.Numbers.{body-cells, states-length, expression-section}
 use Rattle.lingua.specs.Body.{size}
 use Rattle.lingua.specs.Value.{pad, cellsOf, Composite}
 use Rattle.lingua.specs.Expression.{yokeNumber}
 use Rattle.lingua.specs.Rows.{tableCount}
-use Rattle.lingua.specs.Store.{Variable, variableAt, contentCells, filledFlag, storeCells, storeStates, cellsIn, statesIn}
+use Rattle.lingua.specs.Store.{Variable, variableAt, contentCells, filledFlag, cellsIn, flagPlace, yokePlace, flagAt, yokeAt, filledAt}
 use Rattle.lingua.specs.Trees.{yokeTree}
 use Rattle.lingua.specs.Typing.{Bodies}
 use Rattle.laws.specs.Lengths.{length-cells}
-use Rattle.laws.specs.Stores.{Small, small-none, small-more, cells-at, states-at}
+use Rattle.laws.specs.Stores.{Small, small-none, small-more, cells-at, cells-long, states-long, yoke-room, flag-room, flag-at, yoke-at}
 use Rattle.safety.specs.Constants.{Fitting}
 use Rattle.safety.specs.TypeSound.{VariablesFit}
 use Rattle.safety.specs.Named.{number-of}
 use Rattle.profile.specs.Yokes.{YokeOf}
 use Rattle.cells.specs.Stack.{Lies}
 use Rattle.run.specs.Memory.{Memory}
-
-pad-long : {A : Type 0} (n : ℕ) (z : A) (xs : List A) → n ≤ length (pad n z xs)
-unfolding pad
-pad-long n z xs = omega (arith, length-append xs (replicate (n - length xs) z), length-replicate (n - length xs) z)
 
 small-by : (vs : List Variable) → ((n : ℕ) → n < length vs → length (contentCells (variableAt vs n .content)) ≤ body-cells) → Small vs
 small-by [] f = small-none
@@ -55,54 +54,48 @@ module _ {cells : List ℤ} {states : List ℕ} {vs : List Variable} {vars : Bod
   module _ (n : ℕ) (lt : n < length vs) where
     -- ---- its room
     pub cells-room : body-cells * n + body-cells ≤ length cells
-    unfolding cellsIn
-    cells-room = omega (arith, ap (λ (l : List ℤ). length l) (h .cells-are), pad-long cells-length (pos 0) (storeCells vs), h .few, lt)
+    cells-room = omega (arith, ap (λ (l : List ℤ). length l) (h .cells-are), cells-long vs, h .few, lt)
 
-    pub word-room : 2 * n + 1 < length states
-    unfolding statesIn
-    word-room = omega (arith, ap (λ (l : List ℕ). length l) (h .states-are), pad-long states-length 0 (storeStates vs), h .few, lt)
+    long : states-length ≤ length states
+    long = omega (arith, ap (λ (l : List ℕ). length l) (h .states-are), states-long vs)
 
-    pub states-room : 2 * n < length states
-    states-room = omega (arith, word-room)
+    pub word-room : yokePlace n < length states
+    word-room = yoke-room states n long (omega (arith, h .few, lt))
+
+    pub states-room : flagPlace n < length states
+    states-room = flag-room states n long (omega (arith, h .few, lt))
 
     -- ---- its two state words
-    flag-is : getD states (2 * n) 0 ≡ filledFlag (variableAt vs n .content)
-    flag-is =
-        ap (λ (l : List ℕ). getD l (2 * n) 0) (h .states-are)
-        ∙ ap (λ (k : ℕ). getD (statesIn vs) k 0) (let e : 2 * n ≡ 2 * n + 0 = omega arith in e)
-        ∙ sym (getD-drop (2 * n) (statesIn vs) 0 0)
-        ∙ sym (getD-take 2 (drop (2 * n) (statesIn vs)) 0 0 (omega arith))
-        ∙ ap (λ (l : List ℕ). getD l 0 0) (states-at vs n lt)
+    flag-is : flagAt states n ≡ filledFlag (variableAt vs n .content)
+    flag-is = ap (λ (l : List ℕ). flagAt l n) (h .states-are) ∙ flag-at vs n lt
 
-    pub unfilled-is : getD states (2 * n) 0 ≡ 0 → variableAt vs n .content ≡ none
-    unfilled-is e = by (variableAt vs n .content) (sym flag-is ∙ e)
+    pub unfilled-is : filledAt states n ≡ false → variableAt vs n .content ≡ none
+    unfolding filledAt
+    unfilled-is e = by (variableAt vs n .content) (sym flag-is ∙ eqb-true (flagAt states n) 0 (not-false (eqb (flagAt states n) 0) e))
       where
         by : (c : Option Composite) → filledFlag c ≡ 0 → c ≡ none
         by none q = refl
         by (some x) q = absurd (let k : ⊥ = omega arith in k)
 
-    pub filled-is : (getD states (2 * n) 0 ≡ 0 → ⊥) → (x : Composite) × (variableAt vs n .content ≡ some x)
-    filled-is f = by (variableAt vs n .content) (λ q. f (flag-is ∙ q))
+    pub filled-is : filledAt states n ≡ true → (x : Composite) × (variableAt vs n .content ≡ some x)
+    unfolding filledAt
+    filled-is e = by (variableAt vs n .content) (λ q. eqb-false (flagAt states n) 0 (not-true (eqb (flagAt states n) 0) e) (flag-is ∙ q))
       where
         by : (c : Option Composite) → (filledFlag c ≡ 0 → ⊥) → (x : Composite) × (c ≡ some x)
         by none g = absurd (g refl)
         by (some x) g = (x, refl)
 
-    word-is : getD states (2 * n + 1) 0 ≡ yokeNumber (variableAt vs n .current)
-    word-is =
-        ap (λ (l : List ℕ). getD l (2 * n + 1) 0) (h .states-are)
-        ∙ sym (getD-drop (2 * n) (statesIn vs) 1 0)
-        ∙ sym (getD-take 2 (drop (2 * n) (statesIn vs)) 1 0 (omega arith))
-        ∙ ap (λ (l : List ℕ). getD l 1 0) (states-at vs n lt)
+    word-is : yokeAt states n ≡ yokeNumber (variableAt vs n .current)
+    word-is = ap (λ (l : List ℕ). yokeAt l n) (h .states-are) ∙ yoke-at vs n lt
 
     module _ {rows : List ℕ} (y : YokeOf rows (variableAt vs n .current)) where
-      yoke-number : getD states (2 * n + 1) 0 ≡ y .number
+      yoke-number : yokeAt states n ≡ y .number
       yoke-number = word-is ∙ ap yokeNumber (y .is) ∙ number-of rows (y .number)
 
-      pub yoke-there : getD states (2 * n + 1) 0 ≤ tableCount rows expression-section
+      pub yoke-there : yokeAt states n ≤ tableCount rows expression-section
       yoke-there = omega (arith, yoke-number, y .there)
 
-      pub own-yoke : yokeTree rows (getD states (2 * n + 1) 0) ≡ variableAt vs n .current
+      pub own-yoke : yokeTree rows (yokeAt states n) ≡ variableAt vs n .current
       own-yoke = ap (λ (k : ℕ). yokeTree rows k) yoke-number ∙ sym (y .is)
 
     -- ---- its value

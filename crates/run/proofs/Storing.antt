@@ -12,12 +12,12 @@ use Rattle.lingua.specs.Numbers.{body-cells, cells-length}
 use Rattle.lingua.specs.Body.{size}
 use Rattle.lingua.specs.Value.{pad, cellsOf, Composite}
 use Rattle.lingua.specs.Expression.{Yoke}
-use Rattle.lingua.specs.Store.{Variable, variableAt, withContent, withYoke, contentCells, filledFlag, storeCells, cellsIn, statesIn}
+use Rattle.lingua.specs.Store.{Variable, variableAt, withContent, withYoke, contentCells, storeCells, cellsIn, statesIn, fillAt, setYokeAt}
 use Rattle.lingua.specs.Trees.{yokeTree}
 use Rattle.lingua.specs.Typing.{Bodies}
 use Rattle.laws.specs.Lengths.{length-cells}
 use Rattle.laws.specs.Lists.{length-pad, drop-replicate}
-use Rattle.laws.specs.Stores.{variableCells, cells-at, cells-set, states-at, states-set}
+use Rattle.laws.specs.Stores.{variableCells, cells-at, cells-set, flag-set, yoke-set}
 use Rattle.safety.specs.Constants.{Fitting}
 use Rattle.safety.specs.Stored.{replaced}
 use Rattle.profile.specs.Variables.{LimitAt}
@@ -68,26 +68,8 @@ module _ {cells : List ℤ} {states : List ℕ} {vs : List Variable} {vars : Bod
       ∙ sym (cells-set vs n lt sm (withContent (variableAt vs n) x) short)
 
 -- ---- its filled flag
-no-two : {A : Type 0} {a b : ℕ} → _≡_ {A = List ℕ} [] (a ∷ b ∷ []) → A
-no-two e = absurd (let z : _≡_ {A = ℕ} 0 2 = ap (λ (l : List ℕ). length l) e in let k : ⊥ = omega arith in k)
-
-no-second : {A : Type 0} {x a b : ℕ} → _≡_ {A = List ℕ} (x ∷ []) (a ∷ b ∷ []) → A
-no-second e = absurd (let z : _≡_ {A = ℕ} 1 2 = ap (λ (l : List ℕ). length l) e in let k : ⊥ = omega arith in k)
-
-set-first : (l : List ℕ) (k a b c : ℕ) → take 2 (drop k l) ≡ a ∷ b ∷ [] → set l k c ≡ paste l k (c ∷ b ∷ []) 2
-set-first [] zero a b c e = no-two e
-set-first [] (suc k) a b c e = no-two e
-set-first (x ∷ []) zero a b c e = no-second e
-set-first (x ∷ y ∷ l) zero a b c e = let q : y ≡ b = cc in ap (λ (d : ℕ). c ∷ d ∷ l) q
-set-first (x ∷ l) (suc k) a b c e =
-    ap (λ (m : List ℕ). x ∷ m) (set-first l k a b c e)
-    ∙ ap (λ (j : ℕ). (take (suc k) (x ∷ l) ++ (c ∷ b ∷ [])) ++ drop j (x ∷ l)) (let q : suc (k + 2) ≡ suc k + 2 = omega arith in q)
-
-pub states-stored : {states : List ℕ} (vs : List Variable) (n : ℕ) (lt : n < length vs) (x : Composite) → states ≡ statesIn vs → set states (2 * n) 1 ≡ statesIn (set vs n (withContent (variableAt vs n) x))
-states-stored {states} vs n lt x e =
-    ap (λ (l : List ℕ). set l (2 * n) 1) e
-    ∙ set-first (statesIn vs) (2 * n) _ _ 1 (states-at vs n lt)
-    ∙ sym (states-set vs n lt (withContent (variableAt vs n) x))
+pub states-stored : {states : List ℕ} (vs : List Variable) (n : ℕ) (lt : n < length vs) (x : Composite) → states ≡ statesIn vs → fillAt states n ≡ statesIn (set vs n (withContent (variableAt vs n) x))
+states-stored {states} vs n lt x e = ap (λ (l : List ℕ). fillAt l n) e ∙ flag-set vs n lt x
 
 -- ---- a yoke change: only the variable's second state word changes
 same-contents : (vs : List Variable) (n : ℕ) (y : Yoke) → storeCells (set vs n (withYoke (variableAt vs n) y)) ≡ storeCells vs
@@ -100,22 +82,11 @@ pub cells-kept : {cells : List ℤ} (vs : List Variable) (n : ℕ) (y : Yoke) �
 unfolding cellsIn
 cells-kept vs n y e = e ∙ ap (λ (l : List ℤ). pad cells-length (pos 0) l) (sym (same-contents vs n y))
 
-set-second : (l : List ℕ) (k a b c : ℕ) → take 2 (drop k l) ≡ a ∷ b ∷ [] → set l (k + 1) c ≡ paste l k (a ∷ c ∷ []) 2
-set-second [] zero a b c e = no-two e
-set-second [] (suc k) a b c e = no-two e
-set-second (x ∷ []) zero a b c e = no-second e
-set-second (x ∷ y ∷ l) zero a b c e = let q : x ≡ a = cc in ap (λ (d : ℕ). d ∷ c ∷ l) q
-set-second (x ∷ l) (suc k) a b c e =
-    ap (λ (j : ℕ). set (x ∷ l) j c) (let q : suc k + 1 ≡ suc (k + 1) = omega arith in q)
-    ∙ ap (λ (m : List ℕ). x ∷ m) (set-second l k a b c e)
-    ∙ ap (λ (j : ℕ). (take (suc k) (x ∷ l) ++ (a ∷ c ∷ [])) ++ drop j (x ∷ l)) (let q : suc (k + 2) ≡ suc k + 2 = omega arith in q)
-
-pub words-changed : {states : List ℕ} (rows : List ℕ) (vs : List Variable) (n : ℕ) (lt : n < length vs) (y : ℕ) → states ≡ statesIn vs → set states (2 * n + 1) y ≡ statesIn (set vs n (withYoke (variableAt vs n) (yokeTree rows y)))
+pub words-changed : {states : List ℕ} (rows : List ℕ) (vs : List Variable) (n : ℕ) (lt : n < length vs) (y : ℕ) → states ≡ statesIn vs → setYokeAt states n y ≡ statesIn (set vs n (withYoke (variableAt vs n) (yokeTree rows y)))
 words-changed rows vs n lt y e =
-    ap (λ (l : List ℕ). set l (2 * n + 1) y) e
-    ∙ set-second (statesIn vs) (2 * n) _ _ y (states-at vs n lt)
-    ∙ ap (λ (k : ℕ). paste (statesIn vs) (2 * n) (filledFlag (variableAt vs n .content) ∷ k ∷ []) 2) (sym (number-of rows y))
-    ∙ sym (states-set vs n lt (withYoke (variableAt vs n) (yokeTree rows y)))
+    ap (λ (l : List ℕ). setYokeAt l n y) e
+    ∙ ap (λ (k : ℕ). setYokeAt (statesIn vs) n k) (sym (number-of rows y))
+    ∙ yoke-set vs n lt (yokeTree rows y)
 
 -- ---- what is asked of every variable, where one is replaced
 module _ (vs : List Variable) (n : ℕ) (v : Variable) where

@@ -6,23 +6,22 @@ use Prim.Native.Nat.{ℕ, zero, suc, _+_, _-_, _*_, _/_, _≤_, _<_}
 use native.Mathlib.Numerals.{add-one}
 use native.Mathlib.Omega.{arith}
 use lib.IntN.{ℤ, pos}
-use lib.ListN.{length, getD, take, set, replicate, length-replicate, length-map, replicate-append-replicate}
+use lib.ListN.{length, getD, take, replicate, length-replicate, length-map, replicate-append-replicate}
 use lib.Seq.{take-suc, take-all, length-take-le}
 use Rattle.lingua.specs.Numbers.{most-variables, body-cells, cells-length, states-length, declaration-section}
 use Rattle.lingua.specs.Value.{pad}
 use Rattle.lingua.specs.Expression.{yokeNumber}
-use Rattle.lingua.specs.Store.{Variable, no-variable, variableAt, contentCells, filledFlag, storeCells, storeStates, cellsIn, statesIn}
+use Rattle.lingua.specs.Store.{Variable, no-variable, variableAt, contentCells, storeCells, storeStates, cellsIn, statesIn, setYokeAt}
 use Rattle.lingua.specs.Rows.{pairCount}
 use Rattle.lingua.specs.Run.{Declaration, unfilled}
 use Rattle.lingua.specs.References.{declaredYoke}
 use Rattle.lingua.specs.Trees.{tabulateFrom, tabulate, declarationAt, profileOf}
-use Rattle.laws.specs.Lists.{pad-free, pad-append}
-use Rattle.laws.specs.Stores.{store-states-parts, states-sized, variableStates, length-parts}
+use Rattle.laws.specs.Stores.{yoke-more}
 use Rattle.safety.specs.Accepted.{AcceptedRows}
 use Rattle.safety.specs.Passed.{tabulated-at}
 use Rattle.rules.specs.Tables.{IsTable}
 use Rattle.rules.specs.declared.tables.Table.{Table}
-use Rattle.profile.specs.Accepted.{counts}
+use Rattle.rules.specs.Accepted.{counts}
 use Rattle.safety.specs.Named.{number-of}
 use Rattle.run.specs.Begun.{startStore}
 use Rattle.run.specs.Kept.{YokesKept}
@@ -82,32 +81,6 @@ declared-number : (rows limits : List ℕ) (d : ℕ) → yokeNumber (declaration
 unfolding declarationAt declaredYoke
 declared-number rows limits d = number-of rows (declaredYoke rows d)
 
-set-second : (xs : List ℕ) (a b y : ℕ) (r : List ℕ) → set (xs ++ (a ∷ b ∷ r)) (suc (length xs)) y ≡ xs ++ (a ∷ y ∷ r)
-set-second [] a b y r = refl
-set-second (x ∷ xs) a b y r = ap (λ (l : List ℕ). x ∷ l) (set-second xs a b y r)
-
-states-append : (vs : List Variable) (d : Declaration) → storeStates (vs ++ (unfilled d ∷ [])) ≡ storeStates vs ++ (0 ∷ yokeNumber (d .declared) ∷ [])
-unfolding storeStates
-states-append [] d = refl
-states-append (v ∷ vs) d = ap (λ (l : List ℕ). filledFlag (v .content) ∷ yokeNumber (v .current) ∷ l) (states-append vs d)
-
-length-states : (vs : List Variable) → length (storeStates vs) ≡ 2 * length vs
-length-states vs = ap (λ (l : List ℕ). length l) (store-states-parts vs) ∙ length-parts variableStates 2 vs (states-sized vs)
-
--- one variable more
-states-more : (vs : List Variable) (d : Declaration) → length vs < most-variables → statesIn (vs ++ (unfilled d ∷ [])) ≡ set (statesIn vs) (2 * length vs + 1) (yokeNumber (d .declared))
-unfolding statesIn
-states-more vs d h =
-    let xs = storeStates vs in
-    let y = yokeNumber (d .declared) in
-    let at : suc (length xs) ≡ 2 * length vs + 1 = omega (arith, length-states vs) in
-    let room : length xs + 2 ≤ states-length = omega (arith, length-states vs) in
-    ap (λ (l : List ℕ). pad states-length 0 l) (states-append vs d)
-    ∙ pad-append states-length 0 xs (0 ∷ y ∷ [])
-    ∙ sym (set-second xs 0 0 y (replicate (states-length - (length xs + 2)) 0))
-    ∙ ap (λ (l : List ℕ). set l (suc (length xs)) y) (sym (pad-free states-length 2 0 xs room))
-    ∙ ap (λ (k : ℕ). set (pad states-length 0 xs) k y) at
-
 pub states-long : (states : List ℕ) → states ≡ replicate states-length 0 → length states ≡ states-length
 states-long states e = ap (λ (l : List ℕ). length l) e ∙ length-replicate {A = ℕ} states-length 0
 
@@ -115,19 +88,19 @@ pub yokes-none : (rows states : List ℕ) → states ≡ replicate states-length
 unfolding statesIn storeStates pad
 yokes-none rows states e = record { is = λ limits. e }
 
-pub yokes-more : (rows states : List ℕ) (d y : ℕ) → AcceptedRows rows → d < pairCount rows declaration-section → YokesKept rows states d → y ≡ declaredYoke rows d → YokesKept rows (set states (2 * d + 1) y) (d + 1)
-yokes-more rows states d y h l k e = record { is = one }
+pub yokes-more : (rows states : List ℕ) (d y : ℕ) → AcceptedRows rows → d < pairCount rows declaration-section → YokesKept rows states d → y ≡ declaredYoke rows d → (after : List ℕ) → after ≡ setYokeAt states d y → YokesKept rows after (d + 1)
+yokes-more rows states d y h l k e after q = record { is = λ limits. q ∙ one limits }
   where
-    one : (limits : List ℕ) → set states (2 * d + 1) y ≡ statesIn (take (d + 1) (startStore rows limits))
+    one : (limits : List ℕ) → setYokeAt states d y ≡ statesIn (take (d + 1) (startStore rows limits))
     one limits =
         let vs = startStore rows limits in
         let n = start-count rows limits in
         let w = declarationAt rows limits d in
         let m : length (take d vs) ≡ d = length-take-le d vs (omega arith) in
-        ap (λ (s : List ℕ). set s (2 * d + 1) y) (k .is limits)
-        ∙ ap (λ (z : ℕ). set (statesIn (take d vs)) (2 * d + 1) z) (e ∙ sym (declared-number rows limits d))
-        ∙ ap (λ (j : ℕ). set (statesIn (take d vs)) (2 * j + 1) (yokeNumber (w .declared))) (sym m)
-        ∙ sym (states-more (take d vs) w (omega (arith, m, few-variables rows h)))
+        ap (λ (s : List ℕ). setYokeAt s d y) (k .is limits)
+        ∙ ap (λ (z : ℕ). setYokeAt (statesIn (take d vs)) d z) (e ∙ sym (declared-number rows limits d))
+        ∙ ap (λ (j : ℕ). setYokeAt (statesIn (take d vs)) j (yokeNumber (w .declared))) (sym m)
+        ∙ sym (yoke-more (take d vs) w (omega (arith, m, few-variables rows h)))
         ∙ ap (λ (v : Variable). statesIn (take d vs ++ (v ∷ []))) (sym (start-at rows limits d l))
         ∙ ap (λ (us : List Variable). statesIn us) (sym (take-suc vs d no-variable (omega arith)))
         ∙ ap (λ (j : ℕ). statesIn (take j vs)) (sym (add-one d))

@@ -9,30 +9,30 @@ use Rattle.lingua.specs.Outcome.{ok, fail, Result}
 use Rattle.lingua.specs.Store.{Variable}
 use Rattle.lingua.specs.Expression.{skip}
 use Rattle.lingua.specs.Run.{State, Progress, going, out, settled, act, decided, exec}
-use Rattle.run.specs.declared.steps.Moment.{Moment}
+use Rattle.run.specs.declared.steps.Status.{Status}
 use Rattle.run.specs.declared.steps.Truth.{Truth}
-use Rattle.run.specs.Moments.{stateOf, progressOf, onward, StepOf, recorded}
+use Rattle.run.specs.Statuses.{stateOf, progressOf, onward, StepOf, recorded}
 use Rattle.run.specs.Reached.{Lent, Holding, Going, Reached, Passes, Settles, Tells}
 use Rattle.run.specs.Steps.{act-passed, act-steps}
 
 -- ---- the moment
-pub still-going : (m : Moment) (s : State) → m .out ≡ false → going s ≡ progressOf (m .out) s
+pub still-going : (m : Status) (s : State) → m .out ≡ false → going s ≡ progressOf (m .out) s
 still-going m s e = sym (ap (λ (b : Bool). progressOf b s) e)
 
-pub now-out : (m : Moment) (s : State) → m .out ≡ true → out s ≡ progressOf (m .out) s
+pub now-out : (m : Status) (s : State) → m .out ≡ true → out s ≡ progressOf (m .out) s
 now-out m s e = sym (ap (λ (b : Bool). progressOf b s) e)
 
-module _ {m r : Moment} (g : Going m) (h : StepOf m r) where
+module _ {m r : Status} (g : Going m) (h : StepOf m r) where
   pub clean-after : r .error ≡ 0 → r .place ≡ 0
   clean-after e = h .place ∙ g .clean (sym (h .error) ∙ e)
 
   pub going-after : r .out ≡ false → Going r
   going-after e = record { not-out = e; clean = clean-after }
 
-pub passed-over : (m : Moment) (vs : List Variable) (f : State → Progress) → Going m → (m .error ≡ 0 → ⊥) → act (stateOf m vs) f ≡ progressOf (m .out) (stateOf m vs)
+pub passed-over : (m : Status) (vs : List Variable) (f : State → Progress) → Going m → (m .error ≡ 0 → ⊥) → act (stateOf m vs) f ≡ progressOf (m .out) (stateOf m vs)
 passed-over m vs f g h = act-passed (stateOf m vs) f h ∙ still-going m (stateOf m vs) (g .not-out)
 
-module _ {m r : Moment} (h : StepOf m r) (e : m .error ≡ 0) (vs : List Variable) (f : State → Progress) where
+module _ {m r : Status} (h : StepOf m r) (e : m .error ≡ 0) (vs : List Variable) (f : State → Progress) where
   acted : act (stateOf m vs) f ≡ onward (r .out) (stateOf r vs) f
   acted = act-steps (stateOf m vs) f e ∙ h .is vs f
 
@@ -43,7 +43,7 @@ module _ {m r : Moment} (h : StepOf m r) (e : m .error ≡ 0) (vs : List Variabl
   act-on q = acted ∙ ap (λ (b : Bool). onward b (stateOf r vs) f) q
 
 -- ---- skip
-pub skip-passed : {m : Moment} (row : ℕ) → Going m → (m .error ≡ 0 → ⊥) → Passes m m (skip row)
+pub skip-passed : {m : Status} (row : ℕ) → Going m → (m .error ≡ 0 → ⊥) → Passes m m (skip row)
 unfolding exec
 skip-passed {m} row g h = record { is = λ vs. passed-over m vs (λ t. going t) g h; clean = g .clean }
 
@@ -51,7 +51,7 @@ onward-going : (b : Bool) (s : State) → onward b s (λ t. going t) ≡ progres
 onward-going true s = refl
 onward-going false s = refl
 
-pub skip-stepped : {m r : Moment} (row : ℕ) → Going m → StepOf m r → m .error ≡ 0 → Passes m r (skip row)
+pub skip-stepped : {m r : Status} (row : ℕ) → Going m → StepOf m r → m .error ≡ 0 → Passes m r (skip row)
 unfolding exec
 skip-stepped {m} {r} row g h e =
     record { is = λ vs. acted h e vs (λ t. going t) ∙ onward-going (r .out) (stateOf r vs); clean = clean-after g h }
@@ -59,10 +59,10 @@ skip-stepped {m} {r} row g h e =
 -- ---- the memory
 module _ {M : Holding} {l : Lent} where
   -- nothing is stored
-  pub stays : {m : Moment} {q : Progress} (vs : List Variable) → M l vs → (m .error ≡ 0 → m .place ≡ 0) → q ≡ progressOf (m .out) (stateOf m vs) → Reached M l m q
+  pub stays : {m : Status} {q : Progress} (vs : List Variable) → M l vs → (m .error ≡ 0 → m .place ≡ 0) → q ≡ progressOf (m .out) (stateOf m vs) → Reached M l m q
   stays vs w k e = record { store = vs; is = e; running = w; clean = k }
 
-  pub reaches-as : {m : Moment} {p q : Progress} → q ≡ p → Reached M l m p → Reached M l m q
+  pub reaches-as : {m : Status} {p q : Progress} → q ≡ p → Reached M l m p → Reached M l m q
   reaches-as e h = record { store = h .store; is = e ∙ h .is; running = h .running; clean = h .clean }
 
 kept : (M : Holding) (l after : Lent) (vs : List Variable) → M l vs → after ≡ l → M after vs
@@ -70,9 +70,9 @@ kept M l after vs w e = subst (λ (k : Lent). M k vs) (sym e) w
 
 module _ {M : Holding} {l after : Lent} (vs : List Variable) (w : M l vs) where
   -- a new store, or an error with its place
-  pub settles : (r s : Moment) {o : Result (List Variable)} (error place : ℕ) → Settles error M l after o → s ≡ recorded r error place → r .out ≡ false → (r .error ≡ 0 → r .place ≡ 0)
+  pub settles : (r s : Status) {o : Result (List Variable)} (error place : ℕ) → Settles error M l after o → s ≡ recorded r error place → r .out ≡ false → (r .error ≡ 0 → r .place ≡ 0)
       → Reached M after s (going (settled (stateOf r vs) place o))
-  settles r s {o} error place a e q k = subst (λ (x : Moment). Reached M after x (going (settled (stateOf r vs) place o))) (sym e) (by error a)
+  settles r s {o} error place a e q k = subst (λ (x : Status). Reached M after x (going (settled (stateOf r vs) place o))) (sym e) (by error a)
     where
       by : (n : ℕ) → Settles n M l after o → Reached M after (recorded r n place) (going (settled (stateOf r vs) place o))
       by zero a =
@@ -90,16 +90,16 @@ module _ {told : Truth} {o : Result Bool} (h : Tells told o) (p : ℕ) (s : Stat
   pub decided-no : told .error ≡ 0 → told .holds ≡ false → decided o p s f g ≡ g s
   decided-no e b = ap (λ (x : Result Bool). decided x p s f g) (h .answer e ∙ ap ok b)
 
-recorded-error : (r s : Moment) (vs : List Variable) (error place : ℕ) → s ≡ recorded r error place → (error ≡ 0 → ⊥) → r .out ≡ false → going (settled (stateOf r vs) place (fail error)) ≡ progressOf (s .out) (stateOf s vs)
+recorded-error : (r s : Status) (vs : List Variable) (error place : ℕ) → s ≡ recorded r error place → (error ≡ 0 → ⊥) → r .out ≡ false → going (settled (stateOf r vs) place (fail error)) ≡ progressOf (s .out) (stateOf s vs)
 recorded-error r s vs zero place e z q = absurd (z refl)
-recorded-error r s vs (suc n) place e z q = still-going r _ q ∙ sym (ap (λ (x : Moment). progressOf (x .out) (stateOf x vs)) e)
+recorded-error r s vs (suc n) place e z q = still-going r _ q ∙ sym (ap (λ (x : Status). progressOf (x .out) (stateOf x vs)) e)
 
-recorded-clean : (r s : Moment) (error place : ℕ) → s ≡ recorded r error place → (error ≡ 0 → ⊥) → s .error ≡ 0 → s .place ≡ 0
+recorded-clean : (r s : Status) (error place : ℕ) → s ≡ recorded r error place → (error ≡ 0 → ⊥) → s .error ≡ 0 → s .place ≡ 0
 recorded-clean r s zero place e z k = absurd (z refl)
-recorded-clean r s (suc n) place e z k = absurd (let f : suc n ≡ 0 = sym (ap (λ (x : Moment). x .error) e) ∙ k in let b : ⊥ = omega (arith, f) in b)
+recorded-clean r s (suc n) place e z k = absurd (let f : suc n ≡ 0 = sym (ap (λ (x : Status). x .error) e) ∙ k in let b : ⊥ = omega (arith, f) in b)
 
 module _ {M : Holding} {l : Lent} (vs : List Variable) (w : M l vs) where
-  pub test-failed : {told : Truth} {o : Result Bool} (r s : Moment) (place : ℕ) (f g : State → Progress) → Tells told o → (told .error ≡ 0 → ⊥) → s ≡ recorded r (told .error) place → r .out ≡ false
+  pub test-failed : {told : Truth} {o : Result Bool} (r s : Status) (place : ℕ) (f g : State → Progress) → Tells told o → (told .error ≡ 0 → ⊥) → s ≡ recorded r (told .error) place → r .out ≡ false
       → Reached M l s (decided o place (stateOf r vs) f g)
   test-failed {told} {o} r s place f g h z e q =
       stays vs w (recorded-clean r s (told .error) place e z)

@@ -4,12 +4,24 @@ use mathlib.Core.List.{List, map}
 use Prim.Native.Nat.{ℕ, _*_, _<_}
 use lib.IntN.{ℤ}
 use lib.ListN.{length}
-use Rattle.lingua.specs.Numbers.{declaration-section}
+use Rattle.lingua.specs.Numbers.{declaration-section, limit-section, cells-length, states-length, limit-cells-length, limit-cells}
 use Rattle.lingua.specs.Rows.{pairCount}
 use Rattle.lingua.specs.Store.{Variable, variableAt, cellsIn, statesIn}
 use Rattle.lingua.specs.Run.{unfilled}
 use Rattle.lingua.specs.Trees.{profileOf}
+use Rattle.safety.specs.Accepted.{AcceptedRows}
+use Rattle.rules.specs.Tables.{IsTable}
+use Rattle.rules.specs.declared.tables.Table.{Table}
 use Rattle.profile.specs.Variables.{LimitAt}
+
+-- what the start asks: accepted rows, the tables of both files, and room for limits, cells and state words
+pub record Asked (rows : List ℕ) (t : Table) (limits : List ℕ) (u : Table) (kept cells : List ℤ) (states : List ℕ) : Type 0 where
+  pub accepted : AcceptedRows rows
+  pub declared : IsTable rows declaration-section t
+  pub limited : IsTable limits limit-section u
+  pub room : length kept ≡ 48
+  pub long-cells : length cells ≡ cells-length
+  pub long-states : length states ≡ states-length
 
 -- no variable is filled, and each has its declared yoke
 abbrev pub startStore : List ℕ → List ℕ → List Variable
@@ -20,5 +32,5 @@ pub record Begun (rows limits : List ℕ) (kept cells : List ℤ) (states : List
   pub cells-are : cells ≡ cellsIn (startStore rows limits)
   pub states-are : states ≡ statesIn (startStore rows limits)
   pub count : length (startStore rows limits) ≡ pairCount rows declaration-section
-  pub room : length kept ≡ 48
-  pub limited : (n : ℕ) → n < length (startStore rows limits) → LimitAt kept (3 * n) (variableAt (startStore rows limits) n .limit)
+  pub room : length kept ≡ limit-cells-length
+  pub limited : (n : ℕ) → n < length (startStore rows limits) → LimitAt kept (limit-cells * n) (variableAt (startStore rows limits) n .limit)

@@ -1,32 +1,27 @@
 -- What stands in memory once a run's start is done with the first n variables. Assumes nothing: these are definitions.
 use mathlib.Core.Path.{_≡_}
 use mathlib.Core.List.{List}
-use mathlib.Core.Option.{Option}
-use Prim.Native.Nat.{ℕ, _*_, _<_}
-use lib.IntN.{ℤ, pos}
-use lib.ListN.{length, take, getD}
-use Rattle.lingua.specs.Numbers.{declaration-section}
-use Rattle.lingua.specs.Store.{Limit, statesIn}
-use Rattle.lingua.specs.Trees.{limitOf, nameAt}
-use Rattle.profile.specs.Types.{bodyAt}
+use Prim.Native.Nat.{ℕ, _-_, _*_, _<_}
+use lib.IntN.{ℤ}
+use lib.ListN.{length, take}
+use Rattle.lingua.specs.Numbers.{declaration-section, limit-section, variable-bodies-length, limit-cells-length, limit-cells}
+use Rattle.lingua.specs.Rows.{pairCount}
+use Rattle.lingua.specs.Store.{statesIn}
+use Rattle.lingua.specs.Trees.{limitFrom, nameAt}
+use Rattle.rules.specs.Types.{bodyAt}
 use Rattle.profile.specs.Variables.{DeclaredIs, LimitAt}
 use Rattle.run.specs.Begun.{startStore}
 
 -- 96 bytes for each declared body, as many as sixteen variables need
 pub record BodiesKept (rows variables : List ℕ) (n : ℕ) : Type 0 where
-  pub long : length variables ≡ 1536
+  pub long : length variables ≡ variable-bodies-length
   pub each : (d : ℕ) → d < n → DeclaredIs rows d (bodyAt variables d)
 
 -- the state words have nothing to do with the limits
 pub record YokesKept (rows states : List ℕ) (n : ℕ) : Type 0 where
   pub is : (limits : List ℕ) → states ≡ statesIn (take n (startStore rows limits))
 
-pub record LimitsKept (rows limits : List ℕ) (kept : List ℤ) (n : ℕ) : Type 0 where
+-- the limits of rows l and up are kept: for each variable the first of its name
+pub record LimitsFrom (rows limits : List ℕ) (kept : List ℤ) (l : ℕ) : Type 0 where
   pub room : length kept ≡ 48
-  pub each : (d : ℕ) → d < n → LimitAt kept (3 * d) (limitOf limits (nameAt rows declaration-section d))
-
--- variable d's limit is written, and nothing before it changed
-pub record LimitPut (before after : List ℤ) (d : ℕ) (limit : Option Limit) : Type 0 where
-  pub same-length : length after ≡ length before
-  pub own : LimitAt after (3 * d) limit
-  pub others : (j : ℕ) → j < 3 * d → getD after j (pos 0) ≡ getD before j (pos 0)
+  pub each : (d : ℕ) → d < pairCount rows declaration-section → LimitAt kept (3 * d) (limitFrom l (pairCount limits limit-section - l) limits (nameAt rows declaration-section d))

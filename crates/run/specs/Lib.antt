@@ -1,4 +1,4 @@
-pub mod Moments
+pub mod Statuses
 pub mod Steps
 pub mod Reached
 pub mod Acting

@@ -10,9 +10,9 @@ use Rattle.lingua.specs.Outcome.{ok, fail, Result}
 use Rattle.lingua.specs.Store.{Variable}
 use Rattle.lingua.specs.Expression.{Instruction}
 use Rattle.lingua.specs.Run.{Progress, exec}
-use Rattle.run.specs.declared.steps.Moment.{Moment}
+use Rattle.run.specs.declared.steps.Status.{Status}
 use Rattle.run.specs.declared.steps.Truth.{Truth}
-use Rattle.run.specs.Moments.{stateOf, progressOf}
+use Rattle.run.specs.Statuses.{stateOf, progressOf}
 
 -- everything that a caller lends a run for its registers, as one bundle: the cells and the state words (document 01: marks)
 pub record Lent : Type 0 where
@@ -27,19 +27,19 @@ abbrev pub Holding : Type 1
 Holding = Lent → List Variable → Type 0
 
 -- a run that goes on; a place is recorded only with an error
-pub record Going (m : Moment) : Type 0 where
+pub record Going (m : Status) : Type 0 where
   pub not-out : m .out ≡ false
   pub clean : m .error ≡ no-error → m .place ≡ 0
 
 -- the run stands where the definition does: the store in memory, and the moment beside it
-pub record Reached (M : Holding) (l : Lent) (m : Moment) (q : Progress) : Type 0 where
+pub record Reached (M : Holding) (l : Lent) (m : Status) (q : Progress) : Type 0 where
   pub store : List Variable
   pub is : q ≡ progressOf (m .out) (stateOf m store)
   pub running : M l store
   pub clean : m .error ≡ no-error → m .place ≡ 0
 
 -- an instruction that leaves the store as it is
-pub record Passes (m r : Moment) (i : Instruction) : Type 0 where
+pub record Passes (m r : Status) (i : Instruction) : Type 0 where
   pub is : (vs : List Variable) → exec i (stateOf m vs) ≡ progressOf (r .out) (stateOf r vs)
   pub clean : r .error ≡ no-error → r .place ≡ 0
 

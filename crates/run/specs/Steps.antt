@@ -10,8 +10,8 @@ use Rattle.lingua.specs.Errors.{no-error}
 use Rattle.lingua.specs.Outcome.{ok, fail, Result}
 use Rattle.lingua.specs.Store.{Variable}
 use Rattle.lingua.specs.Run.{State, Progress, going, out, withLeft, stepWith, step, unlessError, act, decided, handled, proceed, repeat, lastState}
-use Rattle.run.specs.declared.steps.Moment.{Moment}
-use Rattle.run.specs.Moments.{stateOf, progressOf, onward}
+use Rattle.run.specs.declared.steps.Status.{Status}
+use Rattle.run.specs.Statuses.{stateOf, progressOf, onward}
 
 -- ---- a step
 pub step-spent : (s : State) (f : State → Progress) → s .left ≡ 0 → step s f ≡ out s

@@ -1,14 +1,14 @@
 // The declared bodies, 96 bytes for each variable, so that a run finds one without its type row.
 use profile::declarations::declared_body;
-use profile::types::keep_body;
 use rules::tables::Table;
+use rules::types::keep_body;
 ghost use mathlib.Core.Path.{_≡_};
 ghost use lib.ListN.{length};
-ghost use Rattle.lingua.specs.Numbers.{declaration-section, type-section};
+ghost use Rattle.lingua.specs.Numbers.{declaration-section, type-section, variable-bodies-length};
 ghost use Rattle.lingua.specs.Rows.{tableCount, pairCount};
 ghost use Rattle.safety.specs.Accepted.{AcceptedRows};
 ghost use Rattle.rules.specs.Tables.{IsTable};
-ghost use Rattle.profile.specs.Types.{BodiesBelow};
+ghost use Rattle.rules.specs.Types.{BodiesBelow};
 ghost use Rattle.run.specs.Kept.{BodiesKept};
 
 // The body of each variable, from those of the type rows.
@@ -16,7 +16,7 @@ pub fn keep_bodies(rows: &[u8], t: Table, bodies: &[u8], variables: &mut [u8])
     requires { ⌜ AcceptedRows (now rows) ⌝ }
     requires { ⌜ IsTable (now rows) declaration-section t ⌝ }
     requires { ⌜ BodiesBelow (now rows) (now bodies) (tableCount (now rows) type-section) ⌝ }
-    requires { ⌜ length (now variables) ≡ 1536 ⌝ }
+    requires { ⌜ length (now variables) ≡ variable-bodies-length ⌝ }
     ensures { λ r. ⌜ BodiesKept (now (rows .entry)) (now (variables .exit)) (pairCount (now (rows .entry)) declaration-section) ⌝ }
 {
     let count = t.count / 2;

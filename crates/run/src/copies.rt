@@ -1,4 +1,5 @@
 // Cells from one place to another.
+use lingua::sizes::BODY_CELLS;
 ghost use mathlib.Core.Path.{_≡_};
 ghost use Prim.Native.Nat.{_+_, _≤_};
 ghost use lib.ListN.{length, take, drop};
@@ -19,13 +20,13 @@ pub fn copy(from: &[i64], at: usize, n: usize, stack: &mut [i64])
 }
 
 // The 64 cells at the stack's front, by themselves: the yoke is evaluated on the stack.
-pub fn front(stack: &[i64]) -> [i64; 64]
+pub fn front(stack: &[i64]) -> [i64; BODY_CELLS]
     requires { ⌜ body-cells ≤ length (now stack) ⌝ }
     ensures { λ r. ⌜ r ≡ take body-cells (now (stack .entry)) ⌝ }
 {
-    let mut out = [0i64; 64];
+    let mut out = [0i64; BODY_CELLS];
     let mut i = 0;
-    while i < 64 {
+    while i < BODY_CELLS {
         out[i] = stack[i];
         i += 1;
     }

@@ -5,3 +5,4 @@ pub mod limits; // limits.rt: whether a number lies within a variable's limit
 pub mod part; // part.rt: a variable's part of the cells takes a value
 pub mod start; // start.rt: the memory at a run's start
 pub mod steps; // steps.rt: error, place, steps left, and whether the run is out of budget
+pub mod words; // words.rt: where a variable's flag and yoke lie in the state words

@@ -1,28 +1,32 @@
 // The start of a run: no variable is filled, and each has its declared yoke and limit. Limits are three cells for each variable, so that a
 // run searches for no name: whether there is one, and its two ends.
+use crate::words::set_yoke;
+use lingua::sizes::STATES_LENGTH;
 use profile::declarations::declared_yoke;
-use profile::limits::Limit;
-use profile::limits::variable_limit;
+use profile::find::Found;
+use profile::find::find;
+use profile::limits::limit_high;
+use profile::limits::limit_low;
+use rules::fields::bytes_at;
 use rules::tables::Table;
+ghost use Rattle.run.specs.Begun.{Asked, Begun};
 ghost use mathlib.Core.Path.{_≡_};
 ghost use lib.ListN.{length, replicate};
-ghost use Rattle.lingua.specs.Numbers.{declaration-section, limit-section, cells-length, states-length};
+ghost use lib.IntN.{pos};
+ghost use Rattle.lingua.specs.Numbers.{declaration-section, states-length, limit-section, limit-cells-length, limit-cells};
+ghost use Rattle.lingua.specs.Rows.{pairCount};
 ghost use Rattle.safety.specs.Accepted.{AcceptedRows};
 ghost use Rattle.rules.specs.Tables.{IsTable};
-ghost use Rattle.run.specs.Begun.{Begun};
-ghost use lib.IntN.{pos};
-ghost use Rattle.lingua.specs.Rows.{pairCount};
-ghost use Rattle.run.specs.Kept.{YokesKept, LimitPut, LimitsKept};
-ghost use Prim.Native.Nat.{_+_, _*_, _≤_};
-ghost use Rattle.profile.specs.Variables.{limitMeaning};
+ghost use Rattle.run.specs.Kept.{YokesKept, LimitsFrom};
+ghost use Prim.Native.Nat.{_+_, _/_, _<_};
 
 // What an earlier run left does not stay.
 fn clear_cells(cells: &mut [i64])
-    requires { ⌜ length (now cells) ≡ cells-length ⌝ }
-    ensures { λ r. ⌜ now (cells .exit) ≡ replicate cells-length (pos 0) ⌝ }
+    ensures { λ r. ⌜ now (cells .exit) ≡ replicate (length (now (cells .entry))) (pos 0) ⌝ }
 {
+    let n = cells.len();
     let mut i = 0;
-    while i < 1024 {
+    while i < n {
         cells[i] = 0;
         i += 1;
     }
@@ -34,7 +38,7 @@ fn clear_states(states: &mut [u16])
     ensures { λ r. ⌜ now (states .exit) ≡ replicate states-length 0 ⌝ }
 {
     let mut i = 0;
-    while i < 32 {
+    while i < STATES_LENGTH {
         states[i] = 0;
         i += 1;
     }
@@ -51,43 +55,45 @@ fn keep_yokes(rows: &[u8], t: Table, states: &mut [u16])
     let mut d = 0;
     while d < count {
         let yoke = declared_yoke(rows, t, d);
-        states[2 * d + 1] = yoke as u16;
+        set_yoke(states, d, yoke as u16);
         d += 1;
     }
 }
 
-// The limit of variable d; without one, nothing reads its ends.
-fn keep_limit(kept: &mut [i64], d: usize, limit: Limit)
-    requires { ⌜ 3 * d + 3 ≤ length (now kept) ⌝ }
-    ensures { λ r. ⌜ LimitPut (now (kept .entry)) (now (kept .exit)) d (limitMeaning limit) ⌝ }
+// Limit l, for the variable that has its name.
+fn keep_limit(rows: &[u8], t: Table, limits: &[u8], u: Table, l: usize, kept: &mut [i64])
+    requires { ⌜ AcceptedRows (now rows) ⌝ }
+    requires { ⌜ IsTable (now rows) declaration-section t × IsTable (now limits) limit-section u ⌝ }
+    requires { ⌜ l < u .count / 2 ⌝ }
+    requires { ⌜ LimitsFrom (now rows) (now limits) (now kept) (l + 1) ⌝ }
+    ensures { λ r. ⌜ LimitsFrom (now (rows .entry)) (now (limits .entry)) (now (kept .exit)) l ⌝ }
 {
+    let start = u.start;
+    let found = find(rows, t, bytes_at(limits, start + 2 * l));
+    let Found::At(d) = found else {
+        return;
+    };
+    let low = limit_low(limits, u, l);
+    let high = limit_high(limits, u, l);
     let at = 3 * d;
-    match limit {
-        Limit::Within(low, high) => {
-            kept[at] = 1;
-            kept[at + 1] = low;
-            kept[at + 2] = high;
-        }
-        Limit::Nothing => {
-            kept[at] = 0;
-        }
-    }
+    kept[at] = 1;
+    kept[at + 1] = low;
+    kept[at + 2] = high;
 }
 
-// The limit of each variable.
+// Each limit for its variable, from the last to the first: of two limits of one name the first would count.
 fn keep_limits(rows: &[u8], t: Table, limits: &[u8], u: Table, kept: &mut [i64])
     requires { ⌜ AcceptedRows (now rows) ⌝ }
     requires { ⌜ IsTable (now rows) declaration-section t ⌝ }
     requires { ⌜ IsTable (now limits) limit-section u ⌝ }
     requires { ⌜ length (now kept) ≡ 48 ⌝ }
-    ensures { λ r. ⌜ LimitsKept (now (rows .entry)) (now (limits .entry)) (now (kept .exit)) (pairCount (now (rows .entry)) declaration-section) ⌝ }
+    ensures { λ r. ⌜ LimitsFrom (now (rows .entry)) (now (limits .entry)) (now (kept .exit)) 0 ⌝ }
 {
-    let count = t.count / 2;
-    let mut d = 0;
-    while d < count {
-        let limit = variable_limit(rows, t, d, limits, u);
-        keep_limit(kept, d, limit);
-        d += 1;
+    clear_cells(kept);
+    let mut l = u.count / 2;
+    while 0 < l {
+        l -= 1;
+        keep_limit(rows, t, limits, u, l, kept);
     }
 }
 
@@ -101,12 +107,7 @@ pub fn start(
     cells: &mut [i64],
     states: &mut [u16],
 )
-    requires { ⌜ AcceptedRows (now rows) ⌝ }
-    requires { ⌜ IsTable (now rows) declaration-section t ⌝ }
-    requires { ⌜ IsTable (now limits) limit-section u ⌝ }
-    requires { ⌜ length (now kept) ≡ 48 ⌝ }
-    requires { ⌜ length (now cells) ≡ cells-length ⌝ }
-    requires { ⌜ length (now states) ≡ states-length ⌝ }
+    requires { ⌜ Asked (now rows) t (now limits) u (now kept) (now cells) (now states) ⌝ }
     ensures { λ r. ⌜ Begun (now (rows .entry)) (now (limits .entry)) (now (kept .exit)) (now (cells .exit)) (now (states .exit)) ⌝ }
 {
     clear_cells(cells);

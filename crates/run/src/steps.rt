@@ -9,9 +9,9 @@ ghost use Prim.Native.Nat.{_≤_};
 ghost use Rattle.lingua.specs.Store.{Variable};
 ghost use Rattle.lingua.specs.Answers.{answered, runMeaning};
 ghost use Rattle.lingua.specs.Calls.{endingOf};
-ghost use Rattle.run.specs.Moments.{stateOf, progressOf, StepOf, recorded};
+ghost use Rattle.run.specs.Statuses.{stateOf, progressOf, StepOf, recorded};
 
-pub struct Moment {
+pub struct Status {
     pub error: u8,
     pub place: u16,
     pub left: u16,
@@ -25,11 +25,11 @@ pub struct Truth {
 }
 
 // A run's start, with its whole budget.
-pub fn fresh(budget: u16) -> Moment
+pub fn fresh(budget: u16) -> Status
     ensures { λ r. ⌜ r ≡ record { error = 0; place = 0; left = budget; out = false } ⌝ }
 {
     let nowhere = 0;
-    Moment {
+    Status {
         error: NO_ERROR,
         place: nowhere,
         left: budget,
@@ -38,18 +38,18 @@ pub fn fresh(budget: u16) -> Moment
 }
 
 // One step; out where none is left.
-pub fn stepped(m: Moment) -> Moment
+pub fn stepped(m: Status) -> Status
     ensures { λ r. ⌜ StepOf m r ⌝ }
 {
     if m.left == 0 {
-        return Moment {
+        return Status {
             error: m.error,
             place: m.place,
             left: 0,
             out: true,
         };
     }
-    Moment {
+    Status {
         error: m.error,
         place: m.place,
         left: m.left - 1,
@@ -58,13 +58,13 @@ pub fn stepped(m: Moment) -> Moment
 }
 
 // An error is recorded with its place; 0 is none, and changes nothing.
-pub fn settled(m: Moment, error: u8, place: u16) -> Moment
+pub fn settled(m: Status, error: u8, place: u16) -> Status
     ensures { λ r. ⌜ r ≡ recorded m error place ⌝ }
 {
     if error == NO_ERROR {
         return m;
     }
-    Moment {
+    Status {
         error: error,
         place: place,
         left: m.left,
@@ -73,10 +73,10 @@ pub fn settled(m: Moment, error: u8, place: u16) -> Moment
 }
 
 // A handled error is cleared, and its place with it.
-pub fn cleared(m: Moment) -> Moment
+pub fn cleared(m: Status) -> Status
     ensures { λ r. ⌜ r ≡ record { error = 0; place = 0; left = m .left; out = m .out } ⌝ }
 {
-    Moment {
+    Status {
         error: NO_ERROR,
         place: 0,
         left: m.left,
@@ -85,7 +85,7 @@ pub fn cleared(m: Moment) -> Moment
 }
 
 // How a run ended, and the steps that it took of its budget.
-pub fn ended(m: Moment, budget: u16) -> RunAnswer
+pub fn ended(m: Status, budget: u16) -> RunAnswer
     requires { ⌜ m .left ≤ budget ⌝ }
     requires { ⌜ (m .out ≡ false → m .error ≡ 0 → m .place ≡ 0) ⌝ }
     ensures { λ r. ⌜ ((vs : List Variable) → runMeaning r ≡ answered (endingOf budget (progressOf (m .out) (stateOf m vs)))) ⌝ }

@@ -2,28 +2,27 @@
 -- are those of its type rows, and its program is the tree of an instruction row. So the invariant of runs holds of every accepted pair
 -- of files: `accepted-invariant`. Assumes nothing.
 use mathlib.Core.Path.{_≡_, refl, subst}
-use mathlib.Core.Logic.{_≢_}
 use mathlib.Core.Bool.{Bool, true, false, not, _&&_}
 use mathlib.Core.List.{List, [], _∷_, _++_}
-use mathlib.Core.Option.{some, none}
-use Prim.Native.Nat.{ℕ, zero, suc, _+_, _*_, _≤_, _<_, pred}
+use mathlib.Core.Option.{Option, some, none}
+use Prim.Native.Nat.{ℕ, zero, suc, _+_, _≤_, _<_, pred}
 use native.Mathlib.Omega.{arith}
 use lib.Dec.{eqb, ltb, leb}
-use lib.ListN.{length, getD, drop, length-take}
-use borrow.Author.Tests.{eqb-true, eqb-false, ltb-true, leb-true, le-leb, not-false, not-true}
-use Rattle.lingua.specs.Numbers.{row-bytes, word-length, most-variables, most-types, most-expressions, most-instructions, declaration-section, type-section, expression-section, instruction-section, limit-section}
-use Rattle.lingua.specs.Errors.{last-error}
+use lib.ListN.{length}
+use borrow.Author.Tests.{eqb-true, ltb-true, leb-true, le-leb, not-false, not-true}
+use Rattle.lingua.specs.Numbers.{word-length, most-variables, most-types, most-expressions, most-instructions, declaration-section, type-section, expression-section, instruction-section, limit-section}
+use Rattle.lingua.specs.Errors.{isError}
 use Rattle.lingua.specs.Outcome.{ok, fail, Result, isOk, if_then_else_}
-use Rattle.lingua.specs.Body.{Body, boolean, number, word, size}
-use Rattle.lingua.specs.Value.{truth, whole, text, fit-truth, fit-whole, fit-text, inRange, isCharacter, allOf, isText, Composite, composite}
+use Rattle.lingua.specs.Body.{Body, size}
+use Rattle.lingua.specs.Value.{whole, fit-truth, fit-whole, fit-text, isCharacter, allOf, isText, Composite}
 use Rattle.lingua.specs.Expression.{Instruction}
 use Rattle.lingua.specs.Store.{Reading, contents, variableAt}
 use Rattle.lingua.specs.Run.{run, lastState}
 use Rattle.lingua.specs.Typing.{joined}
-use Rattle.lingua.specs.Rows.{kindAt, aAt, bAt, cAt, wideAt, numberAt, bytesAt, untilZero, sectionAt, rowCount, rowIn, tableCount, pairCount, detailRow, typeRow, ExpressionRow, constant-row, constantKind, expressionKind, expressionRow, InstructionRow, skip-row, assign-row, set-yoke-row, sequence-row, branch-row, loop-row, handle-row, operands, instructionRow, parts, evaluated, yokeRoot, yokeSet}
+use Rattle.lingua.specs.Rows.{kindAt, aAt, bytesAt, untilZero, sectionAt, rowCount, rowIn, tableCount, pairCount, detailRow, RowKind, numbered, usedOf, typeKinds, typeRow, Constant, boolean-constant, number-constant, word-constant, constantValue, ExpressionRow, constant-row, variable-row, current-row, unary-row, binary-row, lazy-row, choice-row, all-list-row, unknown-expression, expressionKinds, expressionRow, InstructionRow, skip-row, assign-row, set-yoke-row, sequence-row, branch-row, loop-row, handle-row, unknown-instruction, operands, instructionKinds, instructionRow, parts, evaluated, yokeRoot, yokeSet}
 use Rattle.lingua.specs.Trees.{tabulate, typeBody, expressionTree, yokeTree, instructionOf, instructionIn, instructionTree, declaredBody, bodyOr, declarationAt, profileOf}
 use Rattle.lingua.specs.Format.{profile, everyBelow, allZero, rowsOf}
-use Rattle.lingua.specs.Rules.{usedBytes, sectionBelongs, bytesFit, rowFits, ascending, paired, formWrong, between, countWrong, paddedBy, constantFits, attributesFit, expressionAttributes, typeAttributes, handledErrors, constantWrong}
+use Rattle.lingua.specs.Rules.{usedBytes, sectionBelongs, bytesFit, rowFits, ascending, paired, formWrong, between, countWrong, nameWrong, paddedBy, constantFits, rowConstantFits, attributesFit, expressionAttributes, typeAttributes, handledErrors, constantWrong}
 use Rattle.lingua.specs.References.{allBelow, declaredYoke, declarationRefers, expressionRefers, instructionRefers, instructionVariables, typeParts, referenceWrong, occurrences, expressionUses, instructionUses, useWrong, yokeRoots, plainRoots, readsVariable, readsCurrent, placeWrong, typeWrong}
 use Rattle.lingua.specs.Refusal.{Rule, rule, lowest, fileRules, rowRules, wholeFileRules, pairRules}
 use Rattle.laws.specs.Outcomes.{false-is-true, and-left, and-right, and-both}
@@ -43,6 +42,7 @@ none-applies n b rs p e = lowest-none n b rs (ltb-true 0 n p) e
 pub record AcceptedRows (rows : List ℕ) : Type 0 where
   pub form : formWrong profile rows ≡ false
   pub counts : countWrong profile rows ≡ false
+  pub names : nameWrong profile rows ≡ false
   pub constants : constantWrong profile rows ≡ false
   pub references : referenceWrong rows ≡ false
   pub uses : useWrong rows ≡ false
@@ -60,7 +60,7 @@ accepted-rows rows rest e =
     let uses = none-applies _ _ _ refl (references .1) in
     let places = none-applies _ _ _ refl (uses .1) in
     let types = none-applies _ _ _ refl (places .1) in
-    record { form = form .0; counts = counts .0; constants = constants .0; references = references .0; uses = uses .0; places = places .0; types = types .0 }
+    record { form = form .0; counts = counts .0; names = names .0; constants = constants .0; references = references .0; uses = uses .0; places = places .0; types = types .0 }
 
 -- both files whole
 pub accepted-pair : (prof lims : List ℕ) → lowest (pairRules prof lims) ≡ 0 → AcceptedRows (rowsOf prof)
@@ -111,52 +111,58 @@ length-until (c ∷ cs) = go (eqb c 0) (length-until cs)
     go true ih = omega arith
     go false ih = omega arith
 
-word-fits : (rows : List ℕ) (i : ℕ) → paddedBy isCharacter (bytesAt rows i) ≡ true → isText (untilZero (bytesAt rows i)) ≡ true
-unfolding isText bytesAt
-word-fits rows i e =
-    let l : length (bytesAt rows i) ≤ 8 = omega (arith, length-take 8 (drop (row-bytes * i + 2) rows)) in
-    and-both (leb (length (untilZero (bytesAt rows i))) word-length) (allOf isCharacter (untilZero (bytesAt rows i)))
-    (le-leb (length (untilZero (bytesAt rows i))) word-length (omega (arith, length-until (bytesAt rows i))))
-    (characters (bytesAt rows i) e)
-
--- kind 0 is no expression
-has-kind : (s k : ℕ) (bytes : List ℕ) → s ≡ expression-section → bytesFit (getD (usedBytes s) k none) bytes ≡ true → k ≢ 0
-unfolding usedBytes bytesFit
-has-kind s k bytes p e q =
-    let z = subst (λ (t : ℕ). bytesFit (getD (usedBytes t) 0 none) bytes ≡ true) p (subst (λ (j : ℕ). bytesFit (getD (usedBytes s) j none) bytes ≡ true) q e) in
-    false-is-true z
+word-fits : (cs : List ℕ) → (leb (length cs) word-length && paddedBy isCharacter cs) ≡ true → isText (untilZero cs) ≡ true
+unfolding isText
+word-fits cs e =
+    let l : length cs ≤ word-length = leb-true (length cs) word-length (and-left (leb (length cs) word-length) (paddedBy isCharacter cs) e) in
+    and-both (leb (length (untilZero cs)) word-length) (allOf isCharacter (untilZero cs))
+    (le-leb (length (untilZero cs)) word-length (omega (arith, length-until cs)))
+    (characters cs (and-right (leb (length cs) word-length) (paddedBy isCharacter cs) e))
 
 -- a constant fits its body, which takes one cell
 abbrev pub Plain : Composite → Type 0
 Plain c = Fitting c × (size (c .body) ≡ 1)
 
-constant-by : (rows : List ℕ) (i k : ℕ) (t u w : Bool) → eqb k 1 ≡ t → eqb k 2 ≡ u → eqb k 3 ≡ w → k ≢ 0 → k < 4
-    → (if t then leb (wideAt rows i) 1 else (if u then inRange (numberAt rows i) else (if w then paddedBy isCharacter (bytesAt rows i) else true))) ≡ true
-    → Plain (if t then composite boolean (truth (not (eqb (wideAt rows i) 0))) else (if u then composite number (whole (numberAt rows i)) else composite word (text (untilZero (bytesAt rows i)))))
-unfolding size
-constant-by rows i k true u w a b c n l e = (fit-truth, refl)
-constant-by rows i k false true w a b c n l e = (fit-whole e, refl)
-constant-by rows i k false false true a b c n l e = (fit-text (word-fits rows i e), refl)
-constant-by rows i k false false false a b c n l e =
-    let x : k ≢ 1 = eqb-false k 1 a in
-    let y : k ≢ 2 = eqb-false k 2 b in
-    let z : k ≢ 3 = eqb-false k 3 c in
-    absurd (let q : ⊥ = omega arith in q)
+constant-plain : (c : Constant) → constantFits c ≡ true → Plain (constantValue c)
+unfolding size constantFits constantValue
+constant-plain (boolean-constant n) e = (fit-truth, refl)
+constant-plain (number-constant z) e = (fit-whole e, refl)
+constant-plain (word-constant cs) e = (fit-text (word-fits cs e), refl)
 
-module _ (P : Composite → Type 0) where
-  row-if : (t : Bool) (a b : ExpressionRow) → ConstantHas P a → ConstantHas P b → ConstantHas P (if t then a else b)
-  row-if true a b p q = p
-  row-if false a b p q = q
+row-plain : (row : ExpressionRow) → rowConstantFits row ≡ true → ConstantHas Plain row
+unfolding size rowConstantFits ConstantHas
+row-plain (constant-row c) e = constant-plain c e
+row-plain (variable-row n) e = tt
+row-plain current-row e = tt
+row-plain (unary-row o a) e = tt
+row-plain (binary-row o a b) e = tt
+row-plain (lazy-row k a b) e = tt
+row-plain (choice-row a b c) e = tt
+row-plain (all-list-row a) e = tt
+row-plain unknown-expression e = (fit-truth, refl)
 
-  -- kinds 4 to 25 have no constant
-  pub other-kinds : (k a b c : ℕ) → ConstantHas P (expressionKind k a b c)
-  unfolding expressionKind ConstantHas
-  other-kinds k a b c =
-      row-if (eqb k 4) _ _ tt (row-if (eqb k 5) _ _ tt (row-if (eqb k 6) _ _ tt (row-if (eqb k 7) _ _ tt (row-if (eqb k 8) _ _ tt
-      (row-if (eqb k 9) _ _ tt (row-if (eqb k 10) _ _ tt (row-if (eqb k 11) _ _ tt (row-if (eqb k 12) _ _ tt (row-if (eqb k 13) _ _ tt
-      (row-if (eqb k 14) _ _ tt (row-if (eqb k 15) _ _ tt (row-if (eqb k 16) _ _ tt (row-if (eqb k 17) _ _ tt (row-if (eqb k 18) _ _ tt
-      (row-if (eqb k 19) _ _ tt (row-if (eqb k 20) _ _ tt (row-if (eqb k 21) _ _ tt (row-if (eqb k 22) _ _ tt (row-if (eqb k 23) _ _ tt
-      (row-if (eqb k 24) _ _ tt tt))))))))))))))))))))
+-- ---- 6: a row's kind is one of its table's
+-- a kind with its used bytes
+pub record Known {R : Type 0} (kinds : List (RowKind R)) (k : ℕ) : Type 0 where
+  pub bytes : ℕ
+  pub is : usedOf (numbered k kinds) ≡ some bytes
+
+known-by : {R : Type 0} (kinds : List (RowKind R)) (k : ℕ) (bytes : List ℕ) (o : Option ℕ) → usedOf (numbered k kinds) ≡ o → bytesFit o bytes ≡ true → Known kinds k
+unfolding bytesFit
+known-by kinds k bytes none q e = false-is-true e
+known-by kinds k bytes (some n) q e = record { bytes = n; is = q }
+
+known-type : (s k : ℕ) (bytes : List ℕ) → s ≡ type-section → bytesFit (usedBytes s k) bytes ≡ true → Known typeKinds k
+unfolding usedBytes
+known-type s k bytes p e = known-by typeKinds k bytes (usedOf (numbered k typeKinds)) refl (subst (λ (t : ℕ). bytesFit (usedBytes t k) bytes ≡ true) p e)
+
+known-expression : (s k : ℕ) (bytes : List ℕ) → s ≡ expression-section → bytesFit (usedBytes s k) bytes ≡ true → Known expressionKinds k
+unfolding usedBytes
+known-expression s k bytes p e = known-by expressionKinds k bytes (usedOf (numbered k expressionKinds)) refl (subst (λ (t : ℕ). bytesFit (usedBytes t k) bytes ≡ true) p e)
+
+known-instruction : (s k : ℕ) (bytes : List ℕ) → s ≡ instruction-section → bytesFit (usedBytes s k) bytes ≡ true → Known instructionKinds k
+unfolding usedBytes
+known-instruction s k bytes p e = known-by instructionKinds k bytes (usedOf (numbered k instructionKinds)) refl (subst (λ (t : ℕ). bytesFit (usedBytes t k) bytes ≡ true) p e)
 
 module _ (rows : List ℕ) (accepted : AcceptedRows rows) where
   form-holds : (everyBelow (rowCount rows) (λ i. rowFits profile rows i) ≡ true) × (ascending rows ≡ true)
@@ -165,52 +171,53 @@ module _ (rows : List ℕ) (accepted : AcceptedRows rows) where
       let p = all-four (everyBelow (rowCount rows) (λ i. rowFits profile rows i)) (ascending rows) (paired rows declaration-section) (paired rows limit-section) (accepted .form) in
       (p .0, p .1)
 
-  expression-kind : (r : ℕ) → r < tableCount rows expression-section → kindAt rows (rowIn rows expression-section r) ≢ 0
+  -- row r of section s is in it and its bytes fit
+  row-form : (s r : ℕ) → r < tableCount rows s
+      → (sectionAt rows (rowIn rows s r) ≡ s) × (bytesFit (usedBytes (sectionAt rows (rowIn rows s r)) (kindAt rows (rowIn rows s r))) (bytesAt rows (rowIn rows s r)) ≡ true)
   unfolding rowFits
-  expression-kind r l =
-      let at = row-in-section rows (form-holds .1) expression-section r l in
-      let i : ℕ = rowIn rows expression-section r in
-      has-kind (sectionAt rows i) (kindAt rows i) (bytesAt rows i) (at .in-section)
-      (and-right (sectionBelongs profile (sectionAt rows i)) _ (below-true (rowCount rows) (λ j. rowFits profile rows j) (form-holds .0) i (at .in-file)))
+  row-form s r l =
+      let at = row-in-section rows (form-holds .1) s r l in
+      let i : ℕ = rowIn rows s r in (
+        at .in-section,
+        and-right (sectionBelongs profile (sectionAt rows i)) _ (below-true (rowCount rows) (λ j. rowFits profile rows j) (form-holds .0) i (at .in-file)),
+      )
+
+  pub type-known : (r : ℕ) → r < tableCount rows type-section → Known typeKinds (kindAt rows (rowIn rows type-section r))
+  type-known r l = let h = row-form type-section r l in known-type _ _ _ (h .0) (h .1)
+
+  pub expression-known : (r : ℕ) → r < tableCount rows expression-section → Known expressionKinds (kindAt rows (rowIn rows expression-section r))
+  expression-known r l = let h = row-form expression-section r l in known-expression _ _ _ (h .0) (h .1)
+
+  pub instruction-known : (r : ℕ) → r < tableCount rows instruction-section → Known instructionKinds (kindAt rows (rowIn rows instruction-section r))
+  instruction-known r l = let h = row-form instruction-section r l in known-instruction _ _ _ (h .0) (h .1)
 
   -- 9: attributes are numbered below 64, and constants fit
   numbers-hold : (everyBelow (tableCount rows type-section) (λ j. attributesFit (typeAttributes (typeRow rows j))) ≡ true)
-      × (everyBelow (tableCount rows expression-section) (λ j. constantFits rows (rowIn rows expression-section j) && attributesFit (expressionAttributes (expressionRow rows j))) ≡ true)
+      × (everyBelow (tableCount rows expression-section) (λ j. rowConstantFits (expressionRow rows j) && attributesFit (expressionAttributes (expressionRow rows j))) ≡ true)
   unfolding constantWrong
   numbers-hold =
       let p = all-three
       (everyBelow (tableCount rows type-section) (λ j. attributesFit (typeAttributes (typeRow rows j))))
-      (everyBelow (tableCount rows expression-section) (λ j. constantFits rows (rowIn rows expression-section j) && attributesFit (expressionAttributes (expressionRow rows j))))
-      (everyBelow (tableCount rows instruction-section) (λ j. allOf (λ n. between 1 last-error n) (handledErrors (instructionRow rows j))))
+      (everyBelow (tableCount rows expression-section) (λ j. rowConstantFits (expressionRow rows j) && attributesFit (expressionAttributes (expressionRow rows j))))
+      (everyBelow (tableCount rows instruction-section) (λ j. allOf isError (handledErrors (instructionRow rows j))))
       (accepted .constants) in
       (p .0, p .1)
 
   pub type-attributes : (r : ℕ) → r < tableCount rows type-section → attributesFit (typeAttributes (typeRow rows r)) ≡ true
   type-attributes r l = below-true (tableCount rows type-section) (λ j. attributesFit (typeAttributes (typeRow rows j))) (numbers-hold .0) r l
 
-  expression-holds : (r : ℕ) → r < tableCount rows expression-section → (constantFits rows (rowIn rows expression-section r) && attributesFit (expressionAttributes (expressionRow rows r))) ≡ true
+  expression-holds : (r : ℕ) → r < tableCount rows expression-section → (rowConstantFits (expressionRow rows r) && attributesFit (expressionAttributes (expressionRow rows r))) ≡ true
   expression-holds r l =
-      below-true (tableCount rows expression-section) (λ j. constantFits rows (rowIn rows expression-section j) && attributesFit (expressionAttributes (expressionRow rows j))) (numbers-hold .1) r l
+      below-true (tableCount rows expression-section) (λ j. rowConstantFits (expressionRow rows j) && attributesFit (expressionAttributes (expressionRow rows j))) (numbers-hold .1) r l
 
   pub expression-attributes : (r : ℕ) → r < tableCount rows expression-section → attributesFit (expressionAttributes (expressionRow rows r)) ≡ true
-  expression-attributes r l = and-right (constantFits rows (rowIn rows expression-section r)) (attributesFit (expressionAttributes (expressionRow rows r))) (expression-holds r l)
+  expression-attributes r l = and-right (rowConstantFits (expressionRow rows r)) (attributesFit (expressionAttributes (expressionRow rows r))) (expression-holds r l)
 
-  constant-holds : (r : ℕ) → r < tableCount rows expression-section → constantFits rows (rowIn rows expression-section r) ≡ true
-  constant-holds r l = and-left (constantFits rows (rowIn rows expression-section r)) (attributesFit (expressionAttributes (expressionRow rows r))) (expression-holds r l)
+  pub constant-holds : (r : ℕ) → r < tableCount rows expression-section → rowConstantFits (expressionRow rows r) ≡ true
+  constant-holds r l = and-left (rowConstantFits (expressionRow rows r)) (attributesFit (expressionAttributes (expressionRow rows r))) (expression-holds r l)
 
   pub constant-row-fits : (r : ℕ) → r < tableCount rows expression-section → ConstantHas Plain (expressionRow rows r)
-  unfolding expressionRow
-  constant-row-fits r l = go (ltb k 4) refl
-    where
-      i : ℕ
-      i = rowIn rows expression-section r
-
-      k : ℕ
-      k = kindAt rows i
-
-      go : (t : Bool) → ltb k 4 ≡ t → ConstantHas Plain (if t then constant-row (constantKind k rows i) else expressionKind k (aAt rows i) (bAt rows i) (cAt rows i))
-      go true e = unfold ConstantHas constantKind constantFits in constant-by rows i k (eqb k 1) (eqb k 2) (eqb k 3) refl refl refl (expression-kind r l) (ltb-true k 4 e) (constant-holds r l)
-      go false e = other-kinds Plain k (aAt rows i) (bAt rows i) (cAt rows i)
+  constant-row-fits r l = row-plain (expressionRow rows r) (constant-holds r l)
 
   pub tree-plain : (r : ℕ) → r < tableCount rows expression-section → ConstantsHave Plain (expressionTree rows r)
   unfolding size
@@ -321,6 +328,7 @@ module _ (rows : List ℕ) (accepted : AcceptedRows rows) where
   node-well-made r (branch-row e i j) look (every-more h hs) k = tree-constants rows accepted e h
   node-well-made r (loop-row e i) look (every-more h hs) k = tree-constants rows accepted e h
   node-well-made r (handle-row n i) look h k = tt
+  node-well-made r unknown-instruction look h k = tt
 
   pub tree-well-made : (r : ℕ) → r < tableCount rows instruction-section → WellMade (instructionTree rows r)
   unfolding instructionTree instructionIn

@@ -30,7 +30,7 @@ pub data Checked (vars : Bodies) : Expression → Body → Body → List Entry �
   checked-unary : {r : ℕ} {o : Unary} {e : Expression} {cur b c : Body} {xs : List Entry} → Checked vars e cur c xs → unaryBody o c ≡ ok b
       → Checked vars (unary r o e) cur b (withEntry xs r cur b (unarySecond o c))
   checked-binary : {r : ℕ} {o : Binary} {e f : Expression} {cur b c d : Body} {xs ys : List Entry} → Checked vars e cur c xs → Checked vars f cur d ys → binaryBody o c d ≡ ok b
-      → Checked vars (binary r o e f) cur b (withEntry (xs ++ ys) r cur b (binarySecond o b))
+      → Checked vars (binary r o e f) cur b (withEntry (xs ++ ys) r cur b (binarySecond o c d b))
   checked-lazy : {r : ℕ} {k : Connective} {e f : Expression} {cur : Body} {xs ys : List Entry} → Checked vars e cur boolean xs → Checked vars f cur boolean ys
       → Checked vars (lazy r k e f) cur boolean (withEntry (xs ++ ys) r cur boolean 0)
   checked-choice : {r : ℕ} {p e f : Expression} {cur b : Body} {xs ys zs : List Entry} → Checked vars p cur boolean xs → Checked vars e cur b ys → Checked vars f cur b zs
@@ -76,7 +76,7 @@ module _ (vars : Bodies) where
       answered-as (b .2) (checked-unary (h x refl) (located-answer r (unaryBody o (x .body)) (b .0) (b .1)))
 
   binary-shown : (r : ℕ) (o : Binary) (e f : Expression) (cur : Body) (a b : Outcome TypeError Typed) → Shown e cur a → Shown f cur b
-      → Shown (binary r o e f) cur (a >>= λ x. b >>= λ y. located r (binaryBody o (x .body) (y .body)) >>= λ d. typed r cur d (binarySecond o d) (x .entries ++ y .entries))
+      → Shown (binary r o e f) cur (a >>= λ x. b >>= λ y. located r (binaryBody o (x .body) (y .body)) >>= λ d. typed r cur d (binarySecond o (x .body) (y .body) d) (x .entries ++ y .entries))
   unfolding Shown
   binary-shown r o e f cur (fail n) b h k t q = never-ok q
   binary-shown r o e f cur (ok x) (fail n) h k t q = never-ok q

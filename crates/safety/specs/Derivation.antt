@@ -30,7 +30,7 @@ pub data Derived (H : Entry → Type 0) (vars : Bodies) : Expression → Body �
   of-unary : {r : ℕ} {o : Unary} {e : Expression} {cur b c : Body} → Derived H vars e cur c → unaryBody o c ≡ ok b
       → H (entry r cur b (unarySecond o c)) → Derived H vars (unary r o e) cur b
   of-binary : {r : ℕ} {o : Binary} {e f : Expression} {cur b c d : Body} → Derived H vars e cur c → Derived H vars f cur d → binaryBody o c d ≡ ok b
-      → H (entry r cur b (binarySecond o b)) → Derived H vars (binary r o e f) cur b
+      → H (entry r cur b (binarySecond o c d b)) → Derived H vars (binary r o e f) cur b
   of-lazy : {r : ℕ} {k : Connective} {e f : Expression} {cur b : Body} → Derived H vars e cur boolean → Derived H vars f cur boolean → boolean ≡ b
       → H (entry r cur b 0) → Derived H vars (lazy r k e f) cur b
   of-choice : {r : ℕ} {p e f : Expression} {cur b : Body} → Derived H vars p cur boolean → Derived H vars e cur b → Derived H vars f cur b
@@ -115,7 +115,7 @@ module _ {H K : Entry → Type 0} (f : (x : Entry) → H x → K x) {vars : Bodi
   derived-implies (of-variable {r} {n} {cur} {b} q h) = of-variable q (f (entry r cur b 0) h)
   derived-implies (of-current {r} {cur} {b} q h) = of-current q (f (entry r cur b 0) h)
   derived-implies (of-unary {r} {o} {e} {cur} {b} {c} d q h) = of-unary (derived-implies d) q (f (entry r cur b (unarySecond o c)) h)
-  derived-implies (of-binary {r} {o} {cur = cur} {b} d g q h) = of-binary (derived-implies d) (derived-implies g) q (f (entry r cur b (binarySecond o b)) h)
+  derived-implies (of-binary {r} {o} {cur = cur} {b} {c = j} {d = k} d g q h) = of-binary (derived-implies d) (derived-implies g) q (f (entry r cur b (binarySecond o j k b)) h)
   derived-implies (of-lazy {r} {cur = cur} {b} d g q h) = of-lazy (derived-implies d) (derived-implies g) q (f (entry r cur b 0) h)
   derived-implies (of-choice {r} {cur = cur} {b} p d g h) = of-choice (derived-implies p) (derived-implies d) (derived-implies g) (f (entry r cur b 0) h)
   derived-implies (of-all-list {r} {cur = cur} {b} {c} q d p h) = of-all-list q (derived-implies d) p (f (entry r cur b (size c)) h)

@@ -16,6 +16,7 @@ use Rattle.lingua.specs.Evaluation.{eval, evalTest, no-current}
 use Rattle.lingua.specs.Store.{Variable, variableAt, contents, withContent, withYoke, assigned, Reading, readingTaken}
 use Rattle.lingua.specs.Run.{State, Progress, going, out, withLeft, withError, settled, proceed, stepWith, step, unlessError, act, decided, handled, repeat, exec, Declaration, Profile, started, takenUnless, takeReadings, run, lastState}
 use Rattle.lingua.specs.Typing.{Entry, bodiesOf, checkProfile}
+use Rattle.lingua.specs.Erased.{valuesOf, evalErased, testErased, admittedErased, assignedErased, changedErased, execErased, readingErased, takenErased, readingsErased, runErased}
 use Rattle.lingua.specs.Trees.{profileOf}
 use Rattle.lingua.specs.Format.{rowsOf}
 use Rattle.lingua.specs.Refusal.{lowest, pairRules, isNumberVariable}
@@ -27,46 +28,8 @@ use Rattle.safety.specs.Derivation.{anything, DerivedRow}
 use Rattle.safety.specs.Programs.{TypedProfile, StateTyped, typed-stable, kept-body, variables-fit, ReadsNumber, typed-reading, start-typed, readings-typed, program-keeps}
 use Rattle.safety.specs.Accepted.{accepted-pair, profile-well-made}
 use Rattle.safety.specs.Passed.{profile-derives, reads-number}
-use Rattle.safety.specs.Erasure.{valuesOf, evalErased, withBody, eval-erased}
-use Rattle.safety.specs.ErasedSteps.{testErased, admittedErased, yokeHoldsErased, test-erased, assigned-erased, changed-erased}
-
--- ---- the run without bodies
--- variable n with the new value, of the variable's own body
-unfoldable pub assignedErased : List Variable → ℕ → Value → Result (List Variable)
-assignedErased vs n v = do
-  admittedErased (variableAt vs n .current) (variableAt vs n .limit) (valuesOf (contents vs)) v
-  ok (set vs n (withContent (variableAt vs n) (composite (variableAt vs n .body) v)))
-
-unfoldable pub changedErased : List Variable → ℕ → Yoke → Result (List Variable)
-changedErased vs n y = do
-  yokeHoldsErased y (valuesOf (contents vs)) (valuesOf (contents vs) n)
-  ok (set vs n (withYoke (variableAt vs n) y))
-
-unfoldable pub execErased : Instruction → State → Progress
-execErased (skip r) s = act s (λ t. going t)
-execErased (assign r n e) s =
-    act s (λ t. going (settled t r (evalErased e (valuesOf (contents (t .store))) (truth false) >>= λ v. assignedErased (t .store) n v)))
-execErased (set-yoke r n y) s = act s (λ t. going (settled t r (changedErased (t .store) n y)))
-execErased (sequence r i j) s = proceed (execErased i s) (λ t. execErased j t)
-execErased (branch r e i j) s = act s (λ t. decided (testErased e (valuesOf (contents (t .store)))) r t (λ u. execErased i u) (λ u. execErased j u))
-execErased (loop r e i) s = repeat (suc (s .left)) (λ t. testErased e (valuesOf (contents (t .store)))) r (λ t. execErased i t) s
-execErased (handle r n i) s = step s (λ t. handled (eqb (t .error) n) t (λ u. execErased i u))
-
-unfoldable pub readingErased : List Variable → Reading → Result (List Variable)
-readingErased vs r = do
-  require (inRange (r .number)) overflow
-  assignedErased vs (r .variable) (whole (r .number))
-
-abbrev pub takenErased : Bool → State → ℕ → Reading → State
-takenErased true s i r = settled s (reading-place + i) (readingErased (s .store) r)
-takenErased false s i r = s
-
-unfoldable pub readingsErased : ℕ → List Reading → State → State
-readingsErased i [] s = s
-readingsErased i (r ∷ rs) s = readingsErased (suc i) rs (takenErased (eqb (s .error) no-error) s i r)
-
-unfoldable pub runErased : Profile → List Reading → ℕ → Progress
-runErased p readings budget = execErased (p .program) (readingsErased 0 readings (started p budget))
+use Rattle.safety.specs.Erasure.{withBody, eval-erased}
+use Rattle.safety.specs.ErasedSteps.{test-erased, assigned-erased, changed-erased}
 
 -- ---- what comes next is the same in the states that a run passes through
 module _ (P : State → Type 0) (stable : Stable P) where

@@ -14,35 +14,13 @@ use Rattle.lingua.specs.Expression.{Expression, Yoke, always, yoke}
 use Rattle.lingua.specs.Evaluation.{evalYoke, evalTest, truthOr, no-current}
 use Rattle.lingua.specs.Store.{Limit, Variable, variableAt, contents, withContent, withYoke, within, admitted, assigned, yokeHolds, yokeChanged}
 use Rattle.lingua.specs.Run.{Declaration, unfilled}
+use Rattle.lingua.specs.Erased.{valueIn, valuesOf, evalErased, yokeErased, testErased, admittedErased, yokeHoldsErased}
 use Rattle.lingua.specs.Typing.{Entry, no-current-body, bodiesOf}
 use Rattle.laws.specs.Outcomes.{body-same}
 use Rattle.safety.specs.Stored.{StoreKept}
 use Rattle.safety.specs.Derivation.{Derived, DerivedYoke}
 use Rattle.safety.specs.Programs.{YokesDerived, kept-body, variables-fit}
-use Rattle.safety.specs.Erasure.{Values, valueIn, valuesOf, evalErased, withBody, eval-erased}
-
--- ---- the values' half
-unfoldable pub yokeErased : Yoke → Values → Value → Result Value
-yokeErased always vars v = ok (truth true)
-yokeErased (yoke e) vars v = evalErased e vars v
-
-unfoldable pub testErased : Expression → Values → Result Bool
-testErased e vars = do
-  v ← evalErased e vars (truth false)
-  ok (asTruth v)
-
--- a new value's yoke and limit
-unfoldable pub admittedErased : Yoke → Option Limit → Values → Value → Result (Unit {0})
-admittedErased y l vars v = do
-  t ← yokeErased y vars v
-  require (asTruth t && within l (asWhole v)) yoke-not-satisfied
-
--- a filled variable's value under a new yoke
-unfoldable pub yokeHoldsErased : Yoke → Values → Option Value → Result (Unit {0})
-yokeHoldsErased y vars none = ok tt
-yokeHoldsErased y vars (some v) = do
-  t ← yokeErased y vars v
-  require (asTruth t) yoke-not-satisfied
+use Rattle.safety.specs.Erasure.{withBody, eval-erased}
 
 -- ---- the theorems
 module _ (H : Entry → Type 0) (ds : List Declaration) (vs : List Variable) (kept : StoreKept (map unfilled ds) vs) where

@@ -13,44 +13,10 @@ use Rattle.lingua.specs.Operation.{unaryBody, binaryBody}
 use Rattle.lingua.specs.Compute.{unaryValue, binaryValue}
 use Rattle.lingua.specs.Expression.{settledBy, Expression, constant, variable, current, unary, binary, lazy, choice, all-list}
 use Rattle.lingua.specs.Evaluation.{Variables, applyUnary, applyBinary, truthOr, booleanOf, allTrue, elementsOf, eval}
+use Rattle.lingua.specs.Erased.{valueIn, valuesOf, evalErased}
 use Rattle.lingua.specs.Typing.{Entry, Bodies}
 use Rattle.safety.specs.Derivation.{Derived, of-constant, of-variable, of-current, of-unary, of-binary, of-lazy, of-choice, of-all-list}
 use Rattle.safety.specs.TypeSound.{VariablesFit}
-
--- each variable's value, none where it is not filled
-abbrev pub Values : Type 0
-Values = ℕ → Option Value
-
-abbrev pub valueIn : Option Composite → Option Value
-valueIn none = none
-valueIn (some x) = some (x .value)
-
-abbrev pub valuesOf : Variables → Values
-valuesOf vars n = valueIn (vars n)
-
--- the values' half of evaluation
-unfoldable pub evalErased : Expression → Values → Value → Result Value
-evalErased (constant r c) vars cur = ok (c .value)
-evalErased (variable r n) vars cur = orFail (vars n) not-filled
-evalErased (current r) vars cur = ok cur
-evalErased (unary r o e) vars cur = do
-  x ← evalErased e vars cur
-  unaryValue o x
-evalErased (binary r o e f) vars cur = do
-  x ← evalErased e vars cur
-  y ← evalErased f vars cur
-  binaryValue o x y
-evalErased (lazy r k e f) vars cur = do
-  x ← evalErased e vars cur
-  if Bool·beq (asTruth x) (settledBy k)
-      then ok (truth (asTruth x))
-      else (evalErased f vars cur >>= λ y. ok (truth (asTruth y)))
-evalErased (choice r p e f) vars cur = do
-  x ← evalErased p vars cur
-  if asTruth x then evalErased e vars cur else evalErased f vars cur
-evalErased (all-list r e) vars cur = do
-  xs ← allAnswers (map (λ x. evalErased e vars x) (valueList (asItems cur)))
-  ok (truth (allOf asTruth xs))
 
 -- a value with its body
 abbrev pub withBody : Body → Result Value → Result Composite

@@ -11,7 +11,7 @@ use borrow.Author.Tests.{ltb-true, lt-ltb}
 use Rattle.lingua.specs.Value.{Composite}
 use Rattle.lingua.specs.Evaluation.{no-current}
 use Rattle.lingua.specs.Expression.{Expression, unary, binary, lazy, choice, all-list, Instruction, skip, sequence, branch, loop, handle}
-use Rattle.lingua.specs.Rows.{ExpressionRow, constant-row, variable-row, current-row, unary-row, binary-row, lazy-row, choice-row, all-list-row, expressionRow, operands, InstructionRow, skip-row, assign-row, set-yoke-row, sequence-row, branch-row, loop-row, handle-row, instructionRow, parts}
+use Rattle.lingua.specs.Rows.{constantValue, ExpressionRow, constant-row, variable-row, current-row, unary-row, binary-row, lazy-row, choice-row, all-list-row, unknown-expression, expressionRow, operands, InstructionRow, skip-row, assign-row, set-yoke-row, sequence-row, branch-row, loop-row, handle-row, unknown-instruction, instructionRow, parts}
 use Rattle.lingua.specs.Trees.{below, lower, no-expression, expressionOf, expressionIn, expressionTree, instructionOf, instructionIn, instructionTree}
 use Rattle.safety.specs.Every.{Every, every-none, every-more, every-implies}
 use Rattle.safety.specs.Constants.{ConstantsHave}
@@ -33,9 +33,9 @@ lower-same r f g other h = fun-ext (λ a. go a (ltb a r) refl)
     go a false e = refl
 
 -- ---- expressions
--- a constant's row
+-- a constant's row; the tree of an unknown row is a constant too
 unfoldable pub ConstantHas : (Composite → Type 0) → ExpressionRow → Type 0
-ConstantHas P (constant-row c) = P c
+ConstantHas P (constant-row c) = P (constantValue c)
 ConstantHas P (variable-row n) = Unit {0}
 ConstantHas P current-row = Unit {0}
 ConstantHas P (unary-row o a) = Unit {0}
@@ -43,6 +43,7 @@ ConstantHas P (binary-row o a b) = Unit {0}
 ConstantHas P (lazy-row k a b) = Unit {0}
 ConstantHas P (choice-row a b c) = Unit {0}
 ConstantHas P (all-list-row a) = Unit {0}
+ConstantHas P unknown-expression = P no-current
 
 module _ (P : Composite → Type 0) where
   node-has : (r : ℕ) (row : ExpressionRow) (look : ℕ → Expression) → ConstantHas P row → ((a : ℕ) → ConstantsHave P (look a)) → ConstantsHave P (expressionOf r row look)
@@ -55,6 +56,7 @@ module _ (P : Composite → Type 0) where
   node-has r (lazy-row c a b) look h k = (k a, k b)
   node-has r (choice-row a b c) look h k = (k a, k b, k c)
   node-has r (all-list-row a) look h k = k a
+  node-has r unknown-expression look h k = h
 
   none-has : P no-current → (r : ℕ) → ConstantsHave P (no-expression r)
   unfolding ConstantsHave
@@ -93,6 +95,7 @@ node-everywhere rows r (sequence-row i j) look q k = at-sequence q (k i) (k j)
 node-everywhere rows r (branch-row e i j) look q k = at-branch q (k i) (k j)
 node-everywhere rows r (loop-row e i) look q k = at-loop q (k i)
 node-everywhere rows r (handle-row n i) look q k = at-handle q (k i)
+node-everywhere rows r unknown-instruction look q k = at-skip q
 
 module _ (Q : Instruction → Type 0) (skips : (r : ℕ) → Q (skip r)) (rows : List ℕ) (count : ℕ) (each : (r : ℕ) → r < count → Q (instructionTree rows r)) where
   in-everywhere : (n r : ℕ) → r < n → r < count → Everywhere Q (instructionIn n rows r)
@@ -119,6 +122,7 @@ operand-trees r (binary-row o a b) look find (every-more p (every-more q every-n
 operand-trees r (lazy-row k a b) look find (every-more p (every-more q every-none)) = ap₂ (λ (e f : Expression). lazy r k e f) p q
 operand-trees r (choice-row a b c) look find (every-more p (every-more q (every-more s every-none))) = λ i. choice r (p i) (q i) (s i)
 operand-trees r (all-list-row a) look find (every-more p every-none) = ap (λ (e : Expression). all-list r e) p
+operand-trees r unknown-expression look find h = refl
 
 part-trees : (rows : List ℕ) (r : ℕ) (row : InstructionRow) (look find : ℕ → Instruction) → Every (λ a. look a ≡ find a) (parts row) → instructionOf rows r row look ≡ instructionOf rows r row find
 unfolding instructionOf parts
@@ -129,6 +133,7 @@ part-trees rows r (sequence-row i j) look find (every-more p (every-more q every
 part-trees rows r (branch-row e i j) look find (every-more p (every-more q every-none)) = ap₂ (λ (a b : Instruction). branch r (expressionTree rows e) a b) p q
 part-trees rows r (loop-row e i) look find (every-more p every-none) = ap (λ (a : Instruction). loop r (expressionTree rows e) a) p
 part-trees rows r (handle-row n i) look find (every-more p every-none) = ap (λ (a : Instruction). handle r n a) p
+part-trees rows r unknown-instruction look find h = refl
 
 pub lower-at : {A : Type 0} (r : ℕ) (f : ℕ → A) (other : A) (a : ℕ) → a < r → lower r f other a ≡ f a
 lower-at r f other a l = ap (λ (t : Bool). below t f other a) (lt-ltb a r l)

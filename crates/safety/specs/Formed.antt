@@ -3,11 +3,11 @@
 -- Assumes nothing.
 use mathlib.Core.Path.{_≡_, refl, sym, subst}
 use mathlib.Core.Bool.{Bool, true, false, Bool·beq}
-use mathlib.Core.List.{List, map}
+use mathlib.Core.List.{List, [], _∷_, map}
 use mathlib.Core.Option.{some}
 use Prim.Native.Nat.{ℕ, zero, suc, _<_}
 use native.Mathlib.Omega.{arith}
-use lib.Dec.{eqb, ltb}
+use lib.Dec.{eqb}
 use Rattle.lingua.specs.Numbers.{declaration-section, type-section, expression-section}
 use Rattle.lingua.specs.Errors.{boolean-expected, yoke-expected, not-filled, record-expected}
 use Rattle.lingua.specs.Outcome.{ok, fail, Result, _>>=_, if_then_else_, allAnswers}
@@ -21,7 +21,7 @@ use Rattle.lingua.specs.Evaluation.{Variables, applyUnary, applyBinary, truthOr
 use Rattle.lingua.specs.Run.{Declaration, run, lastState}
 use Rattle.lingua.specs.Store.{Reading, contents}
 use Rattle.lingua.specs.Typing.{bodiesOf}
-use Rattle.lingua.specs.Rows.{kindAt, aAt, bAt, cAt, rowIn, tableCount, pairCount, detailRow, TypeRow, simple-type, list-type, record-type, expand-type, typeKind, typeRow, ExpressionRow, constant-row, variable-row, current-row, unary-row, binary-row, lazy-row, choice-row, all-list-row, constantKind, expressionKind, expressionRow}
+use Rattle.lingua.specs.Rows.{kindAt, aAt, rowIn, tableCount, pairCount, detailRow, RowKind, numbered, said, TypeRow, simple-type, list-type, record-type, expand-type, unknown-type, typeKinds, typeAt, typeRow, Constant, boolean-constant, number-constant, word-constant, constantValue, ExpressionRow, constant-row, variable-row, current-row, unary-row, binary-row, lazy-row, choice-row, all-list-row, unknown-expression, expressionRow}
 use Rattle.lingua.specs.Trees.{no-expression, typeBodyOf, typeBodyIn, typeBody, expressionOf, expressionIn, expressionTree, bodyOr, declaredBody, declarationAt, profileOf}
 use Rattle.lingua.specs.Format.{rowsOf}
 use Rattle.lingua.specs.Rules.{unaryAttribute, binaryAttribute, attributesFit, expressionAttributes, typeAttributes}
@@ -31,7 +31,7 @@ use Rattle.laws.specs.Formed.{formed-as, unary-formed, binary-formed}
 use Rattle.safety.specs.Answers.{same-answer, never-ok, bound, demanded}
 use Rattle.safety.specs.Every.{Every, every-none, every-more, every-tabulate}
 use Rattle.safety.specs.Forest.{ConstantHas, lower-has}
-use Rattle.safety.specs.Accepted.{AcceptedRows, accepted-pair, other-kinds, type-attributes, expression-attributes, declared-type, type-body-is, declared-body-is, accepted-invariant}
+use Rattle.safety.specs.Accepted.{AcceptedRows, accepted-pair, type-attributes, expression-attributes, declared-type, type-body-is, declared-body-is, accepted-invariant}
 
 -- ---- types
 -- a row of a simple type
@@ -40,16 +40,24 @@ SimpleFormed (simple-type b) = WellFormed b
 SimpleFormed (list-type a) = Unit {0}
 SimpleFormed (record-type n b) = Unit {0}
 SimpleFormed (expand-type a n c) = Unit {0}
+SimpleFormed unknown-type = Unit {0}
 
-simple-if : (t : Bool) (a b : TypeRow) → SimpleFormed a → SimpleFormed b → SimpleFormed (if t then a else b)
-simple-if true a b p q = p
-simple-if false a b p q = q
+-- what each kind of a table says, and an unknown row, any row says
+said-has : {R : Type 0} (P : R → Type 0) (unknown : R) (kinds : List (RowKind R)) (k : ℕ) (rows : List ℕ) (i : ℕ) → P unknown → Every (λ e. P (e .says rows i)) kinds → P (said unknown (numbered k kinds) rows i)
+unfolding said numbered
+said-has P unknown [] k rows i u every-none = u
+said-has P unknown (e ∷ es) k rows i u (every-more h hs) = by (eqb k (e .kind)) (said-has P unknown es k rows i u hs)
+  where
+    by : (t : Bool) → P (said unknown (numbered k es) rows i) → P (said unknown (if t then some e else numbered k es) rows i)
+    by true q = h
+    by false q = q
 
 simple-row : (rows : List ℕ) (r : ℕ) → SimpleFormed (typeRow rows r)
-unfolding SimpleFormed typeRow typeKind
+unfolding SimpleFormed typeRow typeAt typeKinds
 simple-row rows r =
-    let k : ℕ = kindAt rows (rowIn rows type-section r) in
-    simple-if (eqb k 1) _ _ formed-boolean (simple-if (eqb k 2) _ _ formed-number (simple-if (eqb k 3) _ _ formed-word (simple-if (eqb k 4) _ _ tt (simple-if (eqb k 5) _ _ tt tt))))
+    let i : ℕ = rowIn rows type-section r in
+    said-has SimpleFormed unknown-type typeKinds (kindAt rows i) rows i tt
+    (every-more formed-boolean (every-more formed-number (every-more formed-word (every-more tt (every-more tt (every-more tt every-none))))))
 
 -- an outcome whose body, if it has one, is well-formed
 abbrev GivesFormed : Result Body → Type 0
@@ -71,6 +79,7 @@ row-formed (expand-type x n y) look h a f b e =
     let p = bound (look x) _ b e in
     let q = bound (look y) _ b (p .2) in
     binary-formed (expand n) a (f x (p .0) (p .1)) (f y (q .0) (q .1)) (q .2)
+row-formed unknown-type look h a f b e = formed-as (ok-same e) formed-boolean
 
 module _ (rows : List ℕ) (accepted : AcceptedRows rows) where
   type-formed-in : (n r : ℕ) → r < tableCount rows type-section → GivesFormed (typeBodyIn n rows r)
@@ -113,23 +122,23 @@ NamesFormed (choice r p e f) = NamesFormed p × NamesFormed e × NamesFormed f
 NamesFormed (all-list r e) = NamesFormed e
 
 -- a constant of a row is a Boolean, a number or a word
-formed-if : (t : Bool) (c d : Composite) → WellFormed (c .body) → WellFormed (d .body) → WellFormed ((if t then c else d) .body)
-formed-if true c d p q = p
-formed-if false c d p q = q
+value-formed : (c : Constant) → WellFormed (constantValue c .body)
+unfolding constantValue
+value-formed (boolean-constant n) = formed-boolean
+value-formed (number-constant z) = formed-number
+value-formed (word-constant cs) = formed-word
 
-constant-formed : (rows : List ℕ) (r : ℕ) → ConstantHas (λ c. WellFormed (c .body)) (expressionRow rows r)
-unfolding expressionRow
-constant-formed rows r = by (ltb k 4)
-  where
-    i : ℕ
-    i = rowIn rows expression-section r
-
-    k : ℕ
-    k = kindAt rows i
-
-    by : (t : Bool) → ConstantHas (λ c. WellFormed (c .body)) (if t then constant-row (constantKind k rows i) else expressionKind k (aAt rows i) (bAt rows i) (cAt rows i))
-    by true = unfold ConstantHas constantKind in formed-if (eqb k 1) _ _ formed-boolean (formed-if (eqb k 2) _ _ formed-number formed-word)
-    by false = other-kinds (λ c. WellFormed (c .body)) k (aAt rows i) (bAt rows i) (cAt rows i)
+constant-formed : (row : ExpressionRow) → ConstantHas (λ c. WellFormed (c .body)) row
+unfolding ConstantHas
+constant-formed (constant-row c) = value-formed c
+constant-formed (variable-row n) = tt
+constant-formed current-row = tt
+constant-formed (unary-row o a) = tt
+constant-formed (binary-row o a b) = tt
+constant-formed (lazy-row k a b) = tt
+constant-formed (choice-row a b c) = tt
+constant-formed (all-list-row a) = tt
+constant-formed unknown-expression = formed-boolean
 
 node-names : (r : ℕ) (row : ExpressionRow) (look : ℕ → Expression) → ConstantHas (λ c. WellFormed (c .body)) row → attributesFit (expressionAttributes row) ≡ true
     → ((a : ℕ) → NamesFormed (look a)) → NamesFormed (expressionOf r row look)
@@ -142,6 +151,7 @@ node-names r (binary-row o x y) look h a f = (a, f x, f y)
 node-names r (lazy-row k x y) look h a f = (f x, f y)
 node-names r (choice-row x y z) look h a f = (f x, f y, f z)
 node-names r (all-list-row x) look h a f = f x
+node-names r unknown-expression look h a f = h
 
 none-names : (r : ℕ) → NamesFormed (no-expression r)
 unfolding NamesFormed
@@ -152,7 +162,7 @@ module _ (rows : List ℕ) (accepted : AcceptedRows rows) where
   unfolding expressionIn
   names-in zero r l = none-names r
   names-in (suc n) r l =
-      node-names r (expressionRow rows r) _ (constant-formed rows r) (expression-attributes rows accepted r l)
+      node-names r (expressionRow rows r) _ (constant-formed (expressionRow rows r)) (expression-attributes rows accepted r l)
       (lower-has NamesFormed r (λ a. expressionIn n rows a) (no-expression r) (λ a q. names-in n a (omega arith)) (none-names r))
 
   pub tree-names : (r : ℕ) → r < tableCount rows expression-section → NamesFormed (expressionTree rows r)

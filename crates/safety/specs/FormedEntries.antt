@@ -10,7 +10,7 @@ use Rattle.lingua.specs.WellFormed.{WellFormed, formed-boolean}
 use Rattle.lingua.specs.Expression.{Expression, Yoke, always, yoke, Instruction, skip, assign, set-yoke, sequence, branch, loop, handle}
 use Rattle.lingua.specs.Run.{Declaration}
 use Rattle.lingua.specs.Typing.{TypeError, Entry, Bodies, checkInstruction, checkDeclarations, bodiesOf, joined, checkProfile}
-use Rattle.lingua.specs.Rows.{tableCount, pairCount, InstructionRow, skip-row, assign-row, set-yoke-row, sequence-row, branch-row, loop-row, handle-row, instructionRow, evaluated, yokeRoot, yokeSet}
+use Rattle.lingua.specs.Rows.{tableCount, pairCount, InstructionRow, skip-row, assign-row, set-yoke-row, sequence-row, branch-row, loop-row, handle-row, unknown-instruction, instructionRow, evaluated, yokeRoot, yokeSet}
 use Rattle.lingua.specs.Trees.{yokeTree, instructionOf, instructionIn, instructionTree, declarationAt, profileOf}
 use Rattle.lingua.specs.References.{declaredYoke}
 use Rattle.laws.specs.Outcomes.{is-list}
@@ -121,6 +121,7 @@ module _ (rows : List ℕ) (accepted : AcceptedRows rows) where
   node-names r (branch-row e i j) look (every-more h hs) = tree-names rows accepted e h
   node-names r (loop-row e i) look (every-more h hs) = tree-names rows accepted e h
   node-names r (handle-row n i) look h = tt
+  node-names r unknown-instruction look h = tt
 
   row-names : (r : ℕ) → r < tableCount rows instruction-section → RowNames (instructionTree rows r)
   unfolding instructionTree instructionIn

@@ -79,13 +79,23 @@ module _ (rows : List ℕ) (right : nameWrong profile rows ≡ false) where
       ap (λ (t : List ℕ). sameText t (nameAt rows declaration-section d)) e ∙ text-same (nameAt rows declaration-section d) in
       true-is-false (sym same ∙ other)
 
-  one-variable : (c d : ℕ) → c < pairCount rows declaration-section → d < pairCount rows declaration-section → nameAt rows declaration-section c ≡ nameAt rows declaration-section d → c ≡ d
+  pub one-variable : (c d : ℕ) → c < pairCount rows declaration-section → d < pairCount rows declaration-section → nameAt rows declaration-section c ≡ nameAt rows declaration-section d → c ≡ d
   one-variable c d k l e = by (ltb c d) (ltb d c) refl refl
     where
       by : (a b : Bool) → ltb c d ≡ a → ltb d c ≡ b → c ≡ d
       by true b p q = absurd (no-lower c d l e (ltb-true c d p))
       by false true p q = absurd (no-lower d c k (sym e) (ltb-true d c q))
       by false false p q = omega (arith, ltb-false c d p, ltb-false d c q)
+
+  pub number-named : (n : ℕ) → n < pairCount rows declaration-section → (name : List ℕ) → sameText name (nameAt rows declaration-section n) ≡ true → namesNumber rows name ≡ true → isNumberVariable rows n ≡ true
+  unfolding namesNumber
+  number-named n inside name e h =
+      let f = some-fails (pairCount rows declaration-section) (λ d. not (sameText (nameAt rows declaration-section d) name && isNumberVariable rows d)) (not-true _ h) in
+      let both : (sameText (nameAt rows declaration-section (f .at)) name && isNumberVariable rows (f .at)) ≡ true = not-false _ (f .fails) in
+      let same : nameAt rows declaration-section (f .at) ≡ nameAt rows declaration-section n =
+      same-text _ _ (and-left (sameText (nameAt rows declaration-section (f .at)) name) (isNumberVariable rows (f .at)) both) ∙ same-text _ _ e in
+      subst (λ (d : ℕ). isNumberVariable rows d ≡ true) (one-variable (f .at) n (f .below) inside same)
+      (and-right (sameText (nameAt rows declaration-section (f .at)) name) (isNumberVariable rows (f .at)) both)
 
   -- ---- the theorem
   module _ (limits : List ℕ) (fits : limitWrong rows limits ≡ false) (n : ℕ) (inside : n < pairCount rows declaration-section) where
@@ -94,22 +104,12 @@ module _ (rows : List ℕ) (right : nameWrong profile rows ≡ false) where
     names-number l k =
         and-right (leZ (limitRow limits l .low) (limitRow limits l .high) && inRange (limitRow limits l .low) && inRange (limitRow limits l .high)) (namesNumber rows (nameAt limits limit-section l)) (below-true (pairCount limits limit-section) (λ j. limitFits rows limits j) (not-false _ fits) l k)
 
-    pub number-named : (name : List ℕ) → sameText name (nameAt rows declaration-section n) ≡ true → namesNumber rows name ≡ true → isNumberVariable rows n ≡ true
-    unfolding namesNumber
-    number-named name e h =
-        let f = some-fails (pairCount rows declaration-section) (λ d. not (sameText (nameAt rows declaration-section d) name && isNumberVariable rows d)) (not-true _ h) in
-        let both : (sameText (nameAt rows declaration-section (f .at)) name && isNumberVariable rows (f .at)) ≡ true = not-false _ (f .fails) in
-        let same : nameAt rows declaration-section (f .at) ≡ nameAt rows declaration-section n =
-        same-text _ _ (and-left (sameText (nameAt rows declaration-section (f .at)) name) (isNumberVariable rows (f .at)) both) ∙ same-text _ _ e in
-        subst (λ (d : ℕ). isNumberVariable rows d ≡ true) (one-variable (f .at) n (f .below) inside same)
-        (and-right (sameText (nameAt rows declaration-section (f .at)) name) (isNumberVariable rows (f .at)) both)
-
     pub limited-number : (l : Limit) → limitOf limits (nameAt rows declaration-section n) ≡ some l → bodiesOf (profileOf rows limits .declarations) n ≡ number
     unfolding limitOf ReadsNumber
     limited-number l e =
         let f = limit-named 0 (pairCount limits limit-section) limits (nameAt rows declaration-section n) l e in
         let within : f .at < pairCount limits limit-section = omega (arith, f .below) in
-        reads-number rows limits (record { variable = n; number = pos 0 }) (number-named (nameAt limits limit-section (f .at)) (f .named) (names-number (f .at) within))
+        reads-number rows limits (record { variable = n; number = pos 0 }) (number-named n inside (nameAt limits limit-section (f .at)) (f .named) (names-number (f .at) within))
 
 -- a pair of files that no rule refuses
 pub accepted-limited : (prof lims : List ℕ) → lowest (pairRules prof lims) ≡ 0 → (n : ℕ) → n < pairCount (rowsOf prof) declaration-section → (l : Limit)

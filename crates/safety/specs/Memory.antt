@@ -6,7 +6,7 @@ use mathlib.Core.List.{List}
 use mathlib.Core.Option.{Option, some, none}
 use Prim.Native.Nat.{ℕ, _+_, _-_, _*_, _≤_, _<_}
 use native.Mathlib.Omega.{arith}
-use lib.ListN.{length, getD, take, drop, length-set, length-map}
+use lib.ListN.{length, take, drop, length-set, length-map}
 use lib.IntN.{ℤ, pos}
 use Rattle.lingua.specs.Numbers.{body-cells, declaration-section}
 use Rattle.lingua.specs.Errors.{overflow}
@@ -15,7 +15,7 @@ use Rattle.lingua.specs.Body.{Body, number, size}
 use Rattle.lingua.specs.Value.{Value, whole, inRange, Fits, asWhole, pad, cellsOf, Composite, composite}
 use Rattle.lingua.specs.Expression.{Yoke, yokeNumber, Instruction, skip, assign, set-yoke, sequence, branch, loop, handle}
 use Rattle.lingua.specs.Evaluation.{Variables, eval, evalYoke, booleanOf, no-current}
-use Rattle.lingua.specs.Store.{Variable, variableAt, contents, within, admitted, assigned, yokeHolds, yokeChanged, withContent, withYoke, Reading, readingTaken, contentCells, filledFlag, cellsIn, statesIn}
+use Rattle.lingua.specs.Store.{Variable, variableAt, contents, within, admitted, assigned, yokeHolds, yokeChanged, withContent, withYoke, Reading, readingTaken, contentCells, filledFlag, cellsIn, statesIn, flagAt, yokeAt}
 use Rattle.lingua.specs.Run.{State, Profile, unfilled, started, takeReadings, run, lastState}
 use Rattle.lingua.specs.Typing.{bodiesOf}
 use Rattle.lingua.specs.Rows.{pairCount}
@@ -94,7 +94,7 @@ unfolding ContentsFit
 cells-at vs h n l = lent-cells vs n l (small-by vs (λ k m. h k))
 
 pub states-at : (vs : List Variable) (n : ℕ) → n < length vs
-    → (getD (statesIn vs) (2 * n) 0 ≡ filledFlag (variableAt vs n .content)) × (getD (statesIn vs) (2 * n + 1) 0 ≡ yokeNumber (variableAt vs n .current))
+    → (flagAt (statesIn vs) n ≡ filledFlag (variableAt vs n .content)) × (yokeAt (statesIn vs) n ≡ yokeNumber (variableAt vs n .current))
 states-at vs n l = (flag-at vs n l, yoke-at vs n l)
 
 -- ---- the statement
@@ -104,7 +104,7 @@ pub record HoldsValue (rows lims : List ℕ) (cells : List ℤ) (states : List �
   pub value : Value
   pub fits : Fits value (bodiesOf (profileOf rows lims .declarations) n)
   pub in-cells : take body-cells (drop (body-cells * n) cells) ≡ pad body-cells (pos 0) (cellsOf (bodiesOf (profileOf rows lims .declarations) n) value)
-  pub satisfied : (vars : Variables) → evalYoke (yokeTree rows (getD states (2 * n + 1) 0)) vars (composite (bodiesOf (profileOf rows lims .declarations) n) value) ≡ ok (booleanOf true)
+  pub satisfied : (vars : Variables) → evalYoke (yokeTree rows (yokeAt states n)) vars (composite (bodiesOf (profileOf rows lims .declarations) n) value) ≡ ok (booleanOf true)
   pub limited : within (variableAt (declaredStore (profileOf rows lims)) n .limit) (asWhole value) ≡ true
 
 filled-some : (c : Option Composite) → filledFlag c ≡ 1 → (x : Composite) × (c ≡ some x)
@@ -131,11 +131,11 @@ module _ (rows lims : List ℕ) (accepted : AcceptedRows rows) (readings : List 
           omega (arith, length-cells (k .fits))
 
   -- the current yoke is the one that the state word names
-  yoke-is : (n : ℕ) → n < length last → variableAt last n .current ≡ yokeTree rows (getD (statesIn last) (2 * n + 1) 0)
+  yoke-is : (n : ℕ) → n < length last → variableAt last n .current ≡ yokeTree rows (yokeAt (statesIn last) n)
   unfolding last
   yoke-is n l = run-named rows lims readings budget n .is ∙ ap (yokeTree rows) (sym (states-at last n l .1))
 
-  memory-holds : (n : ℕ) → n < length (profileOf rows lims .declarations) → getD (statesIn last) (2 * n) 0 ≡ 1 → HoldsValue rows lims (cellsIn last) (statesIn last) n
+  memory-holds : (n : ℕ) → n < length (profileOf rows lims .declarations) → flagAt (statesIn last) n ≡ 1 → HoldsValue rows lims (cellsIn last) (statesIn last) n
   unfolding contentCells last
   memory-holds n l e =
       let b : Body = bodiesOf (profileOf rows lims .declarations) n in
@@ -153,7 +153,7 @@ module _ (rows lims : List ℕ) (accepted : AcceptedRows rows) (readings : List 
       }
 
 pub accepted-memory : (prof lims : List ℕ) → lowest (pairRules prof lims) ≡ 0 → (readings : List Reading) (budget n : ℕ) → n < length (profileOf (rowsOf prof) (rowsOf lims) .declarations)
-    → getD (statesIn (lastState (run (profileOf (rowsOf prof) (rowsOf lims)) readings budget) .store)) (2 * n) 0 ≡ 1
+    → flagAt (statesIn (lastState (run (profileOf (rowsOf prof) (rowsOf lims)) readings budget) .store)) n ≡ 1
     → HoldsValue (rowsOf prof) (rowsOf lims) (cellsIn (lastState (run (profileOf (rowsOf prof) (rowsOf lims)) readings budget) .store)) (statesIn (lastState (run (profileOf (rowsOf prof) (rowsOf lims)) readings budget) .store)) n
 unfolding last
 accepted-memory prof lims e readings budget n l q = memory-holds (rowsOf prof) (rowsOf lims) (accepted-pair prof lims e) readings budget n l q

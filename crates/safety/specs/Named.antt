@@ -13,7 +13,7 @@ use Rattle.lingua.specs.Expression.{Expression, rowOf, Yoke, yokeNumber, Instru
 use Rattle.lingua.specs.Evaluation.{eval, no-current}
 use Rattle.lingua.specs.Store.{Variable, variableAt, contents, admitted, assigned, yokeHolds, yokeChanged, withContent, withYoke, Reading, readingTaken}
 use Rattle.lingua.specs.Run.{State, Declaration, unfilled, started, takeReadings, run, lastState}
-use Rattle.lingua.specs.Rows.{tableCount, pairCount, ExpressionRow, constant-row, variable-row, current-row, unary-row, binary-row, lazy-row, choice-row, all-list-row, expressionRow, InstructionRow, skip-row, assign-row, set-yoke-row, sequence-row, branch-row, loop-row, handle-row, instructionRow}
+use Rattle.lingua.specs.Rows.{tableCount, pairCount, ExpressionRow, constant-row, variable-row, current-row, unary-row, binary-row, lazy-row, choice-row, all-list-row, unknown-expression, expressionRow, InstructionRow, skip-row, assign-row, set-yoke-row, sequence-row, branch-row, loop-row, handle-row, unknown-instruction, instructionRow}
 use Rattle.lingua.specs.Trees.{expressionOf, expressionIn, expressionTree, yokeTree, instructionOf, instructionIn, instructionTree, declarationAt, profileOf}
 use Rattle.safety.specs.Answers.{same-answer, bound, demanded, after}
 use Rattle.safety.specs.Every.{Every, every-none, every-more, every-all, every-tabulate}
@@ -33,6 +33,7 @@ row-of r (binary-row o a b) look = refl
 row-of r (lazy-row k a b) look = refl
 row-of r (choice-row a b c) look = refl
 row-of r (all-list-row a) look = refl
+row-of r unknown-expression look = refl
 
 pub number-of : (rows : List ℕ) (y : ℕ) → yokeNumber (yokeTree rows y) ≡ y
 unfolding yokeNumber yokeTree expressionTree expressionIn
@@ -109,6 +110,7 @@ module _ (rows : List ℕ) where
   node-named r (branch-row e i j) look = tt
   node-named r (loop-row e i) look = tt
   node-named r (handle-row n i) look = tt
+  node-named r unknown-instruction look = tt
 
   row-named : (r : ℕ) → SetsNamed (instructionTree rows r)
   unfolding instructionTree instructionIn

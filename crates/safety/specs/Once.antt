@@ -14,7 +14,7 @@ use Rattle.lingua.specs.Numbers.{declaration-section, expression-section, instr
 use Rattle.lingua.specs.Outcome.{ok, if_then_else_}
 use Rattle.lingua.specs.Expression.{Expression, Instruction}
 use Rattle.lingua.specs.Typing.{Entry, bodiesOf, joined, checkProfile, layoutOf}
-use Rattle.lingua.specs.Rows.{tableCount, pairCount, ExpressionRow, constant-row, variable-row, current-row, unary-row, binary-row, lazy-row, choice-row, all-list-row, expressionRow, operands, InstructionRow, skip-row, assign-row, set-yoke-row, sequence-row, branch-row, loop-row, handle-row, instructionRow, evaluated, yokeRoot, yokeSet}
+use Rattle.lingua.specs.Rows.{tableCount, pairCount, ExpressionRow, constant-row, variable-row, current-row, unary-row, binary-row, lazy-row, choice-row, all-list-row, unknown-expression, expressionRow, operands, InstructionRow, skip-row, assign-row, set-yoke-row, sequence-row, branch-row, loop-row, handle-row, unknown-instruction, instructionRow, evaluated, yokeRoot, yokeSet}
 use Rattle.lingua.specs.Trees.{tabulateFrom, tabulate, lower, no-expression, expressionOf, expressionIn, expressionTree, yokeTree, instructionOf, instructionIn, instructionTree, declarationAt, profileOf}
 use Rattle.lingua.specs.References.{occurrences, declaredYoke, yokeRoots, plainRoots, expressionUses}
 use Rattle.safety.specs.Every.{Every, every-none, every-more, every-append, every-implies, every-map, every-unmap, every-joined, every-tabulate}
@@ -177,6 +177,7 @@ node-rows r (binary-row o a b) look = ap (λ (l : List ℕ). (treeRows (look a) 
 node-rows r (lazy-row k a b) look = ap (λ (l : List ℕ). (treeRows (look a) ++ l) ++ (r ∷ [])) (sym (append-nil (treeRows (look b))))
 node-rows r (choice-row a b c) look = ap (λ (l : List ℕ). (treeRows (look a) ++ (treeRows (look b) ++ l)) ++ (r ∷ [])) (sym (append-nil (treeRows (look c))))
 node-rows r (all-list-row a) look = ap (λ (l : List ℕ). l ++ (r ∷ [])) (sym (append-nil (treeRows (look a))))
+node-rows r unknown-expression look = refl
 
 module _ (rows : List ℕ) (accepted : AcceptedRows rows) where
   -- what is to be shown of a tree's rows, from what is shown of those of its operands
@@ -239,6 +240,7 @@ own-forest rows r (sequence-row i j) look = refl
 own-forest rows r (branch-row e i j) look = sym (append-nil (rowsUnder rows e))
 own-forest rows r (loop-row e i) look = sym (append-nil (rowsUnder rows e))
 own-forest rows r (handle-row n i) look = refl
+own-forest rows r unknown-instruction look = refl
 
 instruction-forest : (rows : List ℕ) (r : ℕ) → ownRows (instructionTree rows r) ≡ joined (map (rowsUnder rows) (evaluated (instructionRow rows r) ++ yokeSet (instructionRow rows r)))
 unfolding instructionTree instructionIn

@@ -5,7 +5,6 @@ use mathlib.Core.Bool.{true}
 use mathlib.Core.List.{List, map}
 use mathlib.Core.Option.{Option, some, none}
 use Prim.Native.Nat.{ℕ}
-use native.Mathlib.Omega.{arith}
 use Rattle.lingua.specs.Errors.{overflow, yoke-not-satisfied, boolean-expected, no-coherence, yoke-expected}
 use Rattle.lingua.specs.Outcome.{ok}
 use Rattle.lingua.specs.Body.{Body, boolean, number, sameBody}
@@ -17,6 +16,7 @@ use Rattle.lingua.specs.Run.{State, Declaration, Profile, unfilled, started, ta
 use Rattle.lingua.specs.Typing.{Entry, Bodies, no-current-body, bodiesOf}
 use Rattle.lingua.specs.Meets.{yokeMet, yokeChecksMet, assignMet, testMet, onFilled, readingMet, runMet}
 use Rattle.laws.specs.Outcomes.{same-body, body-same}
+use Rattle.laws.specs.Classes.{overflow-runs, yoke-runs}
 use Rattle.safety.specs.Answers.{bound, demanded, after, same-answer}
 use Rattle.safety.specs.Every.{Every, every-none, every-append, every-all, every-implies}
 use Rattle.safety.specs.Constants.{Fitting, ConstantsFit, ClosedYoke}
@@ -68,7 +68,7 @@ module _ (H : Entry → Type 0) (ds : List Declaration) (vs : List Variable) (ke
   yoke-checks-safe y c x h d =
       let s = yoke-safe y c x h d in
       every-append (s .meets) (answer-met (s .good) (λ r e f. every-append (truth-met yoke-expected r e)
-      (truth-answer-met yoke-expected r _ e (λ t. unless-run-error t yoke-not-satisfied (omega arith)))))
+      (truth-answer-met yoke-expected r _ e (λ t. unless-run-error t yoke-not-satisfied yoke-runs))))
 
   pub test-safe : (e : Expression) → ConstantsFit e → Derived H (bodiesOf ds) e no-current-body boolean → RunErrors (testMet e (contents vs))
   unfolding testMet
@@ -85,7 +85,7 @@ module _ (H : Entry → Type 0) (ds : List Declaration) (vs : List Variable) (ke
       (yoke-checks-safe (variableAt vs n .current) (kept n .closed) x h (subst (λ (b : Body). DerivedYoke H (bodiesOf ds) (variableAt vs n .current) b) (sym e) (ys n)))
       (unless-met (sameBody (variableAt vs n .body) (x .body)) no-coherence
       (subst (λ (b : Body). sameBody (variableAt vs n .body) b ≡ true) (kept-body ds vs kept n ∙ sym e) (body-same (variableAt vs n .body)))))
-      (on-true-met (sameBody (variableAt vs n .body) (x .body)) _ (λ q. unless-run-error (within (variableAt vs n .limit) (asWhole (x .value))) yoke-not-satisfied (omega arith)))
+      (on-true-met (sameBody (variableAt vs n .body) (x .body)) _ (λ q. unless-run-error (within (variableAt vs n .limit) (asWhole (x .value))) yoke-not-satisfied yoke-runs))
 
 -- ---- instructions
 module _ (H : Entry → Type 0) (vars : Bodies) (vs : List Variable) (derived : YokesDerived H vars vs) where
@@ -151,7 +151,7 @@ module _ (H : Entry → Type 0) (ds : List Declaration) (r : Reading) where
   quiet-reading : ReadsNumber ds r → QuietReading (StateTyped H ds) r
   unfolding QuietReading ReadsNumber readingMet
   quiet-reading h s k =
-      every-append (unless-run-error (inRange (r .number)) overflow (omega arith))
+      every-append (unless-run-error (inRange (r .number)) overflow overflow-runs)
       (on-true-met (inRange (r .number)) _ (λ e. assign-safe H ds (s .store) (k .kept) (k .yokes) (r .variable) (composite number (whole (r .number))) (fit-whole e) (sym h)))
 
 -- ---- whole runs

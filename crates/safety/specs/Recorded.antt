@@ -1,14 +1,13 @@
 -- Every error that a run records is among those that it meets (`run-recorded`), so a passed pair of files ends with no type error recorded
 -- (`accepted-error`). Assumes nothing.
-use mathlib.Core.Path.{_≡_, refl, sym, _∙_, subst}
+use mathlib.Core.Path.{_≡_, refl, sym, ap, _∙_, subst}
 use mathlib.Core.Logic.{_⊎_, inl, inr}
 use mathlib.Core.Bool.{Bool, true, false}
 use mathlib.Core.List.{List, [], _∷_, _++_, List·Memᴰ, Memᴰ·append-left, Memᴰ·append-right}
-use Prim.Native.Nat.{ℕ, zero, suc, _+_, _<_}
-use native.Mathlib.Omega.{arith}
+use Prim.Native.Nat.{ℕ, zero, suc, _+_}
 use lib.Dec.{eqb}
 use Rattle.lingua.specs.Numbers.{reading-place}
-use Rattle.lingua.specs.Errors.{no-error, overflow, first-type-error}
+use Rattle.lingua.specs.Errors.{no-error, overflow, isAmong, isRunError, isTypeError}
 use Rattle.lingua.specs.Outcome.{ok, fail, Result, _>>=_}
 use Rattle.lingua.specs.Body.{number}
 use Rattle.lingua.specs.Value.{whole, inRange, Composite, composite}
@@ -21,6 +20,7 @@ use Rattle.lingua.specs.Meets.{onAnswer, onTrue, unlessMet, met, assignMet, tes
 use Rattle.lingua.specs.Trees.{profileOf}
 use Rattle.lingua.specs.Format.{rowsOf}
 use Rattle.lingua.specs.Refusal.{lowest, pairRules, isNumberVariable}
+use Rattle.laws.specs.Classes.{run-no-type-error}
 use Rattle.safety.specs.Every.{Every, every-at}
 use Rattle.safety.specs.Passed.{accepted-safe}
 use Rattle.safety.specs.Failures.{In, fails, required-fails, answer-in, unless-in, true-in, eval-met, test-met, assign-met, change-met}
@@ -158,12 +158,21 @@ run-recorded p readings budget =
     by (clears q) = inl q
     by (arises m) = inr m
 
+-- what may be recorded: no error, or a run error; so no type error
+abbrev pub NoTypeError : ℕ → Type 0
+NoTypeError n = (n ≡ no-error) ⊎ (isRunError n ≡ true)
+
+pub no-type-error : (n : ℕ) → NoTypeError n → isTypeError n ≡ false
+unfolding isTypeError isAmong
+no-type-error n (inl e) = ap isTypeError e
+no-type-error n (inr e) = run-no-type-error n e
+
 -- a passed pair of files: no type error is recorded at the end
 pub accepted-error : (prof lims : List ℕ) → lowest (pairRules prof lims) ≡ 0 → (es : List Entry) → checkProfile (profileOf (rowsOf prof) (rowsOf lims)) ≡ ok es
     → (readings : List Reading) → Every (λ r. isNumberVariable (rowsOf prof) (r .variable) ≡ true) readings → (budget : ℕ)
-    → lastState (run (profileOf (rowsOf prof) (rowsOf lims)) readings budget) .error < first-type-error
+    → NoTypeError (lastState (run (profileOf (rowsOf prof) (rowsOf lims)) readings budget) .error)
 accepted-error prof lims e es passed readings ns budget = by (run-recorded (profileOf (rowsOf prof) (rowsOf lims)) readings budget)
   where
-    by : {k : ℕ} → (k ≡ no-error) ⊎ List·Memᴰ k (runMet (profileOf (rowsOf prof) (rowsOf lims)) readings budget) → k < first-type-error
-    by (inl q) = omega arith
-    by (inr m) = every-at (accepted-safe prof lims e es passed readings ns budget) m
+    by : {k : ℕ} → (k ≡ no-error) ⊎ List·Memᴰ k (runMet (profileOf (rowsOf prof) (rowsOf lims)) readings budget) → NoTypeError k
+    by (inl q) = inl q
+    by (inr m) = inr (every-at (accepted-safe prof lims e es passed readings ns budget) m)

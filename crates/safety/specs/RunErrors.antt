@@ -4,14 +4,14 @@ use mathlib.Core.Path.{_≡_, refl, sym, ap, _∙_, subst}
 use mathlib.Core.Bool.{Bool, true, false, not, _&&_, _||_}
 use mathlib.Core.List.{List}
 use mathlib.Core.Option.{Option, some}
-use Prim.Native.Nat.{ℕ, suc, _+_, _<_}
+use Prim.Native.Nat.{ℕ, suc, _+_}
 use native.Mathlib.Omega.{arith}
 use lib.Dec.{ltb, leb}
 use lib.ListN.{length}
 use lib.IntN.{ℤ, pos, _+ℤ_, _-ℤ_, _*ℤ_}
 use borrow.Author.Tests.{ltb-false, lt-ltb, not-true}
 use Rattle.lingua.specs.Numbers.{word-length, list-places, body-cells, body-nodes, body-depth, record-attributes}
-use Rattle.lingua.specs.Errors.{first-type-error, overflow, division-by-zero, list-full, word-too-long, number-expected, word-expected, list-expected, record-expected, no-such-attribute, attribute-present, not-comparable, body-too-large}
+use Rattle.lingua.specs.Errors.{isRunError, overflow, division-by-zero, list-full, word-too-long, number-expected, word-expected, list-expected, record-expected, no-such-attribute, attribute-present, not-comparable, body-too-large}
 use Rattle.lingua.specs.Outcome.{ok, fail, Result, _>>=_, _>>_, require, orFail, if_then_else_}
 use Rattle.lingua.specs.Body.{Body, boolean, number, record-of, Attributes, end, attribute, size, nodes, depth, countAttributes, width, tooLarge, isBoolean, isNumber, isWord, isSimple, sameBody, elementBody, attributesOf, attributeBody, insertAttribute}
 use Rattle.lingua.specs.Value.{Value, Fits, Values, no-items, item, countValues, inRange, asTruth, asWhole, asText, asItems, Composite, composite}
@@ -21,23 +21,24 @@ use Rattle.lingua.specs.Evaluation.{applyUnary, applyBinary, truthOr}
 use Rattle.lingua.specs.Meets.{errorIn, onAnswer, unlessMet, expandMet, changeMet, pushMet, firstMet, divisorMet, secondMet, binaryMet}
 use Rattle.laws.specs.Outcomes.{false-is-true, required, asked, and-left, and-right, same-body, or-right}
 use Rattle.laws.specs.Sound.{unary-sound, binary-sound}
+use Rattle.laws.specs.Classes.{overflow-runs, division-runs, empty-runs, full-runs, long-runs}
 use Rattle.safety.specs.Answers.{same-answer, never-ok}
 use Rattle.safety.specs.Every.{Every, every-none, every-append, every-one}
 use Rattle.safety.specs.Constants.{Fitting}
 
--- errors 1 to 7 only, no type error
+-- run errors only, no type error
 abbrev pub RunErrors : List ℕ → Type 0
-RunErrors ns = Every (λ n. n < first-type-error) ns
+RunErrors ns = Every (λ n. isRunError n ≡ true) ns
 
 -- a value that fits the body, or a run error
 pub data Good (b : Body) : Result Composite → Type 0 where
   gives : {x : Composite} → x .body ≡ b → Fitting x → Good b (ok x)
-  stops : {n : ℕ} → n < first-type-error → Good b (fail n)
+  stops : {n : ℕ} → isRunError n ≡ true → Good b (fail n)
 
 -- an outcome whose error, if it has one, is a run error
 unfoldable pub RunErrorOnly : {A : Type 0} → Result A → Type 0
 RunErrorOnly (ok a) = Unit {0}
-RunErrorOnly (fail n) = n < first-type-error
+RunErrorOnly (fail n) = isRunError n ≡ true
 
 -- ---- what comes next
 pub good-as : {b c : Body} {r : Result Composite} → b ≡ c → Good b r → Good c r
@@ -64,7 +65,7 @@ pub unless-met : (t : Bool) (n : ℕ) → t ≡ true → RunErrors (unlessMet t 
 unless-met true n e = every-none
 unless-met false n e = false-is-true e
 
-pub unless-run-error : (t : Bool) (n : ℕ) → n < first-type-error → RunErrors (unlessMet t n)
+pub unless-run-error : (t : Bool) (n : ℕ) → isRunError n ≡ true → RunErrors (unlessMet t n)
 unless-run-error true n l = every-none
 unless-run-error false n l = every-one l
 
@@ -83,19 +84,19 @@ pub truth-answer-met : (n : ℕ) (x : Composite) (f : Bool → List ℕ) → x .
 truth-answer-met n x f e h = subst (λ (o : Result Bool). RunErrors (onAnswer o f)) (sym (truth-known n x e)) (h (asTruth (x .value)))
 
 -- ---- the values' halves give run errors only
-required-only : {A : Type 0} (t : Bool) (n : ℕ) (o : Result A) → n < first-type-error → RunErrorOnly o → RunErrorOnly (require t n >> o)
+required-only : {A : Type 0} (t : Bool) (n : ℕ) (o : Result A) → isRunError n ≡ true → RunErrorOnly o → RunErrorOnly (require t n >> o)
 unfolding RunErrorOnly
 required-only true n o l h = h
 required-only false n o l h = l
 
 top-only : (vs : Values) → RunErrorOnly (topOf vs)
 unfolding topOf RunErrorOnly
-top-only no-items = omega arith
+top-only no-items = empty-runs
 top-only (item v vs) = tt
 
 pop-only : (vs : Values) → RunErrorOnly (popOf vs)
 unfolding popOf RunErrorOnly
-pop-only no-items = omega arith
+pop-only no-items = empty-runs
 pop-only (item v vs) = tt
 
 unary-only : (o : Unary) (x : Value) → RunErrorOnly (unaryValue o x)
@@ -109,7 +110,7 @@ unary-only pop x = pop-only (asItems x)
 
 ranged-only : (z : ℤ) → RunErrorOnly (ranged z)
 unfolding ranged
-ranged-only z = required-only (inRange z) overflow _ (omega arith) (unfold RunErrorOnly in tt)
+ranged-only z = required-only (inRange z) overflow _ overflow-runs (unfold RunErrorOnly in tt)
 
 binary-only : (o : Binary) (x y : Value) → RunErrorOnly (binaryValue o x y)
 unfolding binaryValue
@@ -117,15 +118,15 @@ binary-only add x y = ranged-only (asWhole x +ℤ asWhole y)
 binary-only subtract x y = ranged-only (asWhole x -ℤ asWhole y)
 binary-only multiply x y = ranged-only (asWhole x *ℤ asWhole y)
 binary-only divide x y =
-    unfold divided in required-only (not (sameNumber (asWhole y) (pos 0))) division-by-zero _ (omega arith) (unfold RunErrorOnly in tt)
+    unfold divided in required-only (not (sameNumber (asWhole y) (pos 0))) division-by-zero _ division-runs (unfold RunErrorOnly in tt)
 binary-only less x y = unfold RunErrorOnly in tt
 binary-only equal x y = unfold RunErrorOnly in tt
 binary-only glue x y =
-    unfold glued in required-only (leb (length (asText x) + length (asText y)) word-length) word-too-long _ (omega arith) (unfold RunErrorOnly in tt)
+    unfold glued in required-only (leb (length (asText x) + length (asText y)) word-length) word-too-long _ long-runs (unfold RunErrorOnly in tt)
 binary-only (expand n) x y = unfold RunErrorOnly in tt
 binary-only (change n) x y = unfold RunErrorOnly in tt
 binary-only push x y =
-    unfold pushed in required-only (ltb (countValues (asItems x)) list-places) list-full _ (omega arith) (unfold RunErrorOnly in tt)
+    unfold pushed in required-only (ltb (countValues (asItems x)) list-places) list-full _ full-runs (unfold RunErrorOnly in tt)
 
 -- ---- operations whose half on bodies passes
 halves-good : (p : Result Body) (q : Result Value) (d : Body) → p ≡ ok d → ((v : Value) → q ≡ ok v → Fits v d) → RunErrorOnly q → Good d (p >>= λ b. q >>= λ v. ok (composite b v))
@@ -197,7 +198,7 @@ push-only x k e =
   where
     full : (t : Bool) → RunErrorOnly (require t list-full)
     full true = unfold RunErrorOnly in tt
-    full false = unfold RunErrorOnly in omega arith
+    full false = unfold RunErrorOnly in full-runs
 
 answered-met : {A : Type 0} {r : Result A} {a : A} → r ≡ ok a → RunErrors (errorIn r)
 answered-met e = subst (λ r. RunErrors (errorIn r)) (sym e) every-none
@@ -227,7 +228,7 @@ second-met divide b y d e =
   where
     divisor : (t u : Bool) → t ≡ true → RunErrorOnly (require t number-expected >> require u division-by-zero)
     divisor true true q = unfold RunErrorOnly in tt
-    divisor true false q = unfold RunErrorOnly in omega arith
+    divisor true false q = unfold RunErrorOnly in division-runs
     divisor false u q = false-is-true q
 second-met less b y d e = unless-met (isNumber (y .body)) number-expected (numbers-both boolean b (y .body) d e .1)
 second-met equal b y d e =

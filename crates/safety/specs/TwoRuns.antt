@@ -4,28 +4,29 @@
 use mathlib.Core.Path.{_≡_, refl, sym, ap, ap₂, _∙_, subst}
 use mathlib.Core.Bool.{not, _&&_}
 use mathlib.Core.List.{List, _∷_}
-use Prim.Native.Nat.{ℕ, zero, suc, _*_, _<_}
+use Prim.Native.Nat.{ℕ, zero, suc, _<_}
 use native.Mathlib.Omega.{arith}
 use lib.Dec.{eqb}
-use lib.ListN.{length, getD}
+use lib.ListN.{length}
 use lib.IntN.{ℤ}
 use borrow.Author.Tests.{eq-eqb}
 use Rattle.lingua.specs.Numbers.{cells-length, states-length, layout-length}
-use Rattle.lingua.specs.Errors.{bad-buffer, bad-reading, type-error-found, first-type-error}
+use Rattle.lingua.specs.Errors.{bad-buffer, bad-reading, type-error-found}
 use Rattle.lingua.specs.Outcome.{Outcome, ok, isOk}
+use Rattle.lingua.specs.Store.{flagAt}
 use Rattle.lingua.specs.Run.{lastState}
 use Rattle.lingua.specs.Typing.{TypeError, Entry, checkProfile, layoutOf}
 use Rattle.lingua.specs.Meets.{runMet}
 use Rattle.lingua.specs.Trees.{profileOf}
 use Rattle.lingua.specs.Format.{rowsOf}
-use Rattle.lingua.specs.Refusal.{rule, lowest, pairRules, readingWrong, checkRefusal, runRules, checkedRefusal, erasedRefusal}
+use Rattle.lingua.specs.Refusal.{rule, lowest, pairRules, readingWrong, typeCheckRefusal, runRules, checkedRefusal, erasedRefusal}
 use Rattle.lingua.specs.Answers.{refused}
-use Rattle.lingua.specs.Calls.{RunCall, ErasedCall, readingsOf, ran, runOf, runUnless, checkedCall, withLayout, erasedUnless, erasedCall, checkVerdict, checkUnless, checkCall, runResult, erasedResult}
+use Rattle.lingua.specs.Calls.{RunCall, ErasedCall, readingsOf, ran, runOf, runUnless, checkedCall, withLayout, erasedUnless, erasedCall, typeCheckVerdict, typeCheckUnless, typeCheckCall, runResult, erasedResult}
 use Rattle.lingua.specs.declared.RunAnswer.{RunAnswer}
 use Rattle.laws.specs.Refusals.{lowest-skip}
 use Rattle.safety.specs.RunErrors.{RunErrors}
 use Rattle.safety.specs.Passed.{accepted-safe, rules-readings}
-use Rattle.safety.specs.Recorded.{accepted-error}
+use Rattle.safety.specs.Recorded.{NoTypeError, accepted-error}
 use Rattle.safety.specs.Memory.{HoldsValue, accepted-memory}
 
 -- ---- what the claim supposes
@@ -46,7 +47,7 @@ pub record ListedLengths (cells : List ℤ) (states : List ℕ) (cells′ : List
 -- ---- the claim
 -- each declared variable whose flag is 1 fits, satisfies its current yoke and lies within the limits
 pub record FilledHold (prof lims : List ℕ) (cells : List ℤ) (states : List ℕ) : Type 0 where
-  pub holds : (n : ℕ) → n < length (profileOf (rowsOf prof) (rowsOf lims) .declarations) → getD states (2 * n) 0 ≡ 1 → HoldsValue (rowsOf prof) (rowsOf lims) cells states n
+  pub holds : (n : ℕ) → n < length (profileOf (rowsOf prof) (rowsOf lims) .declarations) → flagAt states n ≡ 1 → HoldsValue (rowsOf prof) (rowsOf lims) cells states n
 
 module _ (prof lims variables : List ℕ) (numbers : List ℤ) (budget : ℕ) (cells : List ℤ) (states : List ℕ) (c : RunCall) (cells′ : List ℤ) (states′ layout : List ℕ) (d : ErasedCall) where
   -- one number refuses both, and each leaves its own memory as it was
@@ -69,10 +70,10 @@ module _ (prof lims variables : List ℕ) (numbers : List ℤ) (budget : ℕ) (c
     pub passed : checkProfile (profileOf (rowsOf prof) (rowsOf lims)) ≡ ok entries
     pub checked : c ≡ ran budget (runOf prof lims variables numbers budget)
     pub erased : d ≡ withLayout (ran budget (runOf prof lims variables numbers budget)) (layoutOf entries)
-    pub layout-as-checked : d .layout ≡ checkCall prof lims layout .layout
+    pub layout-as-checked : d .layout ≡ typeCheckCall prof lims layout .layout
     -- no type error is met, and none recorded
     pub meets : RunErrors (runMet (profileOf (rowsOf prof) (rowsOf lims)) (readingsOf variables numbers) budget)
-    pub recorded : lastState (runOf prof lims variables numbers budget) .error < first-type-error
+    pub recorded : NoTypeError (lastState (runOf prof lims variables numbers budget) .error)
     -- what is filled in either memory
     pub checked-filled : FilledHold prof lims (c .cells) (c .states)
     pub erased-filled : FilledHold prof lims (d .cells) (d .states)
@@ -104,12 +105,12 @@ same-lengths prof lims variables numbers cells cells′ states states′ c s =
     ap₂ (λ (a b : ℕ). lowest (rule bad-buffer (not (eqb (length variables) (length numbers) && eqb a cells-length && eqb b states-length)) ∷ rule bad-reading (readingWrong (rowsOf prof) variables) ∷ pairRules prof lims)) c s
 
 -- ---- the layout table of a pair that passes
-pub passed-layout : (prof lims layout : List ℕ) (p : Passes prof lims) → length layout ≡ layout-length → checkCall prof lims layout .layout ≡ layoutOf (p .entries)
-unfolding checkCall checkUnless checkVerdict checkRefusal
+pub passed-layout : (prof lims layout : List ℕ) (p : Passes prof lims) → length layout ≡ layout-length → typeCheckCall prof lims layout .layout ≡ layoutOf (p .entries)
+unfolding typeCheckCall typeCheckUnless typeCheckVerdict typeCheckRefusal
 passed-layout prof lims layout p l =
-    ap (λ (k : ℕ). checkUnless k prof lims layout .layout)
+    ap (λ (k : ℕ). typeCheckUnless k prof lims layout .layout)
     (lowest-skip bad-buffer (not (eqb (length layout) layout-length)) (pairRules prof lims) (ap not (eq-eqb (length layout) layout-length l)) ∙ p .accepted)
-    ∙ ap (λ (o : Outcome TypeError (List Entry)). checkVerdict o .layout) (p .checked)
+    ∙ ap (λ (o : Outcome TypeError (List Entry)). typeCheckVerdict o .layout) (p .checked)
 
 -- ---- the claim about the definitions' calls
 module _ (prof lims variables : List ℕ) (numbers : List ℤ) (budget : ℕ) (cells : List ℤ) (states : List ℕ) (cells′ : List ℤ) (states′ layout : List ℕ)

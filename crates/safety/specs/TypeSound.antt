@@ -5,9 +5,8 @@ use mathlib.Core.Path.{_≡_, refl, sym, ap, _∙_, subst}
 use mathlib.Core.Bool.{Bool, true, false, not, Bool·beq}
 use mathlib.Core.List.{List, _∷_, _++_, map}
 use mathlib.Core.Option.{Option, some, none}
-use Prim.Native.Nat.{ℕ, _<_}
-use native.Mathlib.Omega.{arith}
-use Rattle.lingua.specs.Errors.{first-type-error, boolean-expected, list-expected, yoke-expected, not-filled}
+use Prim.Native.Nat.{ℕ}
+use Rattle.lingua.specs.Errors.{isRunError, boolean-expected, list-expected, yoke-expected, not-filled}
 use Rattle.lingua.specs.Outcome.{ok, fail, Result, _>>=_, _>>_, require, orFail, if_then_else_, allAnswers}
 use Rattle.lingua.specs.Body.{Body, boolean, isBoolean, elementBody}
 use Rattle.lingua.specs.Value.{Values, Fits, fit-truth, AllFit, fit-none, fit-item, asTruth, asItems, valueList, allOf, Composite, composite}
@@ -18,6 +17,7 @@ use Rattle.lingua.specs.Typing.{Entry, Typed, Bodies, check, joined}
 use Rattle.lingua.specs.Meets.{errorIn, onAnswer, onTrue, notBoolean, met}
 use Rattle.laws.specs.Outcomes.{and-both, is-list}
 use Rattle.laws.specs.Sound.{fit-list}
+use Rattle.laws.specs.Classes.{unfilled-runs}
 use Rattle.safety.specs.Every.{Every, every-none, every-more, every-append, every-map, every-implies, every-joined}
 use Rattle.safety.specs.Constants.{Fitting, ConstantsHave, ConstantsFit}
 use Rattle.safety.specs.Derivation.{anything, Derived, of-constant, of-variable, of-current, of-unary, of-binary, of-lazy, of-choice, of-all-list, check-derives}
@@ -54,7 +54,7 @@ elements-fitting cur b e h =
 -- the answers of outcomes that are Boolean, all of them, or a run error
 data Booleans : Result (List Composite) → Type 0 where
   all-given : {xs : List Composite} → allOf (λ x. isBoolean (x .body)) xs ≡ true → Booleans (ok xs)
-  one-stops : {n : ℕ} → n < first-type-error → Booleans (fail n)
+  one-stops : {n : ℕ} → isRunError n ≡ true → Booleans (fail n)
 
 is-boolean-body : (x : Composite) → x .body ≡ boolean → isBoolean (x .body) ≡ true
 unfolding isBoolean
@@ -92,7 +92,7 @@ module _ (vars : Bodies) (st : Variables) (fit : VariablesFit vars st) where
     where
       go : (m : Option Composite) → st n ≡ m → Good (vars n) (orFail m not-filled)
       go (some x) e = let p = fit n x e in gives (p .0) (p .1)
-      go none e = stops {n = not-filled} (omega arith)
+      go none e = stops unfilled-runs
 
   -- and, or: the second operand only where the first does not settle it
   lazy-good : (s t : Bool) (r : Result Composite) → Good boolean r

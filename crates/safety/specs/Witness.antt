@@ -14,6 +14,7 @@ use Rattle.lingua.specs.Body.{number}
 use Rattle.lingua.specs.Value.{whole, composite}
 use Rattle.lingua.specs.Operation.{less}
 use Rattle.lingua.specs.Expression.{constant, current, binary, yoke}
+use Rattle.lingua.specs.Store.{flagAt}
 use Rattle.lingua.specs.Typing.{TypeError, Entry, checkProfile}
 use Rattle.lingua.specs.Meets.{runMet}
 use Rattle.lingua.specs.Trees.{yokeTree, limitOf, nameAt, profileOf}
@@ -118,7 +119,7 @@ unfolding computing witness-file witness-rows example-limits-file example-limits
 two-variables = refl
 
 pub speed-holds : HoldsValue (rowsOf witness-file) (rowsOf example-limits-file) speed-cells speed-states 0
-unfolding WitnessRuns runResult runMeaning
+unfolding WitnessRuns runResult runMeaning flagAt
 speed-holds = by witness-two-runs
   where
     by : WitnessRuns → HoldsValue (rowsOf witness-file) (rowsOf example-limits-file) speed-cells speed-states 0

@@ -17,6 +17,11 @@ use crate::parse::Word;
 use crate::parse::parse_inputs;
 use crate::parse::parse_word;
 use lingua::FileKind;
+use lingua::sizes::BLOCK_BYTES;
+use lingua::sizes::CELLS_LENGTH;
+use lingua::sizes::LAYOUT_LENGTH;
+use lingua::sizes::ROWS_LENGTH;
+use lingua::sizes::STATES_LENGTH;
 
 pub enum KindFound {
     Of(FileKind),
@@ -74,8 +79,8 @@ fn read_case(line: &[u8], out: &mut [u8]) -> usize {
 }
 
 fn read_file(kind: FileKind, file: &[u8], out: &mut [u8]) -> usize {
-    let mut rows = [nonsense::BYTE; 8320];
-    let answer = format::read(kind, file, &mut rows);
+    let mut rows = [nonsense::BYTE; ROWS_LENGTH];
+    let answer = calls::files::read(kind, file, &mut rows);
     read_line(answer, nonsense::bytes_kept(&rows), &rows, out)
 }
 
@@ -100,10 +105,14 @@ fn file_length(kind: FileKind, bytes: usize) -> usize
     ensures { λ r. ⌜ r ≤ 33792 ⌝ }
 {
     match kind {
-        FileKind::Limits => 512,
+        FileKind::Limits => BLOCK_BYTES,
         FileKind::Profile => {
             let blocks = (bytes / 10 + 49) / 50;
-            if blocks == 0 { 512 } else { blocks * 512 }
+            if blocks == 0 {
+                BLOCK_BYTES
+            } else {
+                blocks * BLOCK_BYTES
+            }
         }
     }
 }
@@ -124,7 +133,7 @@ fn write_sized(kind: FileKind, model: u16, rows: &[u8], buffer: &mut [u8], out: 
 }
 
 fn write_into(kind: FileKind, model: u16, rows: &[u8], file: &mut [u8], out: &mut [u8]) -> usize {
-    let answer = format::write(kind, model, rows, &mut *file);
+    let answer = calls::files::write(kind, model, rows, &mut *file);
     write_line(answer, nonsense::bytes_kept(file), file, out)
 }
 
@@ -142,8 +151,8 @@ fn inspect_case(line: &[u8], out: &mut [u8]) -> usize {
 }
 
 fn inspect(profile: &[u8], limits: &[u8], out: &mut [u8]) -> usize {
-    let mut layout = [nonsense::WORD; 1024];
-    let answer = typecheck::call::check_types(profile, limits, &mut layout);
+    let mut layout = [nonsense::WORD; LAYOUT_LENGTH];
+    let answer = calls::types::check_types(profile, limits, &mut layout);
     check_line(answer, nonsense::words_kept(&layout), &layout, out)
 }
 
@@ -204,8 +213,8 @@ fn run_checked(
     budget: u16,
     out: &mut [u8],
 ) -> usize {
-    let mut cells = [nonsense::CELL; 1024];
-    let mut states = [nonsense::WORD; 32];
+    let mut cells = [nonsense::CELL; CELLS_LENGTH];
+    let mut states = [nonsense::WORD; STATES_LENGTH];
     let answer = calls::checked_run::run_checked(
         profile,
         limits,
@@ -227,9 +236,9 @@ fn run_erased(
     budget: u16,
     out: &mut [u8],
 ) -> usize {
-    let mut cells = [nonsense::CELL; 1024];
-    let mut states = [nonsense::WORD; 32];
-    let mut layout = [nonsense::WORD; 1024];
+    let mut cells = [nonsense::CELL; CELLS_LENGTH];
+    let mut states = [nonsense::WORD; STATES_LENGTH];
+    let mut layout = [nonsense::WORD; LAYOUT_LENGTH];
     let answer = calls::erased_run::run_erased(
         profile,
         limits,

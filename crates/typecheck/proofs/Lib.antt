@@ -4,4 +4,3 @@ pub mod Returns
 pub mod Settling
 pub mod Wholes
 pub mod Answering
-pub mod Calling

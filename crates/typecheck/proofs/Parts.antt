@@ -19,7 +19,7 @@ use Rattle.safety.specs.Every.{below-true}
 use Rattle.rules.specs.declared.tables.Table.{Table}
 use Rattle.rules.specs.Tables.{IsTable}
 use Rattle.body.specs.Encode.{Holds}
-use Rattle.profile.specs.Types.{bodyAt, BodiesBelow}
+use Rattle.rules.specs.Types.{bodyAt, BodiesBelow}
 use Rattle.typecheck.specs.Check.{variableBodies}
 
 -- ---- variables

@@ -144,7 +144,7 @@ module _ (r : ℕ) (o : Binary) (e f : Expression) (vars : Bodies) (cur : Body) 
     unfolding check
     binary-second c l m l' m' g h = rw (p .is) (failed c l m l' m' (check f vars cur) _ g h)
 
-    module _ (y : Checked) (l2 : List ℕ) (q : Passed y l1 l2 (check f vars cur)) (h : Half-typed) (k : Half h (binaryBody o (p .typed .body) (q .typed .body)) (λ d. binarySecond o d)) where
+    module _ (y : Checked) (l2 : List ℕ) (q : Passed y l1 l2 (check f vars cur)) (h : Half-typed) (k : Half h (binaryBody o (p .typed .body) (q .typed .body)) (λ d. binarySecond o (p .typed .body) (q .typed .body) d)) where
       pub binary-own : (c : Checked) (l m : List ℕ) → (h .error ≡ 0 → ⊥) → (c .error ≡ h .error) × (c .place ≡ r) → Gives c l m (check (binary r o e f) vars cur)
       unfolding check
       binary-own c l m n g =

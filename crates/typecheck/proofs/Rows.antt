@@ -9,10 +9,11 @@ use Rattle.lingua.specs.Rows.{tableCount, instructionRow}
 use Rattle.lingua.specs.Trees.{expressionTree, instructionTree}
 use Rattle.safety.specs.Accepted.{AcceptedRows}
 use Rattle.rules.specs.declared.tables.Tables.{Tables}
-use Rattle.profile.specs.declared.row.ExpressionRow.{ExpressionRow as CodeRow}
-use Rattle.profile.specs.declared.row.InstructionRow.{InstructionRow as CodeInstruction}
-use Rattle.profile.specs.Row.{RowSays, instructionMeaning}
-use Rattle.profile.specs.Accepted.{counts}
+use Rattle.rules.specs.declared.decode.ExpressionRow.{ExpressionRow as CodeRow}
+use Rattle.rules.specs.declared.decode.InstructionRow.{InstructionRow as CodeInstruction}
+use Rattle.rules.specs.Decoded.{instructionMeaning}
+use Rattle.profile.specs.Row.{RowSays}
+use Rattle.rules.specs.Accepted.{counts}
 use Rattle.profile.specs.Facts.{RowFacts, row-facts, rowTree, row-tree, InstructionFacts, instruction-facts, instructionRowTree, instruction-row-tree}
 use Rattle.body.specs.Encode.{Held}
 use Rattle.typecheck.specs.Check.{Asked}
@@ -35,8 +36,8 @@ module _ (rows : List ℕ) (accepted : AcceptedRows rows) (r : ℕ) (l : r < tab
       instruction-row-tree rows r c s (instruction-facts rows accepted r l c s) ∙ ap (instructionRowTree rows r) e
 
 -- ---- what a call asks
-module _ {rows : List ℕ} {t : Tables} {bodies : List ℕ} {r : ℕ} {cur l : List ℕ} (h : Asked rows t bodies r cur l) where
-  pub asked-below : {a : ℕ} {cur' : List ℕ} (l' : List ℕ) → a < r → Held cur' → length l' ≡ length l → Asked rows t bodies a cur' l'
+module _ {rows : List ℕ} {t : Tables} {bodies : List ℕ} {r : ℕ} {cur l : List ℕ} (h : Asked r rows t bodies cur l) where
+  pub asked-below : {a : ℕ} {cur' : List ℕ} (l' : List ℕ) → a < r → Held cur' → length l' ≡ length l → Asked a rows t bodies cur' l'
   asked-below l' p k e =
       record { ready = h .ready; here = let q = h .here in omega arith; held = k; room = e ∙ h .room }
 

@@ -5,7 +5,7 @@ use mathlib.Core.List.{List, [], _∷_, _++_, append-assoc, append-nil}
 use Prim.Native.Nat.{ℕ, zero, suc, _+_, _-_, _≤_, _<_}
 use native.Mathlib.Numerals.{add-one}
 use native.Mathlib.Omega.{arith}
-use Rattle.lingua.specs.Numbers.{instruction-place}
+use Rattle.lingua.specs.Numbers.{instruction-place, body-bytes}
 use Rattle.lingua.specs.Errors.{boolean-expected, no-coherence, yoke-expected}
 use Rattle.lingua.specs.Outcome.{Outcome, ok, fail, allAnswers, _>>=_, _>>_}
 use Rattle.lingua.specs.Body.{Body, boolean, size, nodes, isBoolean, sameBody}
@@ -13,7 +13,7 @@ use Rattle.lingua.specs.Value.{pad}
 use Rattle.lingua.specs.Expression.{Expression, yoke, assign}
 use Rattle.lingua.specs.Trees.{tabulateFrom, tabulate, expressionTree, yokeTree}
 use Rattle.lingua.specs.Typing.{TypeError, typeError, Entry, Typed, Bodies, check, checkYoke, checkTest, checkInstruction, joined, placed}
-use Rattle.body.specs.Encode.{bytes, encoded, Holds, body-bytes}
+use Rattle.body.specs.Encode.{bytes, encoded, Holds}
 use Rattle.typecheck.specs.declared.leaves.Checked.{Checked}
 use Rattle.typecheck.specs.declared.verdicts.Verdict.{Verdict}
 use Rattle.typecheck.specs.Check.{Gives}

@@ -10,7 +10,7 @@ use Rattle.lingua.specs.Typing.{TypeError, Typed, Bodies, placed}
 use Rattle.lingua.specs.Rows.{tableCount, pairCount}
 use Rattle.lingua.specs.Trees.{tabulate, bodyOr, declaredBody}
 use Rattle.safety.specs.Accepted.{AcceptedRows}
-use Rattle.profile.specs.Types.{BodiesBelow}
+use Rattle.rules.specs.Types.{BodiesBelow}
 use Rattle.rules.specs.Tables.{AreTables}
 use Rattle.rules.specs.declared.tables.Tables.{Tables}
 use Rattle.body.specs.Encode.{Holds, Held}
@@ -28,10 +28,18 @@ pub record Ready (rows : List ℕ) (t : Tables) (bodies : List ℕ) : Type 0 whe
   pub types : BodiesBelow rows bodies (tableCount rows type-section)
 
 -- what the check of an expression row asks
-pub record Asked (rows : List ℕ) (t : Tables) (bodies : List ℕ) (row : ℕ) (current layout : List ℕ) : Type 0 where
+pub record Asked (row : ℕ) (rows : List ℕ) (t : Tables) (bodies current layout : List ℕ) : Type 0 where
   pub ready : Ready rows t bodies
   pub here : row < tableCount rows expression-section
   pub held : Held current
+  pub room : length layout ≡ layout-length
+
+-- what the check of an assignment of expression e to variable n asks, in an instruction row
+pub record Assigned (rows : List ℕ) (t : Tables) (bodies : List ℕ) (row n e : ℕ) (layout : List ℕ) : Type 0 where
+  pub ready : Ready rows t bodies
+  pub few : row < 256
+  pub declared : n < pairCount rows declaration-section
+  pub here : e < tableCount rows expression-section
   pub room : length layout ≡ layout-length
 
 -- ---- what it gives

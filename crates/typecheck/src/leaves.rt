@@ -1,8 +1,9 @@
 // What the walk does at one row: the body of a variable, and the row's note in the layout table.
 use body::walk::measure_body;
-use profile::types::type_body;
+use lingua::sizes::BODY_BYTES;
 use rules::fields::a_at;
 use rules::tables::Tables;
+use rules::types::type_body;
 ghost use mathlib.Core.Path.{_≡_};
 ghost use Prim.Native.Nat.{_+_, _*_, _≤_, _<_};
 ghost use lib.ListN.{length};
@@ -15,7 +16,7 @@ ghost use Rattle.typecheck.specs.Check.{Ready, Noted, variableBodies};
 pub struct Checked {
     pub error: u8,
     pub place: u16,
-    pub body: [u8; 96],
+    pub body: [u8; BODY_BYTES],
 }
 
 pub fn fault(error: u8, place: usize) -> Checked
@@ -25,12 +26,12 @@ pub fn fault(error: u8, place: usize) -> Checked
     Checked {
         error: error,
         place: place as u16,
-        body: [0u8; 96],
+        body: [0u8; BODY_BYTES],
     }
 }
 
 // A variable's declared body is that of its declaration's type row.
-pub fn variable_body(rows: &[u8], tables: Tables, bodies: &[u8], n: usize) -> [u8; 96]
+pub fn variable_body(rows: &[u8], tables: Tables, bodies: &[u8], n: usize) -> [u8; BODY_BYTES]
     requires { ⌜ Ready (now rows) tables (now bodies) ⌝ }
     requires { ⌜ n < pairCount (now rows) declaration-section ⌝ }
     ensures { λ r. ⌜ Holds r (variableBodies (now (rows .entry)) n) ⌝ }
@@ -42,7 +43,7 @@ pub fn variable_body(rows: &[u8], tables: Tables, bodies: &[u8], n: usize) -> [u
 }
 
 // A row's result has so many cells; beside them stands the row's second number.
-pub fn noted(row: usize, body: [u8; 96], second: usize, layout: &mut [u16]) -> Checked
+pub fn noted(row: usize, body: [u8; BODY_BYTES], second: usize, layout: &mut [u16]) -> Checked
     requires { ⌜ Held body ⌝ }
     requires { ⌜ second ≤ 64 ⌝ }
     requires { ⌜ 2 * row + 1 < length (now layout) ⌝ }

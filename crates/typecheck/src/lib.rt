@@ -1,5 +1,4 @@
 // The type check (document 01: inspection): the checks of a run on bodies alone, and the layout table.
-pub mod call; // call.rt: the public call
 pub mod leaves; // leaves.rt: what the walk does at one row
 pub mod verdicts; // verdicts.rt: yokes, tests and instructions
 pub mod walk; // walk.rt: down an expression's tree

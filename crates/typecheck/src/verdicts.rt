@@ -8,21 +8,22 @@ use body::walk::BOOLEAN;
 use lingua::errors::BOOLEAN_EXPECTED;
 use lingua::errors::NO_COHERENCE;
 use lingua::errors::YOKE_EXPECTED;
+use lingua::sizes::BODY_BYTES;
 use lingua::sizes::INSTRUCTION_PLACE;
-use profile::row::InstructionRow as Row;
 use profile::row::instruction_row;
+use rules::decode::InstructionRow as Row;
 use rules::tables::Tables;
 ghost use mathlib.Core.Path.{_≡_};
 ghost use Prim.Native.Nat.{_+_, _≤_, _<_};
 ghost use lib.ListN.{length};
-ghost use Rattle.lingua.specs.Numbers.{layout-length, declaration-section, expression-section, instruction-section};
+ghost use Rattle.lingua.specs.Numbers.{layout-length, expression-section, instruction-section, declaration-section, most-instructions};
 ghost use Rattle.lingua.specs.Body.{Body};
 ghost use Rattle.lingua.specs.Expression.{assign};
-ghost use Rattle.lingua.specs.Rows.{tableCount, pairCount};
+ghost use Rattle.lingua.specs.Rows.{tableCount};
 ghost use Rattle.lingua.specs.Typing.{checkYoke, checkTest, checkInstruction};
 ghost use Rattle.lingua.specs.Trees.{expressionTree, yokeTree, instructionTree};
 ghost use Rattle.body.specs.Encode.{Holds, Held};
-ghost use Rattle.typecheck.specs.Check.{Ready, variableBodies};
+ghost use Rattle.typecheck.specs.Check.{Ready, Assigned, variableBodies};
 ghost use Rattle.typecheck.specs.Verdicts.{Settles};
 
 // The first type error and its place, or error 0.
@@ -46,7 +47,7 @@ pub fn check_yoke(
     tables: Tables,
     bodies: &[u8],
     yoke: usize,
-    current: [u8; 96],
+    current: [u8; BODY_BYTES],
     place: u16,
     layout: &mut [u16],
 ) -> Verdict
@@ -59,7 +60,7 @@ pub fn check_yoke(
     if yoke == 0 {
         return settled(0, 0);
     }
-    let x = check(rows, tables, bodies, yoke - 1, current, layout);
+    let x = check(yoke - 1, rows, tables, bodies, current, layout);
     if x.error != 0 {
         return settled(x.error, x.place);
     }
@@ -85,7 +86,7 @@ fn check_test(
     ensures { λ r. ⌜ Settles r (now (layout .entry)) (now (layout .exit)) (checkTest (expressionTree (now (rows .entry)) e) (variableBodies (now (rows .entry))) place) ⌝ }
 {
     let none = simple(BOOLEAN);
-    let x = check(rows, tables, bodies, e, none, layout);
+    let x = check(e, rows, tables, bodies, none, layout);
     if x.error != 0 {
         return settled(x.error, x.place);
     }
@@ -106,15 +107,11 @@ fn check_assignment(
     e: usize,
     layout: &mut [u16],
 ) -> Verdict
-    requires { ⌜ Ready (now rows) tables (now bodies) ⌝ }
-    requires { ⌜ row < 256 ⌝ }
-    requires { ⌜ n < pairCount (now rows) declaration-section ⌝ }
-    requires { ⌜ e < tableCount (now rows) expression-section ⌝ }
-    requires { ⌜ length (now layout) ≡ layout-length ⌝ }
+    requires { ⌜ Assigned (now rows) tables (now bodies) row n e (now layout) ⌝ }
     ensures { λ r. ⌜ Settles r (now (layout .entry)) (now (layout .exit)) (checkInstruction (variableBodies (now (rows .entry))) (assign row n (expressionTree (now (rows .entry)) e))) ⌝ }
 {
     let none = simple(BOOLEAN);
-    let x = check(rows, tables, bodies, e, none, layout);
+    let x = check(e, rows, tables, bodies, none, layout);
     if x.error != 0 {
         return settled(x.error, x.place);
     }

@@ -14,9 +14,10 @@ use lingua::errors::NO_COHERENCE;
 use lingua::errors::YOKE_EXPECTED;
 use lingua::operations::BinaryOperation;
 use lingua::operations::UnaryOperation;
+use lingua::sizes::BODY_BYTES;
 use profile::constants::constant_body;
-use profile::row::ExpressionRow as Row;
 use profile::row::expression_row;
+use rules::decode::ExpressionRow as Row;
 use rules::tables::Tables;
 ghost use Prim.Native.Nat.{_<_};
 ghost use Rattle.lingua.specs.Body.{Body};
@@ -29,20 +30,20 @@ ghost use Rattle.typecheck.specs.Check.{Asked, Gives, variableBodies};
 
 // The body that an expression row gives where the current value has a body.
 pub fn check(
+    row: usize,
     rows: &[u8],
     tables: Tables,
     bodies: &[u8],
-    row: usize,
     current: [u8; 96],
     layout: &mut [u16],
 ) -> Checked
-    requires { ⌜ Asked (now rows) tables (now bodies) row current (now layout) ⌝ }
+    requires { ⌜ Asked row (now rows) tables (now bodies) current (now layout) ⌝ }
     ensures { λ r. ⌜ ((b : Body) → Holds current b → Gives r (now (layout .entry)) (now (layout .exit)) (check (expressionTree (now (rows .entry)) row) (variableBodies (now (rows .entry))) b)) ⌝ }
 {
     let table = tables.expressions;
     let e = expression_row(rows, table, row);
     match e {
-        Row::Constant => {
+        Row::Constant(_) => {
             let body = constant_body(rows, table, row);
             noted(row, body, 0, layout)
         }
@@ -51,30 +52,30 @@ pub fn check(
             noted(row, body, 0, layout)
         }
         Row::Current => noted(row, current, 0, layout),
-        Row::Unary(o, a) => unary(rows, tables, bodies, row, o, a, current, layout),
-        Row::Binary(o, a, b) => binary(rows, tables, bodies, row, o, a, b, current, layout),
-        Row::Lazy(_, a, b) => lazy(rows, tables, bodies, row, a, b, current, layout),
-        Row::Choice(a, b, c) => choice(rows, tables, bodies, row, a, b, c, current, layout),
-        Row::AllList(a) => all_list(rows, tables, bodies, row, a, current, layout),
+        Row::Unary(o, a) => unary(row, rows, tables, bodies, o, a, current, layout),
+        Row::Binary(o, a, b) => binary(row, rows, tables, bodies, o, a, b, current, layout),
+        Row::Lazy(_, a, b) => lazy(row, rows, tables, bodies, a, b, current, layout),
+        Row::Choice(a, b, c) => choice(row, rows, tables, bodies, a, b, c, current, layout),
+        Row::AllList(a) => all_list(row, rows, tables, bodies, a, current, layout),
     }
 }
 
 // The operand, then the row's own half on bodies.
 fn unary(
+    row: usize,
     rows: &[u8],
     tables: Tables,
     bodies: &[u8],
-    row: usize,
     o: UnaryOperation,
     a: usize,
-    current: [u8; 96],
+    current: [u8; BODY_BYTES],
     layout: &mut [u16],
 ) -> Checked
-    requires { ⌜ Asked (now rows) tables (now bodies) row current (now layout) ⌝ }
+    requires { ⌜ Asked row (now rows) tables (now bodies) current (now layout) ⌝ }
     requires { ⌜ a < row ⌝ }
     ensures { λ r. ⌜ ((b : Body) → Holds current b → Gives r (now (layout .entry)) (now (layout .exit)) (check (unary row (unaryMeaning o) (expressionTree (now (rows .entry)) a)) (variableBodies (now (rows .entry))) b)) ⌝ }
 {
-    let x = check(rows, tables, bodies, a, current, layout);
+    let x = check(a, rows, tables, bodies, current, layout);
     if x.error != 0 {
         return x;
     }
@@ -89,25 +90,25 @@ fn unary(
 
 // Both operands, then the row's own half on bodies.
 fn binary(
+    row: usize,
     rows: &[u8],
     tables: Tables,
     bodies: &[u8],
-    row: usize,
     o: BinaryOperation,
     a: usize,
     b: usize,
-    current: [u8; 96],
+    current: [u8; BODY_BYTES],
     layout: &mut [u16],
 ) -> Checked
-    requires { ⌜ Asked (now rows) tables (now bodies) row current (now layout) ⌝ }
+    requires { ⌜ Asked row (now rows) tables (now bodies) current (now layout) ⌝ }
     requires { ⌜ (a < row) × (b < row) ⌝ }
     ensures { λ r. ⌜ ((d : Body) → Holds current d → Gives r (now (layout .entry)) (now (layout .exit)) (check (binary row (binaryMeaning o) (expressionTree (now (rows .entry)) a) (expressionTree (now (rows .entry)) b)) (variableBodies (now (rows .entry))) d)) ⌝ }
 {
-    let x = check(rows, tables, bodies, a, current, layout);
+    let x = check(a, rows, tables, bodies, current, layout);
     if x.error != 0 {
         return x;
     }
-    let y = check(rows, tables, bodies, b, current, layout);
+    let y = check(b, rows, tables, bodies, current, layout);
     if y.error != 0 {
         return y;
     }
@@ -123,20 +124,20 @@ fn binary(
 
 // And and or: each operand, and then that it is Boolean.
 fn lazy(
+    row: usize,
     rows: &[u8],
     tables: Tables,
     bodies: &[u8],
-    row: usize,
     a: usize,
     b: usize,
-    current: [u8; 96],
+    current: [u8; BODY_BYTES],
     layout: &mut [u16],
 ) -> Checked
-    requires { ⌜ Asked (now rows) tables (now bodies) row current (now layout) ⌝ }
+    requires { ⌜ Asked row (now rows) tables (now bodies) current (now layout) ⌝ }
     requires { ⌜ (a < row) × (b < row) ⌝ }
     ensures { λ r. ⌜ ((k : Connective) (d : Body) → Holds current d → Gives r (now (layout .entry)) (now (layout .exit)) (check (lazy row k (expressionTree (now (rows .entry)) a) (expressionTree (now (rows .entry)) b)) (variableBodies (now (rows .entry))) d)) ⌝ }
 {
-    let x = check(rows, tables, bodies, a, current, layout);
+    let x = check(a, rows, tables, bodies, current, layout);
     if x.error != 0 {
         return x;
     }
@@ -144,7 +145,7 @@ fn lazy(
     if !is_boolean(left) {
         return fault(BOOLEAN_EXPECTED, row);
     }
-    let y = check(rows, tables, bodies, b, current, layout);
+    let y = check(b, rows, tables, bodies, current, layout);
     if y.error != 0 {
         return y;
     }
@@ -157,21 +158,21 @@ fn lazy(
 
 // The test, that it is Boolean, both branches, and then that their bodies are equal.
 fn choice(
+    row: usize,
     rows: &[u8],
     tables: Tables,
     bodies: &[u8],
-    row: usize,
     a: usize,
     b: usize,
     c: usize,
-    current: [u8; 96],
+    current: [u8; BODY_BYTES],
     layout: &mut [u16],
 ) -> Checked
-    requires { ⌜ Asked (now rows) tables (now bodies) row current (now layout) ⌝ }
+    requires { ⌜ Asked row (now rows) tables (now bodies) current (now layout) ⌝ }
     requires { ⌜ (a < row) × ((b < row) × (c < row)) ⌝ }
     ensures { λ r. ⌜ ((d : Body) → Holds current d → Gives r (now (layout .entry)) (now (layout .exit)) (check (choice row (expressionTree (now (rows .entry)) a) (expressionTree (now (rows .entry)) b) (expressionTree (now (rows .entry)) c)) (variableBodies (now (rows .entry))) d)) ⌝ }
 {
-    let t = check(rows, tables, bodies, a, current, layout);
+    let t = check(a, rows, tables, bodies, current, layout);
     if t.error != 0 {
         return t;
     }
@@ -179,11 +180,11 @@ fn choice(
     if !is_boolean(test) {
         return fault(BOOLEAN_EXPECTED, row);
     }
-    let yes = check(rows, tables, bodies, b, current, layout);
+    let yes = check(b, rows, tables, bodies, current, layout);
     if yes.error != 0 {
         return yes;
     }
-    let no = check(rows, tables, bodies, c, current, layout);
+    let no = check(c, rows, tables, bodies, current, layout);
     if no.error != 0 {
         return no;
     }
@@ -197,15 +198,15 @@ fn choice(
 
 // That the current value is a list, then the inner yoke on an element's body, and that it is Boolean.
 fn all_list(
+    row: usize,
     rows: &[u8],
     tables: Tables,
     bodies: &[u8],
-    row: usize,
     a: usize,
-    current: [u8; 96],
+    current: [u8; BODY_BYTES],
     layout: &mut [u16],
 ) -> Checked
-    requires { ⌜ Asked (now rows) tables (now bodies) row current (now layout) ⌝ }
+    requires { ⌜ Asked row (now rows) tables (now bodies) current (now layout) ⌝ }
     requires { ⌜ a < row ⌝ }
     ensures { λ r. ⌜ ((b : Body) → Holds current b → Gives r (now (layout .entry)) (now (layout .exit)) (check (all-list row (expressionTree (now (rows .entry)) a)) (variableBodies (now (rows .entry))) b)) ⌝ }
 {
@@ -214,7 +215,7 @@ fn all_list(
         return fault(h.error, row);
     }
     let element = h.body;
-    let x = check(rows, tables, bodies, a, element, layout);
+    let x = check(a, rows, tables, bodies, element, layout);
     if x.error != 0 {
         return x;
     }

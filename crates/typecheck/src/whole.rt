@@ -5,6 +5,7 @@ use crate::verdicts::check_instruction;
 use crate::verdicts::check_yoke;
 use crate::verdicts::settled;
 use lingua::sizes::DECLARATION_PLACE;
+use lingua::sizes::LAYOUT_LENGTH;
 use rules::fields::b_at;
 use rules::tables::Tables;
 ghost use mathlib.Core.Path.{_≡_};
@@ -80,7 +81,7 @@ fn clear(layout: &mut [u16])
     ensures { λ u. ⌜ now (layout .exit) ≡ replicate layout-length 0 ⌝ }
 {
     let mut i = 0;
-    while i < 1024 {
+    while i < LAYOUT_LENGTH {
         layout[i] = 0;
         i += 1;
     }

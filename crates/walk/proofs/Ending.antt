@@ -15,11 +15,11 @@ use Rattle.lingua.specs.declared.RunAnswer.{RunAnswer}
 use Rattle.lingua.specs.Calls.{endingOf, ran, runResult}
 use Rattle.safety.specs.Invariant.{declaredStore}
 use Rattle.safety.specs.Steps.{run-left}
-use Rattle.profile.specs.Accepted.{counts}
+use Rattle.rules.specs.Accepted.{counts}
 use Rattle.rules.specs.declared.tables.Table.{Table}
 use Rattle.rules.specs.Tables.{IsTable}
-use Rattle.run.specs.Moments.{stateOf, progressOf}
-use Rattle.run.specs.declared.steps.Moment.{Moment}
+use Rattle.run.specs.Statuses.{stateOf, progressOf}
+use Rattle.run.specs.declared.steps.Status.{Status}
 use Rattle.run.specs.Reached.{Lent, Going, Reached}
 use Rattle.walk.specs.declared.way.Way.{Way}
 use Rattle.walk.specs.declared.way.Way.the-variants as way
@@ -40,8 +40,8 @@ module _ {c : Context} {l : Lent} {vs : List Variable} where
   holds-states way.Erased h = h .by .running .world .states-are
 
 -- ---- a run's start
-pub fresh-going : (m : Moment) (budget : ℕ) → m ≡ record { error = 0; place = 0; left = budget; out = false } → Going m
-fresh-going m budget e = subst (λ (x : Moment). Going x) (sym e) (record { not-out = refl; clean = λ z. refl })
+pub fresh-going : (m : Status) (budget : ℕ) → m ≡ record { error = 0; place = 0; left = budget; out = false } → Going m
+fresh-going m budget e = subst (λ (x : Status). Going x) (sym e) (record { not-out = refl; clean = λ z. refl })
 
 module _ {w : Way} {c : Context} {l : Lent} (b : Begins w c l) where
   -- rule 7 bounds the tables
@@ -52,7 +52,7 @@ module _ {w : Way} {c : Context} {l : Lent} (b : Begins w c l) where
   pub some-row : {u : Table} → IsTable (c .rows) instruction-section u → 1 ≤ u .count
   some-row h = omega (arith, h .count, counts (c .rows) (holds-accepted w (b .holds) .counts) .instructions .least)
 
-  pub program-asked : {u : Table} {at : Lent} {first taken : Moment} {rs : List Reading} {space : ℕ} → IsTable (c .rows) instruction-section u → TakesAll w c l at first taken rs → 32832 ≡ space → Asked (u .count - 1) w c u at taken space
+  pub program-asked : {u : Table} {at : Lent} {first taken : Status} {rs : List Reading} {space : ℕ} → IsTable (c .rows) instruction-section u → TakesAll w c l at first taken rs → 32832 ≡ space → Asked (u .count - 1) w c u at taken space
   program-asked h k e =
       let q = k .reaches _ (b .holds) in
       record { standing = record { store = q .store; holds = q .running; enough = omega (arith, begins-standing .enough, e) }; instructions = h; there = omega (arith, some-row h); going = k .goes }
@@ -68,7 +68,7 @@ unfolding runResult ran
 result-is a budget cells states q true s e h c d = rw (e, h, c, d)
 result-is a budget cells states q false s e h c d = rw (e, h, c, d)
 
-module _ {w : Way} {c : Context} {l at after : Lent} {u : Table} {first taken last : Moment} {rs : List Reading} (rows-of : IsTable (c .rows) instruction-section u) (budget : ℕ)
+module _ {w : Way} {c : Context} {l at after : Lent} {u : Table} {first taken last : Status} {rs : List Reading} (rows-of : IsTable (c .rows) instruction-section u) (budget : ℕ)
     (fresh : first ≡ record { error = 0; place = 0; left = budget; out = false }) (took : TakesAll w c l at first taken rs) (did : Executes (u .count - 1) w c at after taken last) where
   run-reaches : (limits : List ℕ) → Holds w c l (declaredStore (profileOf (c .rows) limits)) → Reached (Holds w c) after last (run (profileOf (c .rows) limits) rs budget)
   unfolding run profileOf started
@@ -77,7 +77,7 @@ module _ {w : Way} {c : Context} {l at after : Lent} {u : Table} {first taken la
       let k = did .reaches (q .store) (q .running) in
       let row : pred (tableCount (c .rows) instruction-section) ≡ u .count - 1 = omega (arith, rows-of .count) in
       let inputs : takeReadings 0 rs (started (profileOf (c .rows) limits) budget) ≡ stateOf taken (q .store) =
-      ap (λ (m : Moment). takeReadings 0 rs (stateOf m (declaredStore (profileOf (c .rows) limits)))) (sym fresh) ∙ going-state (taken .out) _ _ (took .goes .not-out) (q .is) in
+      ap (λ (m : Status). takeReadings 0 rs (stateOf m (declaredStore (profileOf (c .rows) limits)))) (sym fresh) ∙ going-state (taken .out) _ _ (took .goes .not-out) (q .is) in
       record {
         store = k .store;
         is = ap₂ (λ (n : ℕ) (s : State). exec (instructionTree (c .rows) n) s) row inputs ∙ k .is;

@@ -15,14 +15,16 @@ use Rattle.lingua.specs.Trees.{expressionTree, instructionTree}
 use Rattle.safety.specs.Accepted.{AcceptedRows}
 use Rattle.rules.specs.Tables.{IsTable}
 use Rattle.rules.specs.declared.tables.Table.{Table}
-use Rattle.profile.specs.Accepted.{counts}
+use Rattle.profile.specs.Row.{KnownInstruction}
+use Rattle.rules.specs.Accepted.{counts}
+use Rattle.profile.specs.Known.{instruction-row-known}
 use Rattle.profile.specs.Yokes.{every-yoke}
-use Rattle.profile.specs.declared.row.InstructionRow.{InstructionRow}
-use Rattle.profile.specs.declared.row.InstructionRow.the-variants as does
-use Rattle.profile.specs.Row.{instructionMeaning}
+use Rattle.rules.specs.declared.decode.InstructionRow.{InstructionRow}
+use Rattle.rules.specs.declared.decode.InstructionRow.the-variants as does
+use Rattle.rules.specs.Decoded.{instructionMeaning}
 use Rattle.profile.specs.Facts.{InstructionFacts, instruction-facts, instructionRowTree, instruction-row-tree}
-use Rattle.run.specs.declared.steps.Moment.{Moment}
-use Rattle.run.specs.Moments.{stateOf}
+use Rattle.run.specs.declared.steps.Status.{Status}
+use Rattle.run.specs.Statuses.{stateOf}
 use Rattle.run.specs.Reached.{Lent, Going, Reached}
 use Rattle.run.specs.Acting.{reaches-as}
 use Rattle.erased.specs.Meaning.{AssignRow, YokeRow, Tests, TestRow}
@@ -47,12 +49,16 @@ pub meant-as : {rows : List ℕ} {row : ℕ} {c d : InstructionRow} → c ≡ d 
 meant-as e h = record { is = sym (ap (λ (k : InstructionRow). instructionMeaning k) e) ∙ h }
 
 -- ---- a row's instruction
-module _ {row : ℕ} {w : Way} {c : Context} {u : Table} {l : Lent} {m : Moment} {room : ℕ} (a : Asked row w c u l m room) where
+module _ {row : ℕ} {w : Way} {c : Context} {u : Table} {l : Lent} {m : Status} {room : ℕ} (a : Asked row w c u l m room) where
   accepted : AcceptedRows (c .rows)
   accepted = holds-accepted w (a .standing .holds)
 
   inside : row < tableCount (c .rows) instruction-section
   inside = omega (arith, a .there, a .instructions .count)
+
+  -- its kind is known
+  pub kind-known : KnownInstruction (c .rows) row
+  kind-known = instruction-row-known (c .rows) accepted row inside
 
   -- a row number fits a place
   pub narrow : row < 65536
@@ -65,7 +71,7 @@ module _ {row : ℕ} {w : Way} {c : Context} {u : Table} {l : Lent} {m : Moment}
   tree {d} s = instruction-row-tree (c .rows) row d (s .is) (facts s)
 
   -- by the tree of the row's parts
-  pub executes : {d : InstructionRow} {after : Lent} {r : Moment} → Means (c .rows) row d
+  pub executes : {d : InstructionRow} {after : Lent} {r : Status} → Means (c .rows) row d
       → ((vs : List Variable) → Holds w c l vs → Reached (Holds w c) after r (exec (instructionRowTree (c .rows) row d) (stateOf m vs))) → Executes row w c l after m r
   executes {d} s f = record { reaches = λ vs h. reaches-as (ap (λ (i : Instruction). exec i (stateOf m vs)) (tree s)) (f vs h) }
 
@@ -98,10 +104,10 @@ module _ {row : ℕ} {w : Way} {c : Context} {u : Table} {l : Lent} {m : Moment}
   loop-test s = (there (facts s .0), tested s refl)
 
   -- ---- a part's instruction, where the run then stands
-  pub part : {i space : ℕ} {at : Lent} {n : Moment} (vs : List Variable) → Holds w c at vs → room ≡ space → i < row → Going n → Asked i w c u at n space
+  pub part : {i space : ℕ} {at : Lent} {n : Status} (vs : List Variable) → Holds w c at vs → room ≡ space → i < row → Going n → Asked i w c u at n space
   part vs h e k g =
       record { standing = record { store = vs; holds = h; enough = omega (arith, a .standing .enough, e) }; instructions = a .instructions; there = omega (arith, a .there, k); going = g }
 
 -- the run where a part left it
-pub onward-asked : {row i : ℕ} {w : Way} {c : Context} {u : Table} {l at : Lent} {m n : Moment} {room space : ℕ} {q : Progress} → Asked row w c u l m room → Reached (Holds w c) at n q → room ≡ space → i < row → n .out ≡ false → Asked i w c u at n space
+pub onward-asked : {row i : ℕ} {w : Way} {c : Context} {u : Table} {l at : Lent} {m n : Status} {room space : ℕ} {q : Progress} → Asked row w c u l m room → Reached (Holds w c) at n q → room ≡ space → i < row → n .out ≡ false → Asked i w c u at n space
 onward-asked a x e k o = part a (x .store) (x .running) e k (record { not-out = o; clean = x .clean })

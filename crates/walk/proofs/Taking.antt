@@ -17,8 +17,8 @@ use Rattle.lingua.specs.Run.{State, going, lastState, settled, takenUnless, tak
 use Rattle.lingua.specs.Refusal.{isNumberVariable, readingWrong}
 use Rattle.lingua.specs.Calls.{readingsOf}
 use Rattle.laws.specs.Outcomes.{false-is-true, and-left, and-right}
-use Rattle.run.specs.Moments.{stateOf, progressOf, recorded}
-use Rattle.run.specs.declared.steps.Moment.{Moment}
+use Rattle.run.specs.Statuses.{stateOf, progressOf, recorded}
+use Rattle.run.specs.declared.steps.Status.{Status}
 use Rattle.run.specs.Reached.{Lent, Going, Reached}
 use Rattle.run.specs.Acting.{settles}
 use Rattle.run.specs.Memory.{reading}
@@ -50,8 +50,8 @@ module _ {rows who : List ℕ} {numbers : List ℤ} (h : Readable rows who numbe
       (ltb-true (getD who i 0) (pairCount rows declaration-section) (and-left (ltb (getD who i 0) (pairCount rows declaration-section)) _ one), one)
 
 -- ---- one input
-recorded-going : (m r : Moment) (e place : ℕ) → Going m → r ≡ recorded m e place → Going r
-recorded-going m r e place g q = subst (λ (x : Moment). Going x) (sym q) (by e)
+recorded-going : (m r : Status) (e place : ℕ) → Going m → r ≡ recorded m e place → Going r
+recorded-going m r e place g q = subst (λ (x : Status). Going x) (sym q) (by e)
   where
     by : (n : ℕ) → Going (recorded m n place)
     by zero = g
@@ -64,7 +64,7 @@ progress-going false s e = refl
 pub going-state : (b : Bool) (s u : State) → b ≡ false → going s ≡ progressOf b u → s ≡ u
 going-state b s u e q = ap lastState (q ∙ sym (progress-going b u e))
 
-pub takes : {w : Way} {c : Context} {l after : Lent} {m : Moment} (r : Moment) (e place n : ℕ) (z : ℤ) → Going m → r ≡ recorded m e place → Stores w c l after e (λ vs. readingTaken vs (reading n z)) → Takes w c l after m r place n z
+pub takes : {w : Way} {c : Context} {l after : Lent} {m : Status} (r : Status) (e place n : ℕ) (z : ℤ) → Going m → r ≡ recorded m e place → Stores w c l after e (λ vs. readingTaken vs (reading n z)) → Takes w c l after m r place n z
 takes {m = m} r e place n z g q h =
     record { goes = recorded-going m r e place g q; reaches = λ vs k. settles vs k m r e place (h .settles vs k) q (g .not-out) (g .clean) }
 
@@ -96,19 +96,19 @@ unfolding takeReadings
 one-taken i r rs s e = ap (λ (b : Bool). takeReadings (suc i) rs (takenUnless b s i r)) (eq-eqb (s .error) 0 e)
 
 -- ---- where the loop stands: what is left of the definition, from here
-pub record Stands (w : Way) (c : Context) (l : Lent) (who : List ℕ) (numbers : List ℤ) (first moment : Moment) (i : ℕ) (vs : List Variable) : Type 0 where
+pub record Stands (w : Way) (c : Context) (l : Lent) (who : List ℕ) (numbers : List ℤ) (first moment : Status) (i : ℕ) (vs : List Variable) : Type 0 where
   pub store : List Variable
   pub is : takeReadings 0 (readingsOf who numbers) (stateOf first vs) ≡ takeReadings i (drop i (readingsOf who numbers)) (stateOf moment store)
   pub running : Holds w c l store
 
-pub record Taking (w : Way) (c : Context) (l₀ l : Lent) (who : List ℕ) (numbers : List ℤ) (first moment : Moment) (i : ℕ) : Type 0 where
+pub record Taking (w : Way) (c : Context) (l₀ l : Lent) (who : List ℕ) (numbers : List ℤ) (first moment : Status) (i : ℕ) : Type 0 where
   pub goes : Going moment
   pub each : (vs : List Variable) → Holds w c l₀ vs → Stands w c l who numbers first moment i vs
 
-pub taking-first : {w : Way} {c : Context} {l : Lent} {who : List ℕ} {numbers : List ℤ} {m : Moment} → Going m → Taking w c l l who numbers m m 0
+pub taking-first : {w : Way} {c : Context} {l : Lent} {who : List ℕ} {numbers : List ℤ} {m : Status} → Going m → Taking w c l l who numbers m m 0
 taking-first g = record { goes = g; each = λ vs k. record { store = vs; is = refl; running = k } }
 
-module _ {w : Way} {c : Context} {l₀ l : Lent} {who : List ℕ} {numbers : List ℤ} {first moment : Moment} {i : ℕ} (h : Taking w c l₀ l who numbers first moment i) where
+module _ {w : Way} {c : Context} {l₀ l : Lent} {who : List ℕ} {numbers : List ℤ} {first moment : Status} {i : ℕ} (h : Taking w c l₀ l who numbers first moment i) where
   pub taking-standing : {room space : ℕ} → Standing w c l₀ room → room ≡ space → Standing w c l space
   taking-standing s e =
       let k = h .each (s .store) (s .holds) in
@@ -132,7 +132,7 @@ module _ {w : Way} {c : Context} {l₀ l : Lent} {who : List ℕ} {numbers : Lis
   unfolding takeReadings
   taking-ends k = ends (λ s e. ap (λ (rs : List Reading). takeReadings i rs s) (inputs-end who numbers i k))
 
-  pub taking-more : {after : Lent} (r : Moment) (n place : ℕ) (z : ℤ) → Takes w c l after moment r place n z
+  pub taking-more : {after : Lent} (r : Status) (n place : ℕ) (z : ℤ) → Takes w c l after moment r place n z
       → length who ≡ length numbers → i < length who → n ≡ getD who i 0 → z ≡ getD numbers i (pos 0) → place ≡ reading-place + i → moment .error ≡ 0
       → Taking w c l₀ after who numbers first r (i + 1)
   taking-more {after} r n place z f le k en ez ep e =

@@ -18,12 +18,12 @@ use Rattle.lingua.specs.Calls.{ran, runResult}
 use Rattle.safety.specs.Invariant.{declaredStore}
 use Rattle.rules.specs.Tables.{IsTable}
 use Rattle.rules.specs.declared.tables.Table.{Table}
-use Rattle.profile.specs.declared.row.InstructionRow.{InstructionRow}
-use Rattle.profile.specs.declared.row.InstructionRow.the-variants as does
-use Rattle.profile.specs.Row.{instructionMeaning}
-use Rattle.run.specs.declared.steps.Moment.{Moment}
+use Rattle.rules.specs.declared.decode.InstructionRow.{InstructionRow}
+use Rattle.rules.specs.declared.decode.InstructionRow.the-variants as does
+use Rattle.rules.specs.Decoded.{instructionMeaning}
+use Rattle.run.specs.declared.steps.Status.{Status}
 use Rattle.run.specs.declared.steps.Truth.{Truth}
-use Rattle.run.specs.Moments.{stateOf}
+use Rattle.run.specs.Statuses.{stateOf}
 use Rattle.run.specs.Reached.{Lent, Holding, Going, Reached, Settles, Tells}
 use Rattle.checked.specs.Meaning.{Running as CheckedRunning}
 use Rattle.erased.specs.Meaning.{Running as ErasedRunning}
@@ -73,7 +73,7 @@ pub record StandsUnder (w : Way) (rows : List ℕ) (t : Table) (bodies layout : 
 
 -- ---- instructions
 -- what an instruction asks
-pub record Asked (row : ℕ) (w : Way) (c : Context) (u : Table) (l : Lent) (m : Moment) (room : ℕ) : Type 0 where
+pub record Asked (row : ℕ) (w : Way) (c : Context) (u : Table) (l : Lent) (m : Status) (room : ℕ) : Type 0 where
   pub standing : Standing w c l room
   pub instructions : IsTable (c .rows) instruction-section u
   pub there : row < u .count
@@ -99,7 +99,7 @@ abbrev pub HandleAt : List ℕ → ℕ → ℕ → ℕ → Type 0
 HandleAt rows row n i = Means rows row (does.Handle n i)
 
 -- what it gives: the run stands where the definition does, at every store that the memory may hold
-pub record Executes (row : ℕ) (w : Way) (c : Context) (l after : Lent) (m r : Moment) : Type 0 where
+pub record Executes (row : ℕ) (w : Way) (c : Context) (l after : Lent) (m r : Status) : Type 0 where
   pub reaches : (vs : List Variable) → Holds w c l vs → Reached (Holds w c) after r (exec (instructionTree (c .rows) row) (stateOf m vs))
 
 -- ---- what differs between the ways
@@ -118,12 +118,12 @@ pub record Readable (rows who : List ℕ) (numbers : List ℤ) : Type 0 where
   pub right : readingWrong rows who ≡ false
 
 -- one reading: taken, or its error recorded with its place
-pub record Takes (w : Way) (c : Context) (l after : Lent) (m r : Moment) (place n : ℕ) (z : ℤ) : Type 0 where
+pub record Takes (w : Way) (c : Context) (l after : Lent) (m r : Status) (place n : ℕ) (z : ℤ) : Type 0 where
   pub goes : Going r
   pub reaches : (vs : List Variable) → Holds w c l vs → Reached (Holds w c) after r (going (settled (stateOf m vs) place (readingTaken vs (record { variable = n; number = z }))))
 
 -- all of them, in order
-pub record TakesAll (w : Way) (c : Context) (l after : Lent) (m r : Moment) (rs : List Reading) : Type 0 where
+pub record TakesAll (w : Way) (c : Context) (l after : Lent) (m r : Status) (rs : List Reading) : Type 0 where
   pub goes : Going r
   pub reaches : (vs : List Variable) → Holds w c l vs → Reached (Holds w c) after r (going (takeReadings 0 rs (stateOf m vs)))
 

@@ -5,10 +5,10 @@ use crate::leaves::change_yoke;
 use crate::leaves::test;
 use crate::way::Way;
 use lingua::errors::NO_ERROR;
-use profile::row::InstructionRow;
 use profile::row::instruction_row;
+use rules::decode::InstructionRow;
 use rules::tables::Table;
-use run::steps::Moment;
+use run::steps::Status;
 use run::steps::cleared;
 use run::steps::settled;
 use run::steps::stepped;
@@ -18,7 +18,7 @@ ghost use Rattle.lingua.specs.Expression.{skip as skipTree};
 ghost use Rattle.run.specs.Reached.{lent, Going, Passes};
 ghost use Rattle.walk.specs.Meaning.{context, Asked, AssignAt, SetYokeAt, BranchAt, LoopAt, HandleAt, Executes};
 
-fn skip(m: Moment) -> Moment
+fn skip(m: Status) -> Status
     requires { ⌜ Going m ⌝ }
     ensures { λ r. ⌜ ((row : ℕ) → Passes m r (skipTree row)) ⌝ }
 {
@@ -42,9 +42,9 @@ fn assignment(
     limits: &[i64],
     cells: &mut [i64],
     states: &mut [u16],
-    m: Moment,
+    m: Status,
     stack: &mut [i64],
-) -> Moment
+) -> Status
     requires { ⌜ Asked row way (context (now rows) t (now bodies) (now layout) (now limits)) u (lent (now cells) (now states)) m (length (now stack)) ⌝ }
     requires { ⌜ AssignAt (now rows) row n e ⌝ }
     ensures { λ r. ⌜ Executes row way (context (now (rows .entry)) t (now (bodies .entry)) (now (layout .entry)) (now (limits .entry))) (lent (now (cells .entry)) (now (states .entry))) (lent (now (cells .exit)) (now (states .exit))) m r ⌝ }
@@ -86,9 +86,9 @@ fn yoke_change(
     limits: &[i64],
     cells: &[i64],
     states: &mut [u16],
-    m: Moment,
+    m: Status,
     stack: &mut [i64],
-) -> Moment
+) -> Status
     requires { ⌜ Asked row way (context (now rows) t (now bodies) (now layout) (now limits)) u (lent (now cells) (now states)) m (length (now stack)) ⌝ }
     requires { ⌜ SetYokeAt (now rows) row n y ⌝ }
     ensures { λ r. ⌜ Executes row way (context (now (rows .entry)) t (now (bodies .entry)) (now (layout .entry)) (now (limits .entry))) (lent (now (cells .entry)) (now (states .entry))) (lent (now (cells .entry)) (now (states .exit))) m r ⌝ }
@@ -128,9 +128,9 @@ pub fn exec(
     limits: &[i64],
     cells: &mut [i64],
     states: &mut [u16],
-    m: Moment,
+    m: Status,
     stack: &mut [i64],
-) -> Moment
+) -> Status
     requires { ⌜ Asked row way (context (now rows) t (now bodies) (now layout) (now limits)) u (lent (now cells) (now states)) m (length (now stack)) ⌝ }
     ensures { λ r. ⌜ Executes row way (context (now (rows .entry)) t (now (bodies .entry)) (now (layout .entry)) (now (limits .entry))) (lent (now (cells .entry)) (now (states .entry))) (lent (now (cells .exit)) (now (states .exit))) m r ⌝ }
 {
@@ -279,9 +279,9 @@ fn branch(
     limits: &[i64],
     cells: &mut [i64],
     states: &mut [u16],
-    m: Moment,
+    m: Status,
     stack: &mut [i64],
-) -> Moment
+) -> Status
     requires { ⌜ Asked row way (context (now rows) t (now bodies) (now layout) (now limits)) u (lent (now cells) (now states)) m (length (now stack)) ⌝ }
     requires { ⌜ BranchAt (now rows) row e i j ⌝ }
     ensures { λ r. ⌜ Executes row way (context (now (rows .entry)) t (now (bodies .entry)) (now (layout .entry)) (now (limits .entry))) (lent (now (cells .entry)) (now (states .entry))) (lent (now (cells .exit)) (now (states .exit))) m r ⌝ }
@@ -293,11 +293,11 @@ fn branch(
     if taken.out {
         return taken;
     }
-    let told = test(way, rows, t, bodies, layout, cells, states, e, &mut *stack);
-    if told.error != NO_ERROR {
-        return settled(taken, told.error, row as u16);
+    let truth = test(way, rows, t, bodies, layout, cells, states, e, &mut *stack);
+    if truth.error != NO_ERROR {
+        return settled(taken, truth.error, row as u16);
     }
-    if told.holds {
+    if truth.holds {
         return exec(
             i,
             way,
@@ -343,9 +343,9 @@ fn turns(
     limits: &[i64],
     cells: &mut [i64],
     states: &mut [u16],
-    m: Moment,
+    m: Status,
     stack: &mut [i64],
-) -> Moment
+) -> Status
     requires { ⌜ Asked row way (context (now rows) t (now bodies) (now layout) (now limits)) u (lent (now cells) (now states)) m (length (now stack)) ⌝ }
     requires { ⌜ LoopAt (now rows) row e i ⌝ }
     ensures { λ r. ⌜ Executes row way (context (now (rows .entry)) t (now (bodies .entry)) (now (layout .entry)) (now (limits .entry))) (lent (now (cells .entry)) (now (states .entry))) (lent (now (cells .exit)) (now (states .exit))) m r ⌝ }
@@ -356,11 +356,11 @@ fn turns(
         if taken.out {
             return taken;
         }
-        let told = test(way, rows, t, bodies, layout, cells, states, e, &mut *stack);
-        if told.error != NO_ERROR {
-            return settled(taken, told.error, row as u16);
+        let truth = test(way, rows, t, bodies, layout, cells, states, e, &mut *stack);
+        if truth.error != NO_ERROR {
+            return settled(taken, truth.error, row as u16);
         }
-        if !told.holds {
+        if !truth.holds {
             return taken;
         }
         at = exec(
@@ -398,9 +398,9 @@ fn handle(
     limits: &[i64],
     cells: &mut [i64],
     states: &mut [u16],
-    m: Moment,
+    m: Status,
     stack: &mut [i64],
-) -> Moment
+) -> Status
     requires { ⌜ Asked row way (context (now rows) t (now bodies) (now layout) (now limits)) u (lent (now cells) (now states)) m (length (now stack)) ⌝ }
     requires { ⌜ HandleAt (now rows) row n i ⌝ }
     ensures { λ r. ⌜ Executes row way (context (now (rows .entry)) t (now (bodies .entry)) (now (layout .entry)) (now (limits .entry))) (lent (now (cells .entry)) (now (states .entry))) (lent (now (cells .exit)) (now (states .exit))) m r ⌝ }

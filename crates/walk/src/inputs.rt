@@ -4,7 +4,7 @@ use crate::way::Way;
 use lingua::errors::NO_ERROR;
 use lingua::sizes::READING_PLACE;
 use rules::tables::Table;
-use run::steps::Moment;
+use run::steps::Status;
 use run::steps::settled;
 ghost use mathlib.Core.Path.{_≡_};
 ghost use mathlib.Core.Bool.{true};
@@ -30,9 +30,9 @@ fn take_one(
     n: usize,
     z: i64,
     place: u16,
-    m: Moment,
+    m: Status,
     stack: &mut [i64],
-) -> Moment
+) -> Status
     requires { ⌜ Standing way (context (now rows) t (now bodies) (now layout) (now limits)) (lent (now cells) (now states)) (length (now stack)) ⌝ }
     requires { ⌜ (n < pairCount (now rows) declaration-section) × (isNumberVariable (now rows) n ≡ true) ⌝ }
     requires { ⌜ Going m × (m .error ≡ 0) ⌝ }
@@ -65,9 +65,9 @@ pub fn take_readings(
     states: &mut [u16],
     who: &[u16],
     numbers: &[i64],
-    m: Moment,
+    m: Status,
     stack: &mut [i64],
-) -> Moment
+) -> Status
     requires { ⌜ Standing way (context (now rows) t (now bodies) (now layout) (now limits)) (lent (now cells) (now states)) (length (now stack)) ⌝ }
     requires { ⌜ Going m ⌝ }
     requires { ⌜ Readable (now rows) (now who) (now numbers) ⌝ }

@@ -3,6 +3,7 @@ use crate::exec::exec;
 use crate::inputs::take_readings;
 use crate::way::Way;
 use lingua::RunAnswer;
+use lingua::sizes::STACK_LENGTH;
 use rules::tables::Tables;
 use run::steps::ended;
 use run::steps::fresh;
@@ -32,7 +33,7 @@ pub fn run(
 {
     let t = tables.expressions;
     let u = tables.instructions;
-    let mut stack = [0i64; 32832];
+    let mut stack = [0i64; STACK_LENGTH];
     let first = fresh(budget);
     let taken = take_readings(
         way,

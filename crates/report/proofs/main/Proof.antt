@@ -10,68 +10,52 @@ use Rattle.io.proofs.write_all.Reads as write-all-reads
 use Rattle.report.proofs.files.read_file.Reads as read-file-reads
 use Rattle.report.proofs.report.report_text.Reads as report-text-reads
 
--- src/main.rt:15:30
 slice-aggregate-read-file : tie.Need-slice-aggregate-read-file
 slice-aggregate-read-file c = search needs
 
--- src/main.rt:15:45
 slice-aggregate-read-file-2 : tie.Need-slice-aggregate-read-file-2
 slice-aggregate-read-file-2 c = search needs
 
--- src/main.rt:15:9
 read-file-requires : tie.Need-read-file-requires
 read-file-requires c κs = search needs
 
--- src/main.rt:16:30
 slice-aggregate-read-file-3 : tie.Need-slice-aggregate-read-file-3
 slice-aggregate-read-file-3 c = search needs
 
--- src/main.rt:16:44
 slice-aggregate-read-file-4 : tie.Need-slice-aggregate-read-file-4
 slice-aggregate-read-file-4 c = search needs
 
--- src/main.rt:16:9
 read-file-requires-2 : tie.Need-read-file-requires-2
 read-file-requires-2 c κs = search needs
 
--- src/main.rt:18:33
 array-share-prefix-profile : tie.Need-array-share-prefix-profile
 array-share-prefix-profile c = search needs
 
--- src/main.rt:18:33
 slice-aggregate-report-text : tie.Need-slice-aggregate-report-text
 slice-aggregate-report-text c = search needs
 
--- src/main.rt:18:48
 array-share-prefix-limits : tie.Need-array-share-prefix-limits
 array-share-prefix-limits c = search needs
 
--- src/main.rt:18:48
 slice-aggregate-report-text-2 : tie.Need-slice-aggregate-report-text-2
 slice-aggregate-report-text-2 c = search needs
 
--- src/main.rt:18:62
 slice-aggregate-report-text-3 : tie.Need-slice-aggregate-report-text-3
 slice-aggregate-report-text-3 c = search needs
 
--- src/main.rt:18:9
 report-text-requires : tie.Need-report-text-requires
 report-text-requires c κs = search needs
 
--- src/main.rt:19:34
 array-share-prefix-out : tie.Need-array-share-prefix-out
 array-share-prefix-out c = search needs
 
--- src/main.rt:19:34
 slice-aggregate-write-all : tie.Need-slice-aggregate-write-all
 slice-aggregate-write-all c =
     sym (length-take-le _ _ (c .before .before .report-text .ensures .within))
 
--- src/main.rt:19:5
 write-all-requires : tie.Need-write-all-requires
 write-all-requires c κs = search needs
 
--- src/main.rt:12:1
 returns : tie.Need-returns
 returns c = search needs
 

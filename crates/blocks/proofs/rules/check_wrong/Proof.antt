@@ -8,7 +8,7 @@ use lib.Dec.{eqb}
 use lib.ListN.{length}
 use Rattle.lingua.specs.Numbers.{check-place}
 use Rattle.lingua.specs.Rows.{word32}
-use Rattle.lingua.specs.Format.{everyBelow, blockAt, blockCheck, blockCount, checkWrong}
+use Rattle.lingua.specs.Format.{everyBelow, blockAt, blockCheck, blockCount, blockCheckWrong}
 use Rattle.laws.specs.Blocks.{part-block, length-block}
 use Rattle.blocks.proofs.Returns.{wrong-at, right-at, all-right}
 use Rattle.blocks.proofs.rules.check_wrong.Statement.{statement}
@@ -48,7 +48,7 @@ unfolding blockCount
 check-fits-requires c κs = ap length (part-block (c .before .before .before .before .args .file .now) (c .before .before .loop .k)) ∙ length-block (c .before .before .before .before .args .file .now) (c .before .before .loop .k) (search needs)
 
 returns : tie.Need-returns Inv-loop μ-loop
-unfolding checkWrong blockCount
+unfolding blockCheckWrong blockCount
 returns c = sym (wrong-at (c .before .before .before .before .before .before .args .file .now) right (c .before .before .before .before .loop .k) (c .before .check-fits .result) (c .before .check-fits .ensures) (c .if1 .taken) (search needs))
 
 add-k : tie.Need-add-k Inv-loop μ-loop
@@ -61,7 +61,7 @@ loop-again : tie.Need-loop-again Inv-loop μ-loop
 loop-again c = (search needs, right-at (c .before .before .before .before .before .before .args .file .now) right (c .before .before .before .before .loop .k) (c .before .check-fits .result) (c .before .check-fits .ensures) (c .if1 .left) (c .before .before .before .before .loop .inv .1))
 
 returns-2 : tie.Need-returns-2 Inv-loop μ-loop
-unfolding checkWrong blockCount
+unfolding blockCheckWrong blockCount
 returns-2 c = sym (all-right (c .before .before .before .args .file .now) right (c .before .loop .k) (search needs) (search needs) (c .before .loop .inv .1))
 
 pub check-wrong-spec : {M : Type 1} → statement M

@@ -51,13 +51,11 @@ attributes-at-calls t = (measure-at-below t, measure-at.Post, attributes-at-belo
 abbrev measure-at-calls : ℕ → measure-at-lts.Claims
 measure-at-calls t = (measure-at-below t, measure-at.Post, attributes-at-below t, attributes-at.Post)
 
--- src/walk.rt:69:9
 attributes-at-returns : (t : ℕ) → attributes-at-lts.Need-returns (attributes-at-calls t) (attributes-at-at t) attributes-at.Post
 attributes-at-returns t c = λ fs h e.
     let args = c .before .args in
     measured-none (args .at) (args .n) fs (c .if1 .taken) e
 
--- src/walk.rt:76:34
 attributes-at-add-measure-at : (t : ℕ) → attributes-at-lts.Need-add-measure-at (attributes-at-calls t) (attributes-at-at t) attributes-at.Post
 attributes-at-add-measure-at t c =
     let args = c .before .args in
@@ -65,7 +63,6 @@ attributes-at-add-measure-at t c =
     let b = first-at (args .body) (args .at) (args .n) (c .if1 .left) (c .before .pre .1) in
     omega (arith, l, at-below (args .body) (args .at + 1) (b .body) (b .here))
 
--- src/walk.rt:76:9
 attributes-at-measure-at-requires : (t : ℕ) → attributes-at-lts.Need-measure-at-requires (attributes-at-calls t) (attributes-at-at t) attributes-at.Post
 attributes-at-measure-at-requires t c κs =
     let args = c .before .args in
@@ -74,11 +71,9 @@ attributes-at-measure-at-requires t c κs =
     let b = first-at (args .body) (args .at) (args .n) (c .if1 .left) (pre .1) in
     (omega (arith, l, at-below (args .body) (args .at + 1) (b .body) (b .here), pre .0), b)
 
--- src/walk.rt:78:42
 attributes-at-sub-attributes-at : (t : ℕ) → attributes-at-lts.Need-sub-attributes-at (attributes-at-calls t) (attributes-at-at t) attributes-at.Post
 attributes-at-sub-attributes-at t c = let f = c .before .if1 .left in omega (arith, f)
 
--- src/walk.rt:78:9
 attributes-at-attributes-at-requires : (t : ℕ) → attributes-at-lts.Need-attributes-at-requires (attributes-at-calls t) (attributes-at-at t) attributes-at.Post
 attributes-at-attributes-at-requires t c κs =
     let args = c .before .before .args in
@@ -90,7 +85,6 @@ attributes-at-attributes-at-requires t c κs =
       others-at (args .body) (args .at) (args .n) (if1 .left) (c .measure-at .result) (c .measure-at .ensures) (pre .1),
     )
 
--- src/walk.rt:80:16
 attributes-at-add-t8 : (t : ℕ) → attributes-at-lts.Need-add-t8 (attributes-at-calls t) (attributes-at-at t) attributes-at.Post
 attributes-at-add-t8 t c =
     let pre = c .before .before .before .before .before .pre in
@@ -102,7 +96,6 @@ attributes-at-add-t8 t c =
     let o = others-at (args .body) (args .at) (args .n) (if1 .left) (measure-at-call .result) (measure-at-call .ensures) s in
     omega (arith, few-measured (args .body) (args .at + 1) (measure-at-call .result) (measure-at-call .ensures) (first-at (args .body) (args .at) (args .n) (if1 .left) s), few-attributes (args .body) _ _ (attributes-at-call .result) (attributes-at-call .ensures) o)
 
--- src/walk.rt:81:16
 attributes-at-add-t10 : (t : ℕ) → attributes-at-lts.Need-add-t10 (attributes-at-calls t) (attributes-at-at t) attributes-at.Post
 attributes-at-add-t10 t c =
     let pre = c .before .before .before .before .before .before .before .pre in
@@ -114,11 +107,9 @@ attributes-at-add-t10 t c =
     let o = others-at (args .body) (args .at) (args .n) (if1 .left) (measure-at-call .result) (measure-at-call .ensures) s in
     omega (arith, few-measured (args .body) (args .at + 1) (measure-at-call .result) (measure-at-call .ensures) (first-at (args .body) (args .at) (args .n) (if1 .left) s), few-attributes (args .body) _ _ (attributes-at-call .result) (attributes-at-call .ensures) o)
 
--- src/walk.rt:82:16
 attributes-at-larger-requires : (t : ℕ) → attributes-at-lts.Need-larger-requires (attributes-at-calls t) (attributes-at-at t) attributes-at.Post
 attributes-at-larger-requires t c κs = search needs
 
--- src/walk.rt:64:1
 attributes-at-returns-2 : (t : ℕ) → attributes-at-lts.Need-returns-2 (attributes-at-calls t) (attributes-at-at t) attributes-at.Post
 attributes-at-returns-2 t c =
     let args = c .before .before .before .before .before .before .before .before .args in
@@ -128,13 +119,11 @@ attributes-at-returns-2 t c =
     measured-more (args .body) (args .at) (args .n) (if1 .left) (measure-at-call .result) (measure-at-call .ensures)
     (attributes-at-call .result) (attributes-at-call .ensures) (c .larger .result) (c .larger .ensures)
 
--- src/walk.rt:35:15
 measure-at-array-read-tag : (t : ℕ) → measure-at-lts.Need-array-read-tag (measure-at-calls t) (measure-at-at t) measure-at.Post
 measure-at-array-read-tag t c =
     let l : length (c .args .t1) ≡ 96 = search needs in
     omega (arith, l, at-below (c .args .t1) (c .args .at) (c .pre .1 .body) (c .pre .1 .here))
 
--- src/walk.rt:37:34
 measure-at-add-measure-at : (t : ℕ) → measure-at-lts.Need-add-measure-at (measure-at-calls t) (measure-at-at t) measure-at.Post
 measure-at-add-measure-at t c =
     let args = c .before .args in
@@ -142,7 +131,6 @@ measure-at-add-measure-at t c =
     let l : length (args .t1) ≡ 96 = search needs in
     omega (arith, l, at-below (args .t1) (args .at) (pre .1 .body) (pre .1 .here))
 
--- src/walk.rt:37:13
 measure-at-measure-at-requires : (t : ℕ) → measure-at-lts.Need-measure-at-requires (measure-at-calls t) (measure-at-at t) measure-at.Post
 measure-at-measure-at-requires t c κs =
     let args = c .before .args in
@@ -152,7 +140,6 @@ measure-at-measure-at-requires t c κs =
       some-list (args .t1) (args .at) (c .if1 .taken) (pre .1),
     )
 
--- src/walk.rt:39:24
 measure-at-mul-t13 : (t : ℕ) → measure-at-lts.Need-mul-t13 (measure-at-calls t) (measure-at-at t) measure-at.Post
 measure-at-mul-t13 t c =
     let args = c .before .before .before .args in
@@ -161,7 +148,6 @@ measure-at-mul-t13 t c =
     let pre = c .before .before .before .pre in
     omega (arith, few-measured (args .t1) (args .at + 1) (measure-at-call .result) (measure-at-call .ensures) (some-list (args .t1) (args .at) (if1 .taken) (pre .1)))
 
--- src/walk.rt:39:20
 measure-at-add-t14 : (t : ℕ) → measure-at-lts.Need-add-t14 (measure-at-calls t) (measure-at-at t) measure-at.Post
 measure-at-add-t14 t c =
     let args = c .before .before .before .args in
@@ -170,7 +156,6 @@ measure-at-add-t14 t c =
     let pre = c .before .before .before .pre in
     omega (arith, few-measured (args .t1) (args .at + 1) (measure-at-call .result) (measure-at-call .ensures) (some-list (args .t1) (args .at) (if1 .taken) (pre .1)))
 
--- src/walk.rt:40:20
 measure-at-add-t15 : (t : ℕ) → measure-at-lts.Need-add-t15 (measure-at-calls t) (measure-at-at t) measure-at.Post
 measure-at-add-t15 t c =
     let args = c .before .before .before .before .args in
@@ -179,7 +164,6 @@ measure-at-add-t15 t c =
     let pre = c .before .before .before .before .pre in
     omega (arith, few-measured (args .t1) (args .at + 1) (measure-at-call .result) (measure-at-call .ensures) (some-list (args .t1) (args .at) (if1 .taken) (pre .1)))
 
--- src/walk.rt:41:20
 measure-at-add-t16 : (t : ℕ) → measure-at-lts.Need-add-t16 (measure-at-calls t) (measure-at-at t) measure-at.Post
 measure-at-add-t16 t c =
     let args = c .before .before .before .before .before .args in
@@ -188,7 +172,6 @@ measure-at-add-t16 t c =
     let pre = c .before .before .before .before .before .pre in
     omega (arith, few-measured (args .t1) (args .at + 1) (measure-at-call .result) (measure-at-call .ensures) (some-list (args .t1) (args .at) (if1 .taken) (pre .1)))
 
--- src/walk.rt:38:9
 measure-at-returns : (t : ℕ) → measure-at-lts.Need-returns (measure-at-calls t) (measure-at-at t) measure-at.Post
 measure-at-returns t c =
     let args = c .before .before .before .before .before .args in
@@ -196,7 +179,6 @@ measure-at-returns t c =
     let if1 = c .before .before .before .before .if1 in
     measured-list (args .t1) (args .at) (measure-at-call .result) (if1 .taken) (measure-at-call .ensures)
 
--- src/walk.rt:46:22
 measure-at-add-n : (t : ℕ) → measure-at-lts.Need-add-n (measure-at-calls t) (measure-at-at t) measure-at.Post
 measure-at-add-n t c =
     let args = c .before .before .args in
@@ -204,7 +186,6 @@ measure-at-add-n t c =
     let l : length (args .t1) ≡ 96 = search needs in
     omega (arith, l, at-below (args .t1) (args .at) (pre .1 .body) (pre .1 .here))
 
--- src/walk.rt:46:17
 measure-at-array-read-n : (t : ℕ) → measure-at-lts.Need-array-read-n (measure-at-calls t) (measure-at-at t) measure-at.Post
 measure-at-array-read-n t c =
     let args = c .before .before .args in
@@ -212,7 +193,6 @@ measure-at-array-read-n t c =
     let l : length (args .t1) ≡ 96 = search needs in
     omega (arith, l, some-record-below (args .t1) (args .at) (c .if2 .taken) (pre .1))
 
--- src/walk.rt:47:37
 measure-at-add-attributes-at : (t : ℕ) → measure-at-lts.Need-add-attributes-at (measure-at-calls t) (measure-at-at t) measure-at.Post
 measure-at-add-attributes-at t c =
     let args = c .before .before .args in
@@ -220,7 +200,6 @@ measure-at-add-attributes-at t c =
     let l : length (args .t1) ≡ 96 = search needs in
     omega (arith, l, at-below (args .t1) (args .at) (pre .1 .body) (pre .1 .here))
 
--- src/walk.rt:47:13
 measure-at-attributes-at-requires : (t : ℕ) → measure-at-lts.Need-attributes-at-requires (measure-at-calls t) (measure-at-at t) measure-at.Post
 measure-at-attributes-at-requires t c κs =
     let args = c .before .before .args in
@@ -230,7 +209,6 @@ measure-at-attributes-at-requires t c κs =
       some-record (args .t1) (args .at) (c .if2 .taken) (pre .1),
     )
 
--- src/walk.rt:50:20
 measure-at-add-t17 : (t : ℕ) → measure-at-lts.Need-add-t17 (measure-at-calls t) (measure-at-at t) measure-at.Post
 measure-at-add-t17 t c =
     let args = c .before .before .before .before .args in
@@ -239,7 +217,6 @@ measure-at-add-t17 t c =
     let pre = c .before .before .before .before .pre in
     omega (arith, few-attributes (args .t1) (args .at + 2) (getD (args .t1) (args .at + 1) 0) (attributes-at-call .result) (attributes-at-call .ensures) (some-record (args .t1) (args .at) (if2 .taken) (pre .1)))
 
--- src/walk.rt:51:20
 measure-at-add-t22 : (t : ℕ) → measure-at-lts.Need-add-t22 (measure-at-calls t) (measure-at-at t) measure-at.Post
 measure-at-add-t22 t c =
     let args = c .before .before .before .before .before .args in
@@ -248,7 +225,6 @@ measure-at-add-t22 t c =
     let pre = c .before .before .before .before .before .pre in
     omega (arith, few-attributes (args .t1) (args .at + 2) (getD (args .t1) (args .at + 1) 0) (attributes-at-call .result) (attributes-at-call .ensures) (some-record (args .t1) (args .at) (if2 .taken) (pre .1)))
 
--- src/walk.rt:48:9
 measure-at-returns-2 : (t : ℕ) → measure-at-lts.Need-returns-2 (measure-at-calls t) (measure-at-at t) measure-at.Post
 measure-at-returns-2 t c =
     let args = c .before .before .before .before .before .args in
@@ -256,7 +232,6 @@ measure-at-returns-2 t c =
     let if2 = c .before .before .before .if2 in
     measured-record (args .t1) (args .at) (attributes-at-call .result) (if2 .taken) (attributes-at-call .ensures)
 
--- src/walk.rt:59:15
 measure-at-add-t23 : (t : ℕ) → measure-at-lts.Need-add-t23 (measure-at-calls t) (measure-at-at t) measure-at.Post
 measure-at-add-t23 t c =
     let args = c .before .before .args in
@@ -264,7 +239,6 @@ measure-at-add-t23 t c =
     let l : length (args .t1) ≡ 96 = search needs in
     omega (arith, l, at-below (args .t1) (args .at) (pre .1 .body) (pre .1 .here))
 
--- src/walk.rt:31:1
 measure-at-returns-3 : (t : ℕ) → measure-at-lts.Need-returns-3 (measure-at-calls t) (measure-at-at t) measure-at.Post
 measure-at-returns-3 t c =
     let args = c .before .before .args in

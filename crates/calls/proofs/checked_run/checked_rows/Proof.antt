@@ -5,23 +5,17 @@ use borrow.Author.Needs.{needs}
 use Rattle.calls.proofs.checked_run.checked_rows.Statement.{statement}
 use Rattle.calls.proofs.checked_run.checked_rows.Tie as tie
 
-tables-of-requires : tie.Need-tables-of-requires
-tables-of-requires c κs = search needs
-
-tables-of-requires-2 : tie.Need-tables-of-requires-2
-tables-of-requires-2 c κs = search needs
-
 slice-aggregate-keep-bodies : tie.Need-slice-aggregate-keep-bodies
 slice-aggregate-keep-bodies c = search needs
 
 keep-bodies-requires : tie.Need-keep-bodies-requires
-keep-bodies-requires c κs = (c .before .before .before .before .before .before .before .before .before .before .pre .0 .accepted, (c .before .before .before .before .tables-of .ensures .declarations, (c .before .before .before .before .before .before .before .before .before .before .pre .1, refl)))
+keep-bodies-requires c κs = (c .before .before .before .before .before .before .before .pre .0 .accepted, (c .before .before .before .before .before .before .before .pre .1 .0 .0 .declarations, (c .before .before .before .before .before .before .before .pre .1 .1, refl)))
 
 slice-aggregate-start : tie.Need-slice-aggregate-start
 slice-aggregate-start c = search needs
 
 start-requires : tie.Need-start-requires
-start-requires c κs = (c .before .before .before .before .before .before .before .before .before .before .before .before .before .before .before .pre .0 .accepted, (c .before .before .before .before .before .before .before .before .before .tables-of .ensures .declarations, (c .before .before .before .before .before .before .before .tables-of2 .ensures .limits, (refl, (c .before .before .before .before .before .before .before .before .before .before .before .before .before .before .before .pre .0 .long-cells, c .before .before .before .before .before .before .before .before .before .before .before .before .before .before .before .pre .0 .long-states)))))
+start-requires c κs = record { accepted = c .before .before .before .before .before .before .before .before .before .before .before .before .pre .0 .accepted; declared = c .before .before .before .before .before .before .before .before .before .before .before .before .pre .1 .0 .0 .declarations; limited = c .before .before .before .before .before .before .before .before .before .before .before .before .pre .1 .0 .1; room = refl; long-cells = c .before .before .before .before .before .before .before .before .before .before .before .before .pre .0 .long-cells; long-states = c .before .before .before .before .before .before .before .before .before .before .before .before .pre .0 .long-states }
 
 slice-aggregate-run : tie.Need-slice-aggregate-run
 slice-aggregate-run c = search needs
@@ -33,7 +27,7 @@ slice-aggregate-run-3 : tie.Need-slice-aggregate-run-3
 slice-aggregate-run-3 c = search needs
 
 run-requires : tie.Need-run-requires
-run-requires c κs = (c .before .before .before .before .before .before .before .before .before .before .before .before .before .before .before .before .before .before .before .tables-of .ensures, (record { limits = _; holds = checked-begins (c .before .before .before .before .before .before .before .before .before .before .before .before .before .before .before .before .before .before .before .before .before .before .before .before .before .pre .0 .accepted) (c .before .before .before .before .before .before .before .before .before .start .ensures) _ (c .before .before .before .before .before .before .before .before .before .before .before .before .before .before .before .before .before .before .before .tables-of .ensures .expressions) (c .before .before .before .before .before .before .before .before .before .before .before .before .before .before .keep-bodies .ensures) refl }, c .before .before .before .before .before .before .before .before .before .before .before .before .before .before .before .before .before .before .before .before .before .before .before .before .before .pre .0 .readable))
+run-requires c κs = (c .before .before .before .before .before .before .before .before .before .before .before .before .before .before .before .before .before .before .before .before .before .before .pre .1 .0 .0, (record { limits = _; holds = checked-begins (c .before .before .before .before .before .before .before .before .before .before .before .before .before .before .before .before .before .before .before .before .before .before .pre .0 .accepted) (c .before .before .before .before .before .before .before .before .before .start .ensures) _ (c .before .before .before .before .before .before .before .before .before .before .before .before .before .before .before .before .before .before .before .before .before .before .pre .1 .0 .0 .expressions) (c .before .before .before .before .before .before .before .before .before .before .before .before .before .before .keep-bodies .ensures) refl }, c .before .before .before .before .before .before .before .before .before .before .before .before .before .before .before .before .before .before .before .before .before .before .pre .0 .readable))
 
 same-length : tie.Need-same-length
 same-length c = search needs
@@ -42,14 +36,12 @@ same-length-2 : tie.Need-same-length-2
 same-length-2 c = search needs
 
 returns : tie.Need-returns
-returns c = c .before .before .before .run .ensures .is _ (checked-begins (c .before .before .before .before .before .before .before .before .before .before .before .before .before .before .before .before .before .before .before .before .before .before .before .before .before .before .before .before .before .pre .0 .accepted) (c .before .before .before .before .before .before .before .before .before .before .before .before .before .start .ensures) _ (c .before .before .before .before .before .before .before .before .before .before .before .before .before .before .before .before .before .before .before .before .before .before .before .tables-of .ensures .expressions) (c .before .before .before .before .before .before .before .before .before .before .before .before .before .before .before .before .before .before .keep-bodies .ensures) refl)
+returns c = c .before .before .before .run .ensures .is _ (checked-begins (c .before .before .before .before .before .before .before .before .before .before .before .before .before .before .before .before .before .before .before .before .before .before .before .before .before .before .pre .0 .accepted) (c .before .before .before .before .before .before .before .before .before .before .before .before .before .start .ensures) _ (c .before .before .before .before .before .before .before .before .before .before .before .before .before .before .before .before .before .before .before .before .before .before .before .before .before .before .pre .1 .0 .0 .expressions) (c .before .before .before .before .before .before .before .before .before .before .before .before .before .before .before .before .before .before .keep-bodies .ensures) refl)
 
 pub checked-rows-spec : {M : Type 1} → statement M
 checked-rows-spec =
     tie.close
     (tie.spec
-    tables-of-requires
-    tables-of-requires-2
     slice-aggregate-keep-bodies
     keep-bodies-requires
     slice-aggregate-start

@@ -6,26 +6,24 @@ use borrow.Author.Needs.{needs}
 use Rattle.calls.proofs.erased_run.erased_rows.Statement.{statement}
 use Rattle.calls.proofs.erased_run.erased_rows.Tie as tie
 
-tables-of-requires : tie.Need-tables-of-requires
-tables-of-requires c κs = search needs
-
 slice-aggregate-check-profile : tie.Need-slice-aggregate-check-profile
 slice-aggregate-check-profile c = search needs
 
 check-profile-requires : tie.Need-check-profile-requires
-check-profile-requires c κs = search needs
+check-profile-requires c κs =
+    (record { accepted = c .before .before .before .before .before .before .before .pre .0 .accepted; tables = c .before .before .before .before .before .before .before .pre .1 .0 .0; types = c .before .before .before .before .before .before .before .pre .1 .1 .0 }, search needs)
 
 returns : tie.Need-returns
-returns c = faulted _ (now (c .before .before .before .before .before .before .before .before .before .before .before .before .args .limits)) _ _ (c .before .before .before .check-profile .ensures) _ _ (c .before .before .before .before .before .before .before .before .before .before .before .before .args .budget) _ _ _ (c .if1 .taken)
+returns c = faulted _ (now (c .before .before .before .before .before .before .before .before .before .before .before .args .limits)) _ _ (c .before .before .before .check-profile .ensures) _ _ (c .before .before .before .before .before .before .before .before .before .before .before .args .budget) _ _ _ (c .if1 .taken)
 
 slice-aggregate-copy-table : tie.Need-slice-aggregate-copy-table
 slice-aggregate-copy-table c = search needs
 
 copy-table-requires : tie.Need-copy-table-requires
-copy-table-requires c κs = (omega (arith, c .before .before .before .before .before .check-profile .kept), c .before .before .before .before .before .before .before .before .before .before .before .before .before .before .pre .1 .1 .0)
+copy-table-requires c κs = (omega (arith, c .before .before .before .before .before .check-profile .kept), c .before .before .before .before .before .before .before .before .before .before .before .before .before .pre .1 .1 .1 .0)
 
 passed-rows-requires : tie.Need-passed-rows-requires
-passed-rows-requires c κs = (c .before .before .before .before .before .before .before .before .before .before .before .before .before .before .before .before .before .before .before .before .pre .0, (c .before .before .before .before .before .before .before .before .before .before .before .before .before .tables-of .ensures, (passed-rows _ _ _ _ (c .before .before .before .before .before .before .before .before .before .before .before .check-profile .ensures) (c .before .before .before .before .before .before .before .before .if1 .left) (c .before .before .before .before .before .copy-table .ensures) (omega (arith, c .before .before .before .before .before .before .before .before .before .before .before .check-profile .kept)), c .before .before .before .before .before .before .before .before .before .before .before .before .before .before .before .before .before .before .before .before .pre .1 .1 .1)))
+passed-rows-requires c κs = (c .before .before .before .before .before .before .before .before .before .before .before .before .before .before .before .before .before .before .before .pre .0, (c .before .before .before .before .before .before .before .before .before .before .before .before .before .before .before .before .before .before .before .pre .1 .0, (passed-rows _ _ _ _ (c .before .before .before .before .before .before .before .before .before .before .before .check-profile .ensures) (c .before .before .before .before .before .before .before .before .if1 .left) (c .before .before .before .before .before .copy-table .ensures) (omega (arith, c .before .before .before .before .before .before .before .before .before .before .before .check-profile .kept)), c .before .before .before .before .before .before .before .before .before .before .before .before .before .before .before .before .before .before .before .pre .1 .1 .1 .1)))
 
 same-length : tie.Need-same-length
 same-length c = search needs
@@ -37,13 +35,12 @@ same-length-3 : tie.Need-same-length-3
 same-length-3 c = search needs
 
 returns-2 : tie.Need-returns-2
-returns-2 c = passed-done _ _ _ _ (c .before .before .before .before .before .before .before .before .before .before .before .before .before .before .before .before .before .before .before .before .before .before .before .before .args .budget) _ _ _ _ (passed-rows _ (now (c .before .before .before .before .before .before .before .before .before .before .before .before .before .before .before .before .before .before .before .before .before .before .before .before .args .limits)) _ _ (c .before .before .before .before .before .before .before .before .before .before .before .before .before .before .before .check-profile .ensures) (c .before .before .before .before .before .before .before .before .before .before .before .before .if1 .left) (c .before .before .before .before .before .before .before .before .before .copy-table .ensures) (omega (arith, c .before .before .before .before .before .before .before .before .before .before .before .before .before .before .before .check-profile .kept))) _ _ _ (c .before .before .before .passed-rows .ensures)
+returns-2 c = passed-done _ _ _ _ (c .before .before .before .before .before .before .before .before .before .before .before .before .before .before .before .before .before .before .before .before .before .before .before .args .budget) _ _ _ _ (passed-rows _ (now (c .before .before .before .before .before .before .before .before .before .before .before .before .before .before .before .before .before .before .before .before .before .before .before .args .limits)) _ _ (c .before .before .before .before .before .before .before .before .before .before .before .before .before .before .before .check-profile .ensures) (c .before .before .before .before .before .before .before .before .before .before .before .before .if1 .left) (c .before .before .before .before .before .before .before .before .before .copy-table .ensures) (omega (arith, c .before .before .before .before .before .before .before .before .before .before .before .before .before .before .before .check-profile .kept))) _ _ _ (c .before .before .before .passed-rows .ensures)
 
 pub erased-rows-spec : {M : Type 1} → statement M
 erased-rows-spec =
     tie.close
     (tie.spec
-    tables-of-requires
     slice-aggregate-check-profile
     check-profile-requires
     returns

@@ -5,14 +5,11 @@ use borrow.Author.Needs.{needs}
 use Rattle.calls.proofs.erased_run.passed_rows.Statement.{statement}
 use Rattle.calls.proofs.erased_run.passed_rows.Tie as tie
 
-tables-of-requires : tie.Need-tables-of-requires
-tables-of-requires c κs = search needs
-
 slice-aggregate-start : tie.Need-slice-aggregate-start
 slice-aggregate-start c = search needs
 
 start-requires : tie.Need-start-requires
-start-requires c κs = (c .before .before .before .before .before .before .before .before .before .before .before .pre .0 .accepted, (c .before .before .before .before .before .before .before .before .before .before .before .pre .1 .0 .declarations, (c .before .before .before .before .tables-of .ensures .limits, (refl, (c .before .before .before .before .before .before .before .before .before .before .before .pre .0 .long-cells, c .before .before .before .before .before .before .before .before .before .before .before .pre .0 .long-states)))))
+start-requires c κs = record { accepted = c .before .before .before .before .before .before .before .before .before .pre .0 .accepted; declared = c .before .before .before .before .before .before .before .before .before .pre .1 .0 .0 .declarations; limited = c .before .before .before .before .before .before .before .before .before .pre .1 .0 .1; room = refl; long-cells = c .before .before .before .before .before .before .before .before .before .pre .0 .long-cells; long-states = c .before .before .before .before .before .before .before .before .before .pre .0 .long-states }
 
 slice-aggregate-run : tie.Need-slice-aggregate-run
 slice-aggregate-run c = search needs
@@ -21,7 +18,7 @@ slice-aggregate-run-2 : tie.Need-slice-aggregate-run-2
 slice-aggregate-run-2 c = search needs
 
 run-requires : tie.Need-run-requires
-run-requires c κs = (c .before .before .before .before .before .before .before .before .before .before .before .before .before .before .before .before .before .before .before .before .pre .1 .0, (record { limits = _; holds = erased-begins (c .before .before .before .before .before .before .before .before .before .before .before .before .before .before .before .before .before .before .before .before .pre .0 .accepted) (c .before .before .before .before .before .before .before .before .start .ensures) _ (c .before .before .before .before .before .before .before .before .before .before .before .before .before .before .before .before .before .before .before .before .pre .1 .0 .expressions) (c .before .before .before .before .before .before .before .before .before .before .before .before .before .before .before .before .before .before .before .before .pre .1 .1 .0) (c .before .before .before .before .before .before .before .before .before .before .before .before .before .before .before .before .before .before .before .before .pre .1 .1 .1) refl }, c .before .before .before .before .before .before .before .before .before .before .before .before .before .before .before .before .before .before .before .before .pre .0 .readable))
+run-requires c κs = (c .before .before .before .before .before .before .before .before .before .before .before .before .before .before .before .before .before .before .pre .1 .0 .0, (record { limits = _; holds = erased-begins (c .before .before .before .before .before .before .before .before .before .before .before .before .before .before .before .before .before .before .pre .0 .accepted) (c .before .before .before .before .before .before .before .before .start .ensures) _ (c .before .before .before .before .before .before .before .before .before .before .before .before .before .before .before .before .before .before .pre .1 .0 .0 .expressions) (c .before .before .before .before .before .before .before .before .before .before .before .before .before .before .before .before .before .before .pre .1 .1 .0) (c .before .before .before .before .before .before .before .before .before .before .before .before .before .before .before .before .before .before .pre .1 .1 .1) refl }, c .before .before .before .before .before .before .before .before .before .before .before .before .before .before .before .before .before .before .pre .0 .readable))
 
 same-length : tie.Need-same-length
 same-length c = search needs
@@ -30,13 +27,12 @@ same-length-2 : tie.Need-same-length-2
 same-length-2 c = search needs
 
 returns : tie.Need-returns
-returns c = c .before .before .before .run .ensures .is _ (erased-begins (c .before .before .before .before .before .before .before .before .before .before .before .before .before .before .before .before .before .before .before .before .before .before .before .before .pre .0 .accepted) (c .before .before .before .before .before .before .before .before .before .before .before .before .start .ensures) _ (c .before .before .before .before .before .before .before .before .before .before .before .before .before .before .before .before .before .before .before .before .before .before .before .before .pre .1 .0 .expressions) (c .before .before .before .before .before .before .before .before .before .before .before .before .before .before .before .before .before .before .before .before .before .before .before .before .pre .1 .1 .0) (c .before .before .before .before .before .before .before .before .before .before .before .before .before .before .before .before .before .before .before .before .before .before .before .before .pre .1 .1 .1) refl)
+returns c = c .before .before .before .run .ensures .is _ (erased-begins (c .before .before .before .before .before .before .before .before .before .before .before .before .before .before .before .before .before .before .before .before .before .before .pre .0 .accepted) (c .before .before .before .before .before .before .before .before .before .before .before .before .start .ensures) _ (c .before .before .before .before .before .before .before .before .before .before .before .before .before .before .before .before .before .before .before .before .before .before .pre .1 .0 .0 .expressions) (c .before .before .before .before .before .before .before .before .before .before .before .before .before .before .before .before .before .before .before .before .before .before .pre .1 .1 .0) (c .before .before .before .before .before .before .before .before .before .before .before .before .before .before .before .before .before .before .before .before .before .before .pre .1 .1 .1) refl)
 
 pub passed-rows-spec : {M : Type 1} → statement M
 passed-rows-spec =
     tie.close
     (tie.spec
-    tables-of-requires
     slice-aggregate-start
     start-requires
     slice-aggregate-run

@@ -1,7 +1,8 @@
 -- `calls::taken::take_run` meets its contract: refused by its buffers, by the files or by its readings, or taken. Assumes nothing.
-use mathlib.Core.Path.{sym}
+use mathlib.Core.Path.{sym, _∙_}
 use lib.Seq.{length-take-le}
-use Rattle.calls.proofs.Taking.{rows-accepted, bodies-held, pair-accepted, uneven, few-cells, few-states, files-wrong, readings-wrong, all-taken}
+use Rattle.pair.proofs.Given.{rows-accepted, tables-there, bodies-held}
+use Rattle.calls.proofs.Taking.{uneven, few-cells, few-states, files-wrong, readings-wrong, all-taken}
 use borrow.Author.Needs.{needs}
 use Rattle.calls.proofs.taken.take_run.Statement.{statement}
 use Rattle.calls.proofs.taken.take_run.Tie as tie
@@ -25,7 +26,7 @@ returns-3 : tie.Need-returns-3
 returns-3 c = few-states _ _ _ _ _ _ _ _ _ (c .before .before .before .if1 .left) (c .before .before .if2 .left) _ (c .refused3 .ensures) (c .before .if3 .taken)
 
 take-pair-requires : tie.Need-take-pair-requires
-take-pair-requires c κs = search needs
+take-pair-requires c κs = c .before .before .before .before .before .before .before .before .before .before .before .before .before .pre
 
 same-length : tie.Need-same-length
 same-length c = search needs
@@ -39,14 +40,15 @@ same-length-3 c = search needs
 returns-4 : tie.Need-returns-4
 returns-4 c = files-wrong _ _ _ _ _ _ _ _ _ (c .before .before .before .before .before .before .before .before .before .before .before .before .before .before .if1 .left) (c .before .before .before .before .before .before .before .before .before .before .before .before .before .if2 .left) (c .before .before .before .before .before .before .before .before .before .before .before .before .if3 .left) _ (c .before .before .before .before .before .before .before .before .take-pair .ensures) (c .if4 .taken)
 
-slice-reshare-prefix-inputs-wrong : tie.Need-slice-reshare-prefix-inputs-wrong
-slice-reshare-prefix-inputs-wrong c = c .before .before .before .before .before .before .before .before .take-pair .ensures .taken (c .if4 .left) .within
+slice-reshare-prefix-reading-wrong : tie.Need-slice-reshare-prefix-reading-wrong
+slice-reshare-prefix-reading-wrong c = c .before .before .before .before .before .before .before .before .before .before .take-pair .ensures .taken (c .before .before .if4 .left) .within
 
-slice-aggregate-inputs-wrong : tie.Need-slice-aggregate-inputs-wrong
-slice-aggregate-inputs-wrong c = sym (length-take-le _ _ (c .before .before .before .before .before .before .before .before .before .take-pair .ensures .taken (c .before .if4 .left) .within))
+slice-aggregate-reading-wrong : tie.Need-slice-aggregate-reading-wrong
+slice-aggregate-reading-wrong c = sym (length-take-le _ _ (c .before .before .before .before .before .before .before .before .before .before .before .take-pair .ensures .taken (c .before .before .before .if4 .left) .within))
 
-inputs-wrong-requires : tie.Need-inputs-wrong-requires
-inputs-wrong-requires c κs = let a = pair-accepted (c .before .before .before .before .before .before .before .before .before .before .take-pair .ensures) (c .before .before .if4 .left) in let t = c .before .before .before .before .before .before .before .before .before .before .take-pair .ensures .taken (c .before .before .if4 .left) in (rows-accepted a t, bodies-held a t)
+reading-wrong-requires : tie.Need-reading-wrong-requires
+reading-wrong-requires c κs =
+    let t = c .before .before .before .before .before .before .before .before .before .before .before .before .take-pair .ensures .taken (c .before .before .before .before .if4 .left) in (tables-there t .declarations, (rows-accepted t (sym (c .before .before .before .before .before .before .before .before .before .before .before .before .take-pair .ensures .refusal) ∙ c .before .before .before .before .if4 .left), bodies-held t))
 
 refused-requires-4 : tie.Need-refused-requires-4
 refused-requires-4 c κs = search needs
@@ -61,7 +63,7 @@ same-length-6 : tie.Need-same-length-6
 same-length-6 c = search needs
 
 returns-5 : tie.Need-returns-5
-returns-5 c = readings-wrong _ _ _ _ _ _ _ _ _ (c .before .before .before .before .before .before .before .before .before .before .before .before .before .before .before .before .before .before .before .if1 .left) (c .before .before .before .before .before .before .before .before .before .before .before .before .before .before .before .before .before .before .if2 .left) (c .before .before .before .before .before .before .before .before .before .before .before .before .before .before .before .before .before .if3 .left) _ (c .before .before .before .before .before .before .before .before .before .before .before .before .before .take-pair .ensures) (c .before .before .before .before .before .if4 .left) _ (c .before .before .inputs-wrong .ensures) _ (c .refused4 .ensures) (c .before .if5 .taken)
+returns-5 c = readings-wrong _ _ _ _ _ _ _ _ _ (c .before .before .before .before .before .before .before .before .before .before .before .before .before .before .before .before .before .before .before .before .before .if1 .left) (c .before .before .before .before .before .before .before .before .before .before .before .before .before .before .before .before .before .before .before .before .if2 .left) (c .before .before .before .before .before .before .before .before .before .before .before .before .before .before .before .before .before .before .before .if3 .left) _ (c .before .before .before .before .before .before .before .before .before .before .before .before .before .before .before .take-pair .ensures) (c .before .before .before .before .before .before .before .if4 .left) _ (c .before .before .reading-wrong .ensures) _ (c .refused4 .ensures) (c .before .if5 .taken)
 
 same-length-7 : tie.Need-same-length-7
 same-length-7 c = search needs
@@ -73,7 +75,7 @@ same-length-9 : tie.Need-same-length-9
 same-length-9 c = search needs
 
 returns-6 : tie.Need-returns-6
-returns-6 c = all-taken _ _ _ _ _ _ _ _ _ (c .before .before .before .before .before .before .before .before .before .before .before .before .before .before .before .before .before .before .if1 .left) (c .before .before .before .before .before .before .before .before .before .before .before .before .before .before .before .before .before .if2 .left) (c .before .before .before .before .before .before .before .before .before .before .before .before .before .before .before .before .if3 .left) _ (c .before .before .before .before .before .before .before .before .before .before .before .before .take-pair .ensures) (c .before .before .before .before .if4 .left) _ (c .before .inputs-wrong .ensures) (c .if5 .left)
+returns-6 c = all-taken _ _ _ _ _ _ _ _ _ (c .before .before .before .before .before .before .before .before .before .before .before .before .before .before .before .before .before .before .before .before .if1 .left) (c .before .before .before .before .before .before .before .before .before .before .before .before .before .before .before .before .before .before .before .if2 .left) (c .before .before .before .before .before .before .before .before .before .before .before .before .before .before .before .before .before .before .if3 .left) _ (c .before .before .before .before .before .before .before .before .before .before .before .before .before .before .take-pair .ensures) (c .before .before .before .before .before .before .if4 .left) _ (c .before .reading-wrong .ensures) (c .if5 .left)
 
 pub take-run-spec : {M : Type 1} → statement M
 take-run-spec =
@@ -90,9 +92,9 @@ take-run-spec =
     same-length-2
     same-length-3
     returns-4
-    slice-reshare-prefix-inputs-wrong
-    slice-aggregate-inputs-wrong
-    inputs-wrong-requires
+    slice-reshare-prefix-reading-wrong
+    slice-aggregate-reading-wrong
+    reading-wrong-requires
     refused-requires-4
     same-length-4
     same-length-5

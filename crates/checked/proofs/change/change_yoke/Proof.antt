@@ -21,17 +21,8 @@ same-length-2 c = search needs
 returns : tie.Need-returns
 returns c = λ vs w l. not-changed w (c .before .before .before .before .before .before .before .before .args .n) l (c .before .before .before .before .before .before .before .before .args .y) _ (c .before .before .yoke-holds .ensures vs (w .world)) (c .if1 .taken)
 
-mul-states : tie.Need-mul-states
-mul-states c = search needs
-
-add-states : tie.Need-add-states
-add-states c = search needs
-
-mul-states-2 : tie.Need-mul-states-2
-mul-states-2 c = search needs
-
-slice-write-states : tie.Need-slice-write-states
-slice-write-states c = let r = c .before .before .before .before .before .before .before .before .pre .0 in word-room (memory-of (r .running .world .stored)) _ (r .there)
+set-yoke-requires : tie.Need-set-yoke-requires
+set-yoke-requires c κs = let r = c .before .before .before .before .before .before .before .before .before .pre .0 in word-room (memory-of (r .running .world .stored)) _ (r .there)
 
 same-length-3 : tie.Need-same-length-3
 same-length-3 c = search needs
@@ -40,7 +31,7 @@ same-length-4 : tie.Need-same-length-4
 same-length-4 c = search needs
 
 returns-2 : tie.Need-returns-2
-returns-2 c = λ vs w l. changed w (c .before .before .before .before .before .before .before .before .args .n) l (c .before .before .before .before .before .before .before .before .args .y) _ (c .before .before .yoke-holds .ensures vs (w .world)) (c .if1 .left) (c .before .before .before .before .before .before .before .before .pre .1 .0)
+returns-2 c = λ vs w l. changed w (c .before .before .before .before .before .before .before .before .before .before .before .before .args .n) l (c .before .before .before .before .before .before .before .before .before .before .before .before .args .y) _ (c .before .before .before .before .before .before .yoke-holds .ensures vs (w .world)) (c .before .before .before .before .if1 .left) (c .before .before .before .before .before .before .before .before .before .before .before .before .pre .1 .0) _ (c .before .before .set-yoke .ensures)
 
 pub change-yoke-spec : {M : Type 1} → statement M
 change-yoke-spec =
@@ -50,10 +41,7 @@ change-yoke-spec =
     same-length
     same-length-2
     returns
-    mul-states
-    add-states
-    mul-states-2
-    slice-write-states
+    set-yoke-requires
     same-length-3
     same-length-4
     returns-2)

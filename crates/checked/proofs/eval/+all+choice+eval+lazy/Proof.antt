@@ -14,7 +14,7 @@ use Rattle.lingua.specs.Evaluation.{eval as meaning}
 use Rattle.body.specs.Encode.{Holds}
 use Rattle.cells.specs.Stack.{Lies}
 use Rattle.profile.specs.Facts.{RowFacts, rowTree}
-use Rattle.profile.specs.Accepted.{expression-attributes}
+use Rattle.profile.specs.Known.{row-known}
 use Rattle.checked.specs.Meaning.{World, Sees}
 use Rattle.checked.proofs.Giving.{gives-error, gives-as}
 use Rattle.profile.specs.Facts.{says-as}
@@ -48,23 +48,23 @@ use Rattle.checked.proofs.leaves.copied.Reads as copied-reads
 use Rattle.checked.proofs.leaves.fetch.Reads as fetch-reads
 use Rattle.checked.proofs.operate.binary.Reads as binary-reads
 use Rattle.checked.proofs.operate.unary.Reads as unary-reads
-use Rattle.checked.proofs.seen.concluded.Reads as concluded-reads
-use Rattle.checked.proofs.seen.noted.Reads as noted-reads
+use Rattle.checked.proofs.tally.concluded.Reads as concluded-reads
+use Rattle.checked.proofs.tally.tallied.Reads as tallied-reads
 use Rattle.profile.proofs.row.expression_row.Reads as expression-row-reads
 use Rattle.checked.proofs.eval.+all+choice+eval+lazy.{statement}
 use Rattle.checked.proofs.eval.+all+choice+eval+lazy.Tie.{close}
 
 abbrev μ-all : Measures 6 all-kinds.ps ℕ
-μ-all κs a = 2 * a .1 .1 .1 .1 .1 .0
+μ-all κs a = 2 * a .0
 
 abbrev μ-choice : Measures 6 choice-kinds.ps ℕ
-μ-choice κs a = 2 * a .1 .1 .1 .1 .1 .0
+μ-choice κs a = 2 * a .0
 
 abbrev μ-eval : Measures 6 eval-kinds.ps ℕ
-μ-eval κs a = 2 * a .1 .1 .1 .1 .1 .0 + 1
+μ-eval κs a = 2 * a .0 + 1
 
 abbrev μ-lazy : Measures 6 lazy-kinds.ps ℕ
-μ-lazy κs a = 2 * a .1 .1 .1 .1 .1 .0
+μ-lazy κs a = 2 * a .0
 
 abbrev all-at : ℕ → In 6 all-kinds.ps
 all-at t = and 6 all-kinds.ps (is 6 all-kinds.ps μ-all t) all.Pre
@@ -91,13 +91,13 @@ abbrev lazy-below : ℕ → In 6 lazy-kinds.ps
 lazy-below t = and 6 lazy-kinds.ps (falls 6 lazy-kinds.ps _<_ μ-lazy t) lazy.Pre
 
 abbrev all-Inv-loop : all-lts.InvT-loop
-all-Inv-loop rows t variables cells states row a current stack₀ inner width n seen₀ at₀ i₀ stack seen at i = (i ≤ n) × (length stack ≡ length stack₀) × (at ≡ 1 + i * width) × ((vs : List Variable) (b : Body) (x : Value) → World rows t variables cells states vs → Holds inner b → Lies current 0 (list-of b) x → Sees seen (map (λ v. meaning (expressionTree rows a) (contents vs) (composite b v)) (take i (valueList (asItems x)))))
+all-Inv-loop row rows t variables cells states a current stack₀ inner width n seen₀ at₀ i₀ stack seen at i = (i ≤ n) × (length stack ≡ length stack₀) × (at ≡ 1 + i * width) × ((vs : List Variable) (b : Body) (x : Value) → World rows t variables cells states vs → Holds inner b → Lies current 0 (list-of b) x → Sees seen (map (λ v. meaning (expressionTree rows a) (contents vs) (composite b v)) (take i (valueList (asItems x)))))
 
 abbrev all-μ-loop : all-lts.MeasureT-loop
-all-μ-loop rows t variables cells states row a current stack₀ inner width n seen₀ at₀ i₀ stack seen at i = n - i
+all-μ-loop row rows t variables cells states a current stack₀ inner width n seen₀ at₀ i₀ stack seen at i = n - i
 
 abbrev all-calls : ℕ → all-lts.Claims
-all-calls t = (failed-reads.Asked, failed-reads.Learnt, element-reads.Asked, element-reads.Learnt, measure-body-reads.Asked, measure-body-reads.Learnt, eval-below t, eval.Post, noted-reads.Asked, noted-reads.Learnt, concluded-reads.Asked, concluded-reads.Learnt)
+all-calls t = (failed-reads.Asked, failed-reads.Learnt, element-reads.Asked, element-reads.Learnt, measure-body-reads.Asked, measure-body-reads.Learnt, eval-below t, eval.Post, tallied-reads.Asked, tallied-reads.Learnt, concluded-reads.Asked, concluded-reads.Learnt)
 
 abbrev choice-calls : ℕ → choice-lts.Claims
 choice-calls t = (eval-below t, eval.Post, truth-of-reads.Asked, truth-of-reads.Learnt, failed-reads.Asked, failed-reads.Learnt)
@@ -121,14 +121,14 @@ all-element-requires : (t : ℕ) → all-lts.Need-element-requires (all-calls t)
 all-element-requires t c κs = search needs
 
 all-measure-body-requires : (t : ℕ) → all-lts.Need-measure-body-requires (all-calls t) (all-at t) all.Post all-Inv-loop all-μ-loop
-all-measure-body-requires t c κs = element-held (c .before .before .before .before .before .pre .1 .0 .has) (c .before .if1 .left) (c .element .ensures)
+all-measure-body-requires t c κs = element-held (c .before .before .before .before .before .pre .1 .0 .ready .has) (c .before .if1 .left) (c .element .ensures)
 
 all-shared-slice-copy-out-n : (t : ℕ) → all-lts.Need-shared-slice-copy-out-n (all-calls t) (all-at t) all.Post all-Inv-loop all-μ-loop
-all-shared-slice-copy-out-n t c = list-cell (c .before .before .before .before .before .before .pre .1 .0 .has) (c .before .before .if1 .left) (c .before .element .ensures)
+all-shared-slice-copy-out-n t c = list-cell (c .before .before .before .before .before .before .pre .1 .0 .ready .has) (c .before .before .if1 .left) (c .before .element .ensures)
 
 all-cast-n : (t : ℕ) → all-lts.Need-cast-n (all-calls t) (all-at t) all.Post all-Inv-loop all-μ-loop
 all-cast-n t c =
-    let k = list-walks (c .before .before .before .before .before .before .before .pre .1 .0 .has) (c .before .before .before .if1 .left) (c .before .before .element .ensures) (c .before .measure-body .result .cells) (λ b h. c .before .measure-body .ensures b h .is-cells) in
+    let k = list-walks (c .before .before .before .before .before .before .before .pre .1 .0 .ready .has) (c .before .before .before .if1 .left) (c .before .before .element .ensures) (c .before .measure-body .result .cells) (λ b h. c .before .measure-body .ensures b h .is-cells) in
     rw (k .positive) (tt, omega (arith, k .few))
 
 all-loop-holds : (t : ℕ) → all-lts.Need-loop-holds (all-calls t) (all-at t) all.Post all-Inv-loop all-μ-loop
@@ -136,12 +136,12 @@ all-loop-holds t c = (omega arith, refl, omega arith, λ vs b x w h l. sees-none
 
 all-add-eval : (t : ℕ) → all-lts.Need-add-eval (all-calls t) (all-at t) all.Post all-Inv-loop all-μ-loop
 all-add-eval t c =
-    let k = list-walks (c .before .before .before .before .before .before .before .before .before .pre .1 .0 .has) (c .before .before .before .before .before .if1 .left) (c .before .before .before .before .element .ensures) (c .before .before .before .measure-body .result .cells) (λ b h. c .before .before .before .measure-body .ensures b h .is-cells) in
+    let k = list-walks (c .before .before .before .before .before .before .before .before .before .pre .1 .0 .ready .has) (c .before .before .before .before .before .if1 .left) (c .before .before .before .before .element .ensures) (c .before .before .before .measure-body .result .cells) (λ b h. c .before .before .before .measure-body .ensures b h .is-cells) in
     omega (arith, turn-room _ _ _ _ (c .before .loop .inv .2) (c .loop-test .taken) (k .few), k .room)
 
 all-mul-eval : (t : ℕ) → all-lts.Need-mul-eval (all-calls t) (all-at t) all.Post all-Inv-loop all-μ-loop
 all-mul-eval t c =
-    let k = list-walks (c .before .before .before .before .before .before .before .before .before .pre .1 .0 .has) (c .before .before .before .before .before .if1 .left) (c .before .before .before .before .element .ensures) (c .before .before .before .measure-body .result .cells) (λ b h. c .before .before .before .measure-body .ensures b h .is-cells) in
+    let k = list-walks (c .before .before .before .before .before .before .before .before .before .pre .1 .0 .ready .has) (c .before .before .before .before .before .if1 .left) (c .before .before .before .before .element .ensures) (c .before .before .before .measure-body .result .cells) (λ b h. c .before .before .before .measure-body .ensures b h .is-cells) in
     omega (arith, turn-room _ _ _ _ (c .before .loop .inv .2) (c .loop-test .taken) (k .few), k .room)
 
 all-sub-eval : (t : ℕ) → all-lts.Need-sub-eval (all-calls t) (all-at t) all.Post all-Inv-loop all-μ-loop
@@ -152,33 +152,34 @@ all-part-eval-start t c = omega arith
 
 all-part-eval-end : (t : ℕ) → all-lts.Need-part-eval-end (all-calls t) (all-at t) all.Post all-Inv-loop all-μ-loop
 all-part-eval-end t c =
-    let k = list-walks (c .before .before .before .before .before .before .before .before .before .pre .1 .0 .has) (c .before .before .before .before .before .if1 .left) (c .before .before .before .before .element .ensures) (c .before .before .before .measure-body .result .cells) (λ b h. c .before .before .before .measure-body .ensures b h .is-cells) in
+    let k = list-walks (c .before .before .before .before .before .before .before .before .before .pre .1 .0 .ready .has) (c .before .before .before .before .before .if1 .left) (c .before .before .before .before .element .ensures) (c .before .before .before .measure-body .result .cells) (λ b h. c .before .before .before .measure-body .ensures b h .is-cells) in
     omega (arith, turn-room _ _ _ _ (c .before .loop .inv .2) (c .loop-test .taken) (k .few), k .long)
 
 all-eval-requires : (t : ℕ) → all-lts.Need-eval-requires (all-calls t) (all-at t) all.Post all-Inv-loop all-μ-loop
 all-eval-requires t c κs =
-    let r = c .before .before .before .before .before .before .before .before .before .before .before .pre .1 .0 in
+    let r = c .before .before .before .before .before .before .before .before .before .before .before .pre .1 .0 .ready in
     let l = current-list (r .has .is) (c .before .before .before .before .before .before .before .if1 .left) in
     let held = c .before .before .before .before .before .before .element .ensures (l .element) (l .holds) in
     let more : c .before .before .before .loop .i < countValues (asItems (r .has .value .value)) = omega (arith, c .before .before .loop-test .taken, counted-elements (l .lies)) in (
-      omega (arith, c .before .before .before .before .before .before .before .before .before .before .before .pre .0, c .before .before .before .before .before .before .before .before .before .before .before .pre .1 .1 .0 .0),
-      (
-        record { store = r .store; world = r .world; has = record { value = _; is = element-current (l .lies) held (c .before .before .before .loop .i) (c .before .before .before .loop .at) _ (c .before .before .before .before .before .measure-body .ensures _ held .is-cells) (c .before .before .before .loop .inv .2) more } },
-        (omega (arith, c .before .before .before .before .before .before .before .before .before .before .before .pre .1 .1 .0 .0, c .before .before .before .before .before .before .before .before .before .before .before .pre .1 .1 .0 .1), omega (arith, c .before .before .before .before .before .before .before .before .before .before .before .pre .1 .1 .0 .0, c .before .before .before .before .before .before .before .before .before .before .before .pre .1 .1 .1, c .before .before .before .loop .inv .1)),
-      ),
+      omega (arith, c .before .before .before .before .before .before .before .before .before .before .before .pre .0, c .before .before .before .before .before .before .before .before .before .before .before .pre .1 .1),
+      record {
+        ready = record { store = r .store; world = r .world; has = record { value = _; is = element-current (l .lies) held (c .before .before .before .loop .i) (c .before .before .before .loop .at) _ (c .before .before .before .before .before .measure-body .ensures _ held .is-cells) (c .before .before .before .loop .inv .2) more } };
+        here = omega (arith, c .before .before .before .before .before .before .before .before .before .before .before .pre .1 .1, c .before .before .before .before .before .before .before .before .before .before .before .pre .1 .0 .here);
+        room = omega (arith, c .before .before .before .before .before .before .before .before .before .before .before .pre .1 .1, c .before .before .before .before .before .before .before .before .before .before .before .pre .1 .0 .room, c .before .before .before .loop .inv .1);
+      },
     )
 
-all-noted-requires : (t : ℕ) → all-lts.Need-noted-requires (all-calls t) (all-at t) all.Post all-Inv-loop all-μ-loop
-all-noted-requires t c κs = omega (arith, c .before .before .before .before .before .before .before .before .before .before .before .before .before .before .pre .1 .1 .1, c .before .before .before .before .before .before .loop .inv .1, c .before .before .eval .kept .1 .1 .1 .1 .1 .1 .1 .1 .0)
+all-tallied-requires : (t : ℕ) → all-lts.Need-tallied-requires (all-calls t) (all-at t) all.Post all-Inv-loop all-μ-loop
+all-tallied-requires t c κs = omega (arith, c .before .before .before .before .before .before .before .before .before .before .before .before .before .before .pre .1 .0 .room, c .before .before .before .before .before .before .loop .inv .1, c .before .before .eval .kept .1 .1 .1 .1 .1 .1 .1 .1 .0)
 
 all-add-at : (t : ℕ) → all-lts.Need-add-at (all-calls t) (all-at t) all.Post all-Inv-loop all-μ-loop
 all-add-at t c =
-    let k = list-walks (c .before .before .before .before .before .before .before .before .before .before .before .before .before .before .before .pre .1 .0 .has) (c .before .before .before .before .before .before .before .before .before .before .before .if1 .left) (c .before .before .before .before .before .before .before .before .before .before .element .ensures) (c .before .before .before .before .before .before .before .before .before .measure-body .result .cells) (λ b h. c .before .before .before .before .before .before .before .before .before .measure-body .ensures b h .is-cells) in
+    let k = list-walks (c .before .before .before .before .before .before .before .before .before .before .before .before .before .before .before .pre .1 .0 .ready .has) (c .before .before .before .before .before .before .before .before .before .before .before .if1 .left) (c .before .before .before .before .before .before .before .before .before .before .element .ensures) (c .before .before .before .before .before .before .before .before .before .measure-body .result .cells) (λ b h. c .before .before .before .before .before .before .before .before .before .measure-body .ensures b h .is-cells) in
     omega (arith, turn-room _ _ _ _ (c .before .before .before .before .before .before .before .loop .inv .2) (c .before .before .before .before .before .before .loop-test .taken) (k .few), k .room)
 
 all-add-i : (t : ℕ) → all-lts.Need-add-i (all-calls t) (all-at t) all.Post all-Inv-loop all-μ-loop
 all-add-i t c =
-    let k = list-walks (c .before .before .before .before .before .before .before .before .before .before .before .before .before .before .before .pre .1 .0 .has) (c .before .before .before .before .before .before .before .before .before .before .before .if1 .left) (c .before .before .before .before .before .before .before .before .before .before .element .ensures) (c .before .before .before .before .before .before .before .before .before .measure-body .result .cells) (λ b h. c .before .before .before .before .before .before .before .before .before .measure-body .ensures b h .is-cells) in
+    let k = list-walks (c .before .before .before .before .before .before .before .before .before .before .before .before .before .before .before .pre .1 .0 .ready .has) (c .before .before .before .before .before .before .before .before .before .before .before .if1 .left) (c .before .before .before .before .before .before .before .before .before .before .element .ensures) (c .before .before .before .before .before .before .before .before .before .measure-body .result .cells) (λ b h. c .before .before .before .before .before .before .before .before .before .measure-body .ensures b h .is-cells) in
     omega (arith, c .before .before .before .before .before .before .loop-test .taken, k .few)
 
 all-loop-less : (t : ℕ) → all-lts.Need-loop-less (all-calls t) (all-at t) all.Post all-Inv-loop all-μ-loop
@@ -191,7 +192,7 @@ all-loop-again t c = (
   next-place _ _ _ (c .before .before .before .before .before .before .before .loop .inv .2),
   λ vs b x w h l.
       let more : c .before .before .before .before .before .before .before .loop .i < countValues (asItems x) = omega (arith, c .before .before .before .before .before .before .loop-test .taken, counted-elements l) in
-      sees-more _ x (c .before .before .before .before .before .before .before .loop .i) more (c .noted .ensures _ _ (c .before .before .before .before .before .before .before .loop .inv .3 vs b x w h l) (c .before .before .before .eval .ensures vs (composite b (elementAt x (c .before .before .before .before .before .before .before .loop .i))) w (element-current l h (c .before .before .before .before .before .before .before .loop .i) (c .before .before .before .before .before .before .before .loop .at) _ (c .before .before .before .before .before .before .before .before .before .measure-body .ensures b h .is-cells) (c .before .before .before .before .before .before .before .loop .inv .2) more))),
+      sees-more _ x (c .before .before .before .before .before .before .before .loop .i) more (c .tallied .ensures _ _ (c .before .before .before .before .before .before .before .loop .inv .3 vs b x w h l) (c .before .before .before .eval .ensures vs (composite b (elementAt x (c .before .before .before .before .before .before .before .loop .i))) w (element-current l h (c .before .before .before .before .before .before .before .loop .i) (c .before .before .before .before .before .before .before .loop .at) _ (c .before .before .before .before .before .before .before .before .before .measure-body .ensures b h .is-cells) (c .before .before .before .before .before .before .before .loop .inv .2) more))),
 )
 
 all-concluded-requires : (t : ℕ) → all-lts.Need-concluded-requires (all-calls t) (all-at t) all.Post all-Inv-loop all-μ-loop
@@ -207,10 +208,10 @@ all-returns-2 t c = λ vs x w h.
     gives-as (all-is (c .before .before .before .before .before .before .before .before .before .before .before .before .args .row) _ (contents vs) l) (c .before .concluded .ensures _ (sees-all _ (x .value) (c .before .before .before .before .loop .i) (omega (arith, c .before .before .before .loop-test .left, c .before .before .before .before .loop .inv .0, counted-elements (l .lies))) (c .before .before .before .before .loop .inv .3 vs (l .element) (x .value) w held (l .lies))))
 
 choice-eval-requires : (t : ℕ) → choice-lts.Need-eval-requires (choice-calls t) (choice-at t) choice.Post
-choice-eval-requires t c κs = (omega (arith, c .before .before .before .before .pre .0), (c .before .before .before .before .pre .1 .0, (omega (arith, c .before .before .before .before .pre .1 .1 .0 .0, c .before .before .before .before .pre .1 .1 .0 .3), omega (arith, c .before .before .before .before .pre .1 .1 .1, c .before .before .before .before .pre .1 .1 .0 .0))))
+choice-eval-requires t c κs = (omega (arith, c .before .before .before .before .pre .0), record { ready = c .before .before .before .before .pre .1 .0 .ready; here = omega (arith, c .before .before .before .before .pre .1 .1 .0, c .before .before .before .before .pre .1 .0 .here); room = omega (arith, c .before .before .before .before .pre .1 .0 .room, c .before .before .before .before .pre .1 .1 .0) })
 
 choice-truth-of-requires : (t : ℕ) → choice-lts.Need-truth-of-requires (choice-calls t) (choice-at t) choice.Post
-choice-truth-of-requires t c κs = (omega arith, omega (arith, c .before .before .before .before .before .before .before .pre .1 .1 .1, c .before .before .eval .kept .1 .1 .1 .1 .1 .1 .1 .1 .0))
+choice-truth-of-requires t c κs = (omega arith, omega (arith, c .before .before .before .before .before .before .before .pre .1 .0 .room, c .before .before .eval .kept .1 .1 .1 .1 .1 .1 .1 .1 .0))
 
 choice-failed-requires : (t : ℕ) → choice-lts.Need-failed-requires (choice-calls t) (choice-at t) choice.Post
 choice-failed-requires t c κs = search needs
@@ -222,7 +223,7 @@ choice-returns : (t : ℕ) → choice-lts.Need-returns (choice-calls t) (choice-
 choice-returns t c = λ vs x w h. gives-error _ (c .failed .ensures) (c .before .if1 .taken) (choice-error _ _ _ _ _ _ _ (c .before .before .before .truth-of .ensures _ (c .before .before .before .before .before .before .eval .ensures vs x w h)) (c .before .if1 .taken))
 
 choice-eval-requires-2 : (t : ℕ) → choice-lts.Need-eval-requires-2 (choice-calls t) (choice-at t) choice.Post
-choice-eval-requires-2 t c κs = (omega (arith, c .before .before .before .before .before .before .before .before .before .before .before .before .pre .0), (c .before .before .before .before .before .before .before .before .before .before .before .before .pre .1 .0, (omega (arith, c .before .before .before .before .before .before .before .before .before .before .before .before .pre .1 .1 .0 .1, c .before .before .before .before .before .before .before .before .before .before .before .before .pre .1 .1 .0 .3), omega (arith, c .before .before .before .before .before .before .before .before .before .before .before .before .pre .1 .1 .1, c .before .before .before .before .before .before .before .before .before .before .before .before .pre .1 .1 .0 .1, c .before .before .before .before .before .before .before .eval .kept .1 .1 .1 .1 .1 .1 .1 .1 .0))))
+choice-eval-requires-2 t c κs = (omega (arith, c .before .before .before .before .before .before .before .before .before .before .before .before .pre .0), record { ready = c .before .before .before .before .before .before .before .before .before .before .before .before .pre .1 .0 .ready; here = omega (arith, c .before .before .before .before .before .before .before .before .before .before .before .before .pre .1 .1 .1, c .before .before .before .before .before .before .before .before .before .before .before .before .pre .1 .0 .here); room = omega (arith, c .before .before .before .before .before .before .before .before .before .before .before .before .pre .1 .0 .room, c .before .before .before .before .before .before .before .before .before .before .before .before .pre .1 .1 .1, c .before .before .before .before .before .before .before .eval .kept .1 .1 .1 .1 .1 .1 .1 .1 .0) })
 
 choice-same-length-2 : (t : ℕ) → choice-lts.Need-same-length-2 (choice-calls t) (choice-at t) choice.Post
 choice-same-length-2 t c = search needs
@@ -231,7 +232,7 @@ choice-returns-2 : (t : ℕ) → choice-lts.Need-returns-2 (choice-calls t) (cho
 choice-returns-2 t c = λ vs x w h. gives-as (choice-yes _ _ _ _ _ _ _ (c .before .before .before .before .before .before .truth-of .ensures _ (c .before .before .before .before .before .before .before .before .before .eval .ensures vs x w h)) (c .before .before .before .before .if1 .left) (c .before .before .before .if2 .taken)) (c .before .eval2 .ensures vs x w h)
 
 choice-eval-requires-3 : (t : ℕ) → choice-lts.Need-eval-requires-3 (choice-calls t) (choice-at t) choice.Post
-choice-eval-requires-3 t c κs = (omega (arith, c .before .before .before .before .before .before .before .before .before .before .before .before .pre .0), (c .before .before .before .before .before .before .before .before .before .before .before .before .pre .1 .0, (omega (arith, c .before .before .before .before .before .before .before .before .before .before .before .before .pre .1 .1 .0 .2, c .before .before .before .before .before .before .before .before .before .before .before .before .pre .1 .1 .0 .3), omega (arith, c .before .before .before .before .before .before .before .before .before .before .before .before .pre .1 .1 .1, c .before .before .before .before .before .before .before .before .before .before .before .before .pre .1 .1 .0 .2, c .before .before .before .before .before .before .before .eval .kept .1 .1 .1 .1 .1 .1 .1 .1 .0))))
+choice-eval-requires-3 t c κs = (omega (arith, c .before .before .before .before .before .before .before .before .before .before .before .before .pre .0), record { ready = c .before .before .before .before .before .before .before .before .before .before .before .before .pre .1 .0 .ready; here = omega (arith, c .before .before .before .before .before .before .before .before .before .before .before .before .pre .1 .1 .2, c .before .before .before .before .before .before .before .before .before .before .before .before .pre .1 .0 .here); room = omega (arith, c .before .before .before .before .before .before .before .before .before .before .before .before .pre .1 .0 .room, c .before .before .before .before .before .before .before .before .before .before .before .before .pre .1 .1 .2, c .before .before .before .before .before .before .before .eval .kept .1 .1 .1 .1 .1 .1 .1 .1 .0) })
 
 choice-same-length-3 : (t : ℕ) → choice-lts.Need-same-length-3 (choice-calls t) (choice-at t) choice.Post
 choice-same-length-3 t c = search needs
@@ -241,8 +242,8 @@ choice-returns-3 t c = λ vs x w h. gives-as (choice-no _ _ _ _ _ _ _ (c .before
 
 eval-expression-row-requires : (t : ℕ) → eval-lts.Need-expression-row-requires (eval-calls t) (eval-at t) eval.Post
 eval-expression-row-requires t c κs =
-    let w = c .before .before .before .pre .1 .0 .world in
-    (w .table, (c .before .before .before .pre .1 .1 .0, expression-attributes _ (w .accepted .constants) _ (in-table w (c .before .before .before .pre .1 .1 .0))))
+    let w = c .before .before .before .pre .1 .ready .world in
+    (w .table, (c .before .before .before .pre .1 .here, row-known _ (w .accepted) _ (in-table w (c .before .before .before .pre .1 .here))))
 
 eval-enum-told : (t : ℕ) → eval-lts.Need-enum-told (eval-calls t) (eval-at t) eval.Post
 eval-enum-told t c = search needs
@@ -250,8 +251,8 @@ eval-enum-told t c = search needs
 eval-constant-requires : (t : ℕ) → eval-lts.Need-constant-requires (eval-calls t) (eval-at t) eval.Post
 unfolding RowFacts
 eval-constant-requires t c κs =
-    let w = c .before .before .before .before .before .before .before .pre .1 .0 .world in
-    (w .table, (c .before .before .before .before .before .before .before .pre .1 .1 .0, (facts w (c .before .before .before .before .before .before .before .pre .1 .1 .0) (says-as (c .before .enum-told .given .1) (c .before .before .before .expression-row .ensures)), omega (arith, c .before .before .before .before .before .before .before .pre .1 .1 .1))))
+    let w = c .before .before .before .before .before .before .before .pre .1 .ready .world in
+    (w .table, (c .before .before .before .before .before .before .before .pre .1 .here, (facts w (c .before .before .before .before .before .before .before .pre .1 .here) (says-as (c .before .enum-told .given .1) (c .before .before .before .expression-row .ensures)), omega (arith, c .before .before .before .before .before .before .before .pre .1 .room))))
 
 eval-enum-known-says : (t : ℕ) → eval-lts.Need-enum-known-says (eval-calls t) (eval-at t) eval.Post
 eval-enum-known-says t c = search needs
@@ -259,15 +260,15 @@ eval-enum-known-says t c = search needs
 eval-fetch-requires : (t : ℕ) → eval-lts.Need-fetch-requires (eval-calls t) (eval-at t) eval.Post
 unfolding RowFacts
 eval-fetch-requires t c κs =
-    let w = c .before .before .before .before .before .before .before .before .pre .1 .0 .world in
-    let f = facts w (c .before .before .before .before .before .before .before .before .pre .1 .1 .0) (says-as (c .before .before .says .given .1) (c .before .before .before .before .expression-row .ensures)) in
-    (record { store = c .before .before .before .before .before .before .before .before .pre .1 .0 .store; stored = w .stored; there = omega (arith, f, w .count) }, omega (arith, c .before .before .before .before .before .before .before .before .pre .1 .1 .1))
+    let w = c .before .before .before .before .before .before .before .before .pre .1 .ready .world in
+    let f = facts w (c .before .before .before .before .before .before .before .before .pre .1 .here) (says-as (c .before .before .says .given .1) (c .before .before .before .before .expression-row .ensures)) in
+    (record { store = c .before .before .before .before .before .before .before .before .pre .1 .ready .store; stored = w .stored; there = omega (arith, f, w .count) }, omega (arith, c .before .before .before .before .before .before .before .before .pre .1 .room))
 
 eval-enum-told-2 : (t : ℕ) → eval-lts.Need-enum-told-2 (eval-calls t) (eval-at t) eval.Post
 eval-enum-told-2 t c = search needs
 
 eval-copied-requires : (t : ℕ) → eval-lts.Need-copied-requires (eval-calls t) (eval-at t) eval.Post
-eval-copied-requires t c κs = (c .before .before .before .before .before .before .before .pre .1 .0 .has, omega (arith, c .before .before .before .before .before .before .before .pre .1 .1 .1))
+eval-copied-requires t c κs = (c .before .before .before .before .before .before .before .pre .1 .ready .has, omega (arith, c .before .before .before .before .before .before .before .pre .1 .room))
 
 eval-enum-known-says-2 : (t : ℕ) → eval-lts.Need-enum-known-says-2 (eval-calls t) (eval-at t) eval.Post
 eval-enum-known-says-2 t c = search needs
@@ -275,13 +276,13 @@ eval-enum-known-says-2 t c = search needs
 eval-eval-requires : (t : ℕ) → eval-lts.Need-eval-requires (eval-calls t) (eval-at t) eval.Post
 unfolding RowFacts
 eval-eval-requires t c κs =
-    let f = facts (c .before .before .before .before .before .before .before .before .pre .1 .0 .world) (c .before .before .before .before .before .before .before .before .pre .1 .1 .0) (says-as (c .before .before .says2 .given .1) (c .before .before .before .before .expression-row .ensures)) in
-    (omega (arith, c .before .before .before .before .before .before .before .before .pre .0, f), (c .before .before .before .before .before .before .before .before .pre .1 .0, (omega (arith, f, c .before .before .before .before .before .before .before .before .pre .1 .1 .0), omega (arith, c .before .before .before .before .before .before .before .before .pre .1 .1 .1, f))))
+    let f = facts (c .before .before .before .before .before .before .before .before .pre .1 .ready .world) (c .before .before .before .before .before .before .before .before .pre .1 .here) (says-as (c .before .before .says2 .given .1) (c .before .before .before .before .expression-row .ensures)) in
+    (omega (arith, c .before .before .before .before .before .before .before .before .pre .0, f), record { ready = c .before .before .before .before .before .before .before .before .pre .1 .ready; here = omega (arith, f, c .before .before .before .before .before .before .before .before .pre .1 .here); room = omega (arith, c .before .before .before .before .before .before .before .before .pre .1 .room, f) })
 
 eval-unary-requires : (t : ℕ) → eval-lts.Need-unary-requires (eval-calls t) (eval-at t) eval.Post
 eval-unary-requires t c κs =
-    let r = c .before .before .before .before .before .before .before .before .before .before .before .pre .1 .0 in
-    (record { outcome = _; gives = c .before .before .eval .ensures (r .store) (r .has .value) (r .world) (r .has .is) }, omega (arith, c .before .before .before .before .before .before .before .before .before .before .before .pre .1 .1 .1, c .before .before .eval .kept .1 .1 .1 .1 .1 .1 .1 .1 .0))
+    let r = c .before .before .before .before .before .before .before .before .before .before .before .pre .1 .ready in
+    (record { outcome = _; gives = c .before .before .eval .ensures (r .store) (r .has .value) (r .world) (r .has .is) }, omega (arith, c .before .before .before .before .before .before .before .before .before .before .before .pre .1 .room, c .before .before .eval .kept .1 .1 .1 .1 .1 .1 .1 .1 .0))
 
 eval-enum-known-says-3 : (t : ℕ) → eval-lts.Need-enum-known-says-3 (eval-calls t) (eval-at t) eval.Post
 eval-enum-known-says-3 t c = search needs
@@ -289,8 +290,8 @@ eval-enum-known-says-3 t c = search needs
 eval-eval-requires-2 : (t : ℕ) → eval-lts.Need-eval-requires-2 (eval-calls t) (eval-at t) eval.Post
 unfolding RowFacts
 eval-eval-requires-2 t c κs =
-    let f = facts (c .before .before .before .before .before .before .before .before .pre .1 .0 .world) (c .before .before .before .before .before .before .before .before .pre .1 .1 .0) (says-as (c .before .before .says3 .given .1) (c .before .before .before .before .expression-row .ensures)) in
-    (omega (arith, c .before .before .before .before .before .before .before .before .pre .0, f .0), (c .before .before .before .before .before .before .before .before .pre .1 .0, (omega (arith, f .0, c .before .before .before .before .before .before .before .before .pre .1 .1 .0), omega (arith, c .before .before .before .before .before .before .before .before .pre .1 .1 .1, f .0))))
+    let f = facts (c .before .before .before .before .before .before .before .before .pre .1 .ready .world) (c .before .before .before .before .before .before .before .before .pre .1 .here) (says-as (c .before .before .says3 .given .1) (c .before .before .before .before .expression-row .ensures)) in
+    (omega (arith, c .before .before .before .before .before .before .before .before .pre .0, f .0), record { ready = c .before .before .before .before .before .before .before .before .pre .1 .ready; here = omega (arith, f .0, c .before .before .before .before .before .before .before .before .pre .1 .here); room = omega (arith, c .before .before .before .before .before .before .before .before .pre .1 .room, f .0) })
 
 eval-sub-eval : (t : ℕ) → eval-lts.Need-sub-eval (eval-calls t) (eval-at t) eval.Post
 eval-sub-eval t c = search needs
@@ -304,17 +305,17 @@ eval-part-eval-end t c = search needs
 eval-eval-requires-3 : (t : ℕ) → eval-lts.Need-eval-requires-3 (eval-calls t) (eval-at t) eval.Post
 unfolding RowFacts
 eval-eval-requires-3 t c κs =
-    let f = facts (c .before .before .before .before .before .before .before .before .before .before .before .pre .1 .0 .world) (c .before .before .before .before .before .before .before .before .before .before .before .pre .1 .1 .0) (says-as (c .before .before .before .before .before .says3 .given .1) (c .before .before .before .before .before .before .before .expression-row .ensures)) in
-    (omega (arith, c .before .before .before .before .before .before .before .before .before .before .before .pre .0, f .1), (c .before .before .before .before .before .before .before .before .before .before .before .pre .1 .0, (omega (arith, f .1, c .before .before .before .before .before .before .before .before .before .before .before .pre .1 .1 .0), simp (length-take, length-drop) (omega (arith, c .before .before .before .before .before .before .before .before .before .before .before .pre .1 .1 .1, f .1, c .before .before .eval2 .kept .1 .1 .1 .1 .1 .1 .1 .1 .0)))))
+    let f = facts (c .before .before .before .before .before .before .before .before .before .before .before .pre .1 .ready .world) (c .before .before .before .before .before .before .before .before .before .before .before .pre .1 .here) (says-as (c .before .before .before .before .before .says3 .given .1) (c .before .before .before .before .before .before .before .expression-row .ensures)) in
+    (omega (arith, c .before .before .before .before .before .before .before .before .before .before .before .pre .0, f .1), record { ready = c .before .before .before .before .before .before .before .before .before .before .before .pre .1 .ready; here = omega (arith, f .1, c .before .before .before .before .before .before .before .before .before .before .before .pre .1 .here); room = simp (length-take, length-drop) (omega (arith, c .before .before .before .before .before .before .before .before .before .before .before .pre .1 .room, f .1, c .before .before .eval2 .kept .1 .1 .1 .1 .1 .1 .1 .1 .0)) })
 
 eval-binary-requires : (t : ℕ) → eval-lts.Need-binary-requires (eval-calls t) (eval-at t) eval.Post
 eval-binary-requires t c κs =
-    let r = c .before .before .before .before .before .before .before .before .before .before .before .before .before .before .pre .1 .0 in
-    let long : 64 ≤ length (c .before .before .before .before .before .eval2 .last .1 .1 .1 .1 .1 .1 .1 .1 .0) = omega (arith, c .before .before .before .before .before .before .before .before .before .before .before .before .before .before .pre .1 .1 .1, c .before .before .before .before .before .eval2 .kept .1 .1 .1 .1 .1 .1 .1 .1 .0) in (
+    let r = c .before .before .before .before .before .before .before .before .before .before .before .before .before .before .pre .1 .ready in
+    let long : 64 ≤ length (c .before .before .before .before .before .eval2 .last .1 .1 .1 .1 .1 .1 .1 .1 .0) = omega (arith, c .before .before .before .before .before .before .before .before .before .before .before .before .before .before .pre .1 .room, c .before .before .before .before .before .eval2 .kept .1 .1 .1 .1 .1 .1 .1 .1 .0) in (
       record { outcome = _; gives = first-stays (c .before .before .eval3 .last .1 .1 .1 .1 .1 .1 .1 .1 .0) _ long (c .before .before .before .before .before .eval2 .ensures (r .store) (r .has .value) (r .world) (r .has .is)) },
       (
         record { outcome = _; gives = second-lies (c .before .before .before .before .before .eval2 .last .1 .1 .1 .1 .1 .1 .1 .1 .0) (c .before .before .eval3 .last .1 .1 .1 .1 .1 .1 .1 .1 .0) _ long (c .before .before .eval3 .ensures (r .store) (r .has .value) (r .world) (r .has .is)) },
-        both-long (c .before .before .before .before .before .eval2 .last .1 .1 .1 .1 .1 .1 .1 .1 .0) (c .before .before .eval3 .last .1 .1 .1 .1 .1 .1 .1 .1 .0) _ long (omega (arith, c .before .before .before .before .before .before .before .before .before .before .before .before .before .before .pre .1 .1 .1, c .before .before .before .before .before .eval2 .kept .1 .1 .1 .1 .1 .1 .1 .1 .0, simp (length-take, length-drop) at (c .before .before .eval3 .kept .1 .1 .1 .1 .1 .1 .1 .1 .0))),
+        both-long (c .before .before .before .before .before .eval2 .last .1 .1 .1 .1 .1 .1 .1 .1 .0) (c .before .before .eval3 .last .1 .1 .1 .1 .1 .1 .1 .1 .0) _ long (omega (arith, c .before .before .before .before .before .before .before .before .before .before .before .before .before .before .pre .1 .room, c .before .before .before .before .before .eval2 .kept .1 .1 .1 .1 .1 .1 .1 .1 .0, simp (length-take, length-drop) at (c .before .before .eval3 .kept .1 .1 .1 .1 .1 .1 .1 .1 .0))),
       ),
     )
 
@@ -324,8 +325,8 @@ eval-enum-known-says-4 t c = search needs
 eval-lazy-requires : (t : ℕ) → eval-lts.Need-lazy-requires (eval-calls t) (eval-at t) eval.Post
 unfolding RowFacts
 eval-lazy-requires t c κs =
-    let f = facts (c .before .before .before .before .before .before .before .before .pre .1 .0 .world) (c .before .before .before .before .before .before .before .before .pre .1 .1 .0) (says-as (c .before .before .says4 .given .1) (c .before .before .before .before .expression-row .ensures)) in
-    (omega (arith, c .before .before .before .before .before .before .before .before .pre .0), (c .before .before .before .before .before .before .before .before .pre .1 .0, ((f .0, f .1, c .before .before .before .before .before .before .before .before .pre .1 .1 .0), omega (arith, c .before .before .before .before .before .before .before .before .pre .1 .1 .1))))
+    let f = facts (c .before .before .before .before .before .before .before .before .pre .1 .ready .world) (c .before .before .before .before .before .before .before .before .pre .1 .here) (says-as (c .before .before .says4 .given .1) (c .before .before .before .before .expression-row .ensures)) in
+    (omega (arith, c .before .before .before .before .before .before .before .before .pre .0), (c .before .before .before .before .before .before .before .before .pre .1, (f .0, f .1)))
 
 eval-enum-known-says-5 : (t : ℕ) → eval-lts.Need-enum-known-says-5 (eval-calls t) (eval-at t) eval.Post
 eval-enum-known-says-5 t c = search needs
@@ -333,8 +334,8 @@ eval-enum-known-says-5 t c = search needs
 eval-choice-requires : (t : ℕ) → eval-lts.Need-choice-requires (eval-calls t) (eval-at t) eval.Post
 unfolding RowFacts
 eval-choice-requires t c κs =
-    let f = facts (c .before .before .before .before .before .before .before .before .pre .1 .0 .world) (c .before .before .before .before .before .before .before .before .pre .1 .1 .0) (says-as (c .before .before .says5 .given .1) (c .before .before .before .before .expression-row .ensures)) in
-    (omega (arith, c .before .before .before .before .before .before .before .before .pre .0), (c .before .before .before .before .before .before .before .before .pre .1 .0, ((f .0, f .1, f .2, c .before .before .before .before .before .before .before .before .pre .1 .1 .0), omega (arith, c .before .before .before .before .before .before .before .before .pre .1 .1 .1))))
+    let f = facts (c .before .before .before .before .before .before .before .before .pre .1 .ready .world) (c .before .before .before .before .before .before .before .before .pre .1 .here) (says-as (c .before .before .says5 .given .1) (c .before .before .before .before .expression-row .ensures)) in
+    (omega (arith, c .before .before .before .before .before .before .before .before .pre .0), (c .before .before .before .before .before .before .before .before .pre .1, (f .0, f .1, f .2)))
 
 eval-enum-known-says-6 : (t : ℕ) → eval-lts.Need-enum-known-says-6 (eval-calls t) (eval-at t) eval.Post
 eval-enum-known-says-6 t c = search needs
@@ -342,15 +343,15 @@ eval-enum-known-says-6 t c = search needs
 eval-all-requires : (t : ℕ) → eval-lts.Need-all-requires (eval-calls t) (eval-at t) eval.Post
 unfolding RowFacts
 eval-all-requires t c κs =
-    let f = facts (c .before .before .before .before .before .before .before .before .pre .1 .0 .world) (c .before .before .before .before .before .before .before .before .pre .1 .1 .0) (says-as (c .before .before .says6 .given .1) (c .before .before .before .before .expression-row .ensures)) in
-    (omega (arith, c .before .before .before .before .before .before .before .before .pre .0), (c .before .before .before .before .before .before .before .before .pre .1 .0, ((f, c .before .before .before .before .before .before .before .before .pre .1 .1 .0), omega (arith, c .before .before .before .before .before .before .before .before .pre .1 .1 .1))))
+    let f = facts (c .before .before .before .before .before .before .before .before .pre .1 .ready .world) (c .before .before .before .before .before .before .before .before .pre .1 .here) (says-as (c .before .before .says6 .given .1) (c .before .before .before .before .expression-row .ensures)) in
+    (omega (arith, c .before .before .before .before .before .before .before .before .pre .0), (c .before .before .before .before .before .before .before .before .pre .1, f))
 
 eval-same-length : (t : ℕ) → eval-lts.Need-same-length (eval-calls t) (eval-at t) eval.Post
 eval-same-length t c = search needs
 
 eval-returns : (t : ℕ) → eval-lts.Need-returns (eval-calls t) (eval-at t) eval.Post
 unfolding rowTree meaning
-eval-returns t c = λ vs x w h. by-row w (c .before .before .before .before .before .before .before .before .before .pre .1 .1 .0) x (says-as (c .before .before .before .enum-told .given .1) (c .before .before .before .before .before .expression-row .ensures)) (c .before .constant .ensures)
+eval-returns t c = λ vs x w h. by-row w (c .before .before .before .before .before .before .before .before .before .pre .1 .here) x (says-as (c .before .before .before .enum-told .given .1) (c .before .before .before .before .before .expression-row .ensures)) (c .before .constant .ensures)
 
 eval-same-length-2 : (t : ℕ) → eval-lts.Need-same-length-2 (eval-calls t) (eval-at t) eval.Post
 eval-same-length-2 t c = search needs
@@ -359,22 +360,22 @@ eval-returns-2 : (t : ℕ) → eval-lts.Need-returns-2 (eval-calls t) (eval-at t
 unfolding rowTree meaning RowFacts
 eval-returns-2 t c = λ vs x w h.
     let s = says-as (c .before .before .before .before .says .given .1) (c .before .before .before .before .before .before .expression-row .ensures) in
-    let f = facts w (c .before .before .before .before .before .before .before .before .before .before .pre .1 .1 .0) s in
-    by-row w (c .before .before .before .before .before .before .before .before .before .before .pre .1 .1 .0) x s (c .before .fetch .ensures vs (w .stored) (omega (arith, f, w .count)))
+    let f = facts w (c .before .before .before .before .before .before .before .before .before .before .pre .1 .here) s in
+    by-row w (c .before .before .before .before .before .before .before .before .before .before .pre .1 .here) x s (c .before .fetch .ensures vs (w .stored) (omega (arith, f, w .count)))
 
 eval-same-length-3 : (t : ℕ) → eval-lts.Need-same-length-3 (eval-calls t) (eval-at t) eval.Post
 eval-same-length-3 t c = search needs
 
 eval-returns-3 : (t : ℕ) → eval-lts.Need-returns-3 (eval-calls t) (eval-at t) eval.Post
 unfolding rowTree meaning
-eval-returns-3 t c = λ vs x w h. by-row w (c .before .before .before .before .before .before .before .before .before .pre .1 .1 .0) x (says-as (c .before .before .before .enum-told2 .given .1) (c .before .before .before .before .before .expression-row .ensures)) (c .before .copied .ensures x h)
+eval-returns-3 t c = λ vs x w h. by-row w (c .before .before .before .before .before .before .before .before .before .pre .1 .here) x (says-as (c .before .before .before .enum-told2 .given .1) (c .before .before .before .before .before .expression-row .ensures)) (c .before .copied .ensures x h)
 
 eval-same-length-4 : (t : ℕ) → eval-lts.Need-same-length-4 (eval-calls t) (eval-at t) eval.Post
 eval-same-length-4 t c = search needs
 
 eval-returns-4 : (t : ℕ) → eval-lts.Need-returns-4 (eval-calls t) (eval-at t) eval.Post
 unfolding rowTree meaning
-eval-returns-4 t c = λ vs x w h. by-row w (c .before .before .before .before .before .before .before .before .before .before .before .before .before .pre .1 .1 .0) x (says-as (c .before .before .before .before .before .before .before .says2 .given .1) (c .before .before .before .before .before .before .before .before .before .expression-row .ensures)) (c .before .unary .ensures _ (c .before .before .before .before .eval .ensures vs x w h))
+eval-returns-4 t c = λ vs x w h. by-row w (c .before .before .before .before .before .before .before .before .before .before .before .before .before .pre .1 .here) x (says-as (c .before .before .before .before .before .before .before .says2 .given .1) (c .before .before .before .before .before .before .before .before .before .expression-row .ensures)) (c .before .unary .ensures _ (c .before .before .before .before .eval .ensures vs x w h))
 
 eval-same-length-5 : (t : ℕ) → eval-lts.Need-same-length-5 (eval-calls t) (eval-at t) eval.Post
 eval-same-length-5 t c = search needs
@@ -382,8 +383,8 @@ eval-same-length-5 t c = search needs
 eval-returns-5 : (t : ℕ) → eval-lts.Need-returns-5 (eval-calls t) (eval-at t) eval.Post
 unfolding rowTree meaning
 eval-returns-5 t c = λ vs x w h.
-    let long : 64 ≤ length (c .before .before .before .before .before .before .before .eval2 .last .1 .1 .1 .1 .1 .1 .1 .1 .0) = omega (arith, c .before .before .before .before .before .before .before .before .before .before .before .before .before .before .before .before .pre .1 .1 .1, c .before .before .before .before .before .before .before .eval2 .kept .1 .1 .1 .1 .1 .1 .1 .1 .0) in
-    by-row w (c .before .before .before .before .before .before .before .before .before .before .before .before .before .before .before .before .pre .1 .1 .0) x (says-as (c .before .before .before .before .before .before .before .before .before .before .says3 .given .1) (c .before .before .before .before .before .before .before .before .before .before .before .before .expression-row .ensures))
+    let long : 64 ≤ length (c .before .before .before .before .before .before .before .eval2 .last .1 .1 .1 .1 .1 .1 .1 .1 .0) = omega (arith, c .before .before .before .before .before .before .before .before .before .before .before .before .before .before .before .before .pre .1 .room, c .before .before .before .before .before .before .before .eval2 .kept .1 .1 .1 .1 .1 .1 .1 .1 .0) in
+    by-row w (c .before .before .before .before .before .before .before .before .before .before .before .before .before .before .before .before .pre .1 .here) x (says-as (c .before .before .before .before .before .before .before .before .before .before .says3 .given .1) (c .before .before .before .before .before .before .before .before .before .before .before .before .expression-row .ensures))
     (c .before .binary .ensures _ _ (first-stays (c .before .before .before .before .eval3 .last .1 .1 .1 .1 .1 .1 .1 .1 .0) _ long (c .before .before .before .before .before .before .before .eval2 .ensures vs x w h)) (second-lies (c .before .before .before .before .before .before .before .eval2 .last .1 .1 .1 .1 .1 .1 .1 .1 .0) (c .before .before .before .before .eval3 .last .1 .1 .1 .1 .1 .1 .1 .1 .0) _ long (c .before .before .before .before .eval3 .ensures vs x w h)))
 
 eval-same-length-6 : (t : ℕ) → eval-lts.Need-same-length-6 (eval-calls t) (eval-at t) eval.Post
@@ -391,27 +392,27 @@ eval-same-length-6 t c = search needs
 
 eval-returns-6 : (t : ℕ) → eval-lts.Need-returns-6 (eval-calls t) (eval-at t) eval.Post
 unfolding rowTree
-eval-returns-6 t c = λ vs x w h. by-row w (c .before .before .before .before .before .before .before .before .before .before .pre .1 .1 .0) x (says-as (c .before .before .before .before .says4 .given .1) (c .before .before .before .before .before .before .expression-row .ensures)) (c .before .lazy .ensures vs x w h)
+eval-returns-6 t c = λ vs x w h. by-row w (c .before .before .before .before .before .before .before .before .before .before .pre .1 .here) x (says-as (c .before .before .before .before .says4 .given .1) (c .before .before .before .before .before .before .expression-row .ensures)) (c .before .lazy .ensures vs x w h)
 
 eval-same-length-7 : (t : ℕ) → eval-lts.Need-same-length-7 (eval-calls t) (eval-at t) eval.Post
 eval-same-length-7 t c = search needs
 
 eval-returns-7 : (t : ℕ) → eval-lts.Need-returns-7 (eval-calls t) (eval-at t) eval.Post
 unfolding rowTree
-eval-returns-7 t c = λ vs x w h. by-row w (c .before .before .before .before .before .before .before .before .before .before .pre .1 .1 .0) x (says-as (c .before .before .before .before .says5 .given .1) (c .before .before .before .before .before .before .expression-row .ensures)) (c .before .choice .ensures vs x w h)
+eval-returns-7 t c = λ vs x w h. by-row w (c .before .before .before .before .before .before .before .before .before .before .pre .1 .here) x (says-as (c .before .before .before .before .says5 .given .1) (c .before .before .before .before .before .before .expression-row .ensures)) (c .before .choice .ensures vs x w h)
 
 eval-same-length-8 : (t : ℕ) → eval-lts.Need-same-length-8 (eval-calls t) (eval-at t) eval.Post
 eval-same-length-8 t c = search needs
 
 eval-returns-8 : (t : ℕ) → eval-lts.Need-returns-8 (eval-calls t) (eval-at t) eval.Post
 unfolding rowTree
-eval-returns-8 t c = λ vs x w h. by-row w (c .before .before .before .before .before .before .before .before .before .before .pre .1 .1 .0) x (says-as (c .before .before .before .before .says6 .given .1) (c .before .before .before .before .before .before .expression-row .ensures)) (c .before .all .ensures vs x w h)
+eval-returns-8 t c = λ vs x w h. by-row w (c .before .before .before .before .before .before .before .before .before .before .pre .1 .here) x (says-as (c .before .before .before .before .says6 .given .1) (c .before .before .before .before .before .before .expression-row .ensures)) (c .before .all .ensures vs x w h)
 
 lazy-eval-requires : (t : ℕ) → lazy-lts.Need-eval-requires (lazy-calls t) (lazy-at t) lazy.Post
-lazy-eval-requires t c κs = (omega (arith, c .before .before .before .before .pre .0), (c .before .before .before .before .pre .1 .0, (omega (arith, c .before .before .before .before .pre .1 .1 .0 .0, c .before .before .before .before .pre .1 .1 .0 .2), omega (arith, c .before .before .before .before .pre .1 .1 .1, c .before .before .before .before .pre .1 .1 .0 .0))))
+lazy-eval-requires t c κs = (omega (arith, c .before .before .before .before .pre .0), record { ready = c .before .before .before .before .pre .1 .0 .ready; here = omega (arith, c .before .before .before .before .pre .1 .1 .0, c .before .before .before .before .pre .1 .0 .here); room = omega (arith, c .before .before .before .before .pre .1 .0 .room, c .before .before .before .before .pre .1 .1 .0) })
 
 lazy-truth-of-requires : (t : ℕ) → lazy-lts.Need-truth-of-requires (lazy-calls t) (lazy-at t) lazy.Post
-lazy-truth-of-requires t c κs = (omega arith, omega (arith, c .before .before .before .before .before .before .before .pre .1 .1 .1, c .before .before .eval .kept .1 .1 .1 .1 .1 .1 .1 .1 .0))
+lazy-truth-of-requires t c κs = (omega arith, omega (arith, c .before .before .before .before .before .before .before .pre .1 .0 .room, c .before .before .eval .kept .1 .1 .1 .1 .1 .1 .1 .1 .0))
 
 lazy-failed-requires : (t : ℕ) → lazy-lts.Need-failed-requires (lazy-calls t) (lazy-at t) lazy.Post
 lazy-failed-requires t c κs = search needs
@@ -429,10 +430,10 @@ lazy-returns-2 : (t : ℕ) → lazy-lts.Need-returns-2 (lazy-calls t) (lazy-at t
 lazy-returns-2 t c = λ vs x w h. lazy-settled (c .before .before .before .before .before .before .before .before .before .before .before .before .args .row) (c .before .before .before .before .before .before .before .before .before .before .before .before .args .settling) (expressionTree (c .before .before .before .before .before .before .before .before .before .before .before .before .args .rows .now) (c .before .before .before .before .before .before .before .before .before .before .before .before .args .a)) (expressionTree (c .before .before .before .before .before .before .before .before .before .before .before .before .args .rows .now) (c .before .before .before .before .before .before .before .before .before .before .before .before .args .b)) (contents vs) x _ (c .before .before .before .before .before .before .before .eval .ensures vs x w h) (c .before .before .before .before .truth-of .ensures _ (c .before .before .before .before .before .before .before .eval .ensures vs x w h)) (c .before .before .if1 .left) (c .if2 .taken)
 
 lazy-eval-requires-2 : (t : ℕ) → lazy-lts.Need-eval-requires-2 (lazy-calls t) (lazy-at t) lazy.Post
-lazy-eval-requires-2 t c κs = (omega (arith, c .before .before .before .before .before .before .before .before .before .before .before .before .before .pre .0), (c .before .before .before .before .before .before .before .before .before .before .before .before .before .pre .1 .0, (omega (arith, c .before .before .before .before .before .before .before .before .before .before .before .before .before .pre .1 .1 .0 .1, c .before .before .before .before .before .before .before .before .before .before .before .before .before .pre .1 .1 .0 .2), omega (arith, c .before .before .before .before .before .before .before .before .before .before .before .before .before .pre .1 .1 .1, c .before .before .before .before .before .before .before .before .before .before .before .before .before .pre .1 .1 .0 .1, c .before .before .before .before .before .before .before .before .eval .kept .1 .1 .1 .1 .1 .1 .1 .1 .0))))
+lazy-eval-requires-2 t c κs = (omega (arith, c .before .before .before .before .before .before .before .before .before .before .before .before .before .pre .0), record { ready = c .before .before .before .before .before .before .before .before .before .before .before .before .before .pre .1 .0 .ready; here = omega (arith, c .before .before .before .before .before .before .before .before .before .before .before .before .before .pre .1 .1 .1, c .before .before .before .before .before .before .before .before .before .before .before .before .before .pre .1 .0 .here); room = omega (arith, c .before .before .before .before .before .before .before .before .before .before .before .before .before .pre .1 .0 .room, c .before .before .before .before .before .before .before .before .before .before .before .before .before .pre .1 .1 .1, c .before .before .before .before .before .before .before .before .eval .kept .1 .1 .1 .1 .1 .1 .1 .1 .0) })
 
 lazy-truth-of-requires-2 : (t : ℕ) → lazy-lts.Need-truth-of-requires-2 (lazy-calls t) (lazy-at t) lazy.Post
-lazy-truth-of-requires-2 t c κs = (omega arith, omega (arith, c .before .before .before .before .before .before .before .before .before .before .before .before .before .before .before .before .pre .1 .1 .1, c .before .before .before .before .before .before .before .before .before .before .before .eval .kept .1 .1 .1 .1 .1 .1 .1 .1 .0, c .before .before .eval2 .kept .1 .1 .1 .1 .1 .1 .1 .1 .0))
+lazy-truth-of-requires-2 t c κs = (omega arith, omega (arith, c .before .before .before .before .before .before .before .before .before .before .before .before .before .before .before .before .pre .1 .0 .room, c .before .before .before .before .before .before .before .before .before .before .before .eval .kept .1 .1 .1 .1 .1 .1 .1 .1 .0, c .before .before .eval2 .kept .1 .1 .1 .1 .1 .1 .1 .1 .0))
 
 lazy-failed-requires-2 : (t : ℕ) → lazy-lts.Need-failed-requires-2 (lazy-calls t) (lazy-at t) lazy.Post
 lazy-failed-requires-2 t c κs = search needs
@@ -470,7 +471,7 @@ pub +all+choice+eval+lazy-spec : {M : Type 1} → statement M
     (all-part-eval-start t)
     (all-part-eval-end t)
     (all-eval-requires t)
-    (all-noted-requires t)
+    (all-tallied-requires t)
     (all-add-at t)
     (all-add-i t)
     (all-loop-less t)

@@ -1,6 +1,7 @@
 -- `fetch` meets its contract, by `gives-variable`. Assumes nothing.
-use mathlib.Core.Path.{refl}
+use mathlib.Core.Path.{refl, sym, _∙_}
 use native.Mathlib.Omega.{arith}
+use borrow.Author.Tests.{not-true, not-false}
 use Rattle.checked.proofs.Giving.{gives-error}
 use Rattle.run.proofs.Parts.{states-room, cells-room}
 use Rattle.checked.proofs.Storing.{memory-of, declared-held, not-filled-is, gives-variable}
@@ -8,20 +9,14 @@ use borrow.Author.Needs.{needs}
 use Rattle.checked.proofs.leaves.fetch.Statement.{statement}
 use Rattle.checked.proofs.leaves.fetch.Tie as tie
 
-mul-if1 : tie.Need-mul-if1
-mul-if1 c = search needs
-
-mul-if1-2 : tie.Need-mul-if1-2
-mul-if1-2 c = search needs
-
-shared-slice-read-if1 : tie.Need-shared-slice-read-if1
-shared-slice-read-if1 c = let h = c .before .before .before .pre .0 in states-room (memory-of (h .stored)) _ (h .there)
+is-filled-requires : tie.Need-is-filled-requires
+is-filled-requires c κs = let h = c .before .before .pre .0 in states-room (memory-of (h .stored)) _ (h .there)
 
 failed-requires : tie.Need-failed-requires
 failed-requires c κs = search needs
 
 returns : tie.Need-returns
-returns c = λ vs h l. gives-error 7 (c .failed .ensures) (λ e. omega arith) (not-filled-is h _ l (c .before .if1 .taken))
+returns c = λ vs h l. gives-error 7 (c .failed .ensures) (λ e. omega arith) (not-filled-is h _ l (sym (c .before .before .is-filled .ensures) ∙ not-true _ (c .before .if1 .taken)))
 
 declared-requires : tie.Need-declared-requires
 declared-requires c κs = search needs
@@ -46,15 +41,13 @@ same-length c = search needs
 
 returns-2 : tie.Need-returns-2
 returns-2 c = λ vs h l.
-    gives-variable h _ l (c .before .before .before .before .before .before .before .before .before .args .stack .now) _ _ _ _ (c .before .before .before .before .before .if1 .left) (c .before .before .before .before .declared .ensures) (c .before .before .before .measure-body .ensures _ (declared-held h _ l _ (c .before .before .before .before .declared .ensures)) .is-cells) (c .before .copy .ensures) refl refl refl
+    gives-variable h _ l (c .before .before .before .before .before .before .before .before .before .args .stack .now) _ _ _ _ (sym (c .before .before .before .before .before .before .is-filled .ensures) ∙ not-false _ (c .before .before .before .before .before .if1 .left)) (c .before .before .before .before .declared .ensures) (c .before .before .before .measure-body .ensures _ (declared-held h _ l _ (c .before .before .before .before .declared .ensures)) .is-cells) (c .before .copy .ensures) refl refl refl
 
 pub fetch-spec : {M : Type 1} → statement M
 fetch-spec =
     tie.close
     (tie.spec
-    mul-if1
-    mul-if1-2
-    shared-slice-read-if1
+    is-filled-requires
     failed-requires
     returns
     declared-requires

@@ -15,7 +15,7 @@ slice-aggregate-eval c = search needs
 eval-requires : tie.Need-eval-requires
 eval-requires c κs =
     let r = c .before .before .before .before .before .before .pre .0 in
-    (record { store = r .store; world = r .world; has = record { value = no-current; is = none-current _ (c .before .before .simple .ensures) } }, (c .before .before .before .before .before .before .pre .1 .0, omega (arith, c .before .before .before .before .before .before .pre .1 .1)))
+    record { ready = record { store = r .store; world = r .world; has = record { value = no-current; is = none-current _ (c .before .before .simple .ensures) } }; here = c .before .before .before .before .before .before .pre .1 .0; room = omega (arith, c .before .before .before .before .before .before .pre .1 .1) }
 
 same-length : tie.Need-same-length
 same-length c = search needs

@@ -1,4 +1,5 @@
 -- `eval_yoke` meets its contract, by `always-true` and `yoke-row`. Assumes nothing.
+use native.Mathlib.Omega.{arith}
 use Rattle.lingua.specs.Store.{contents}
 use Rattle.checked.proofs.Giving.{gives-as}
 use Rattle.checked.proofs.Yokes.{always-true, yoke-row}
@@ -19,7 +20,7 @@ sub-eval : tie.Need-sub-eval
 sub-eval c = search needs
 
 eval-requires : tie.Need-eval-requires
-eval-requires c κs = search needs
+eval-requires c κs = record { ready = c .before .before .before .before .before .pre .0; here = omega (arith, c .before .before .before .before .before .pre .1 .0, c .before .if1 .left); room = omega (arith, c .before .before .before .before .before .pre .1 .1, c .before .if1 .left) }
 
 same-length-2 : tie.Need-same-length-2
 same-length-2 c = search needs

@@ -19,17 +19,8 @@ same-length-2 c = search needs
 returns : tie.Need-returns
 returns c = λ vs w. not-changed w (c .before .before .before .before .before .before .before .before .pre .1 .0 .2) (omega (arith, w .world .count, c .before .before .before .before .before .before .before .before .pre .1 .0 .0)) (c .before .before .yoke-holds .ensures) (c .if1 .taken)
 
-mul-states : tie.Need-mul-states
-mul-states c = search needs
-
-add-states : tie.Need-add-states
-add-states c = search needs
-
-mul-states-2 : tie.Need-mul-states-2
-mul-states-2 c = search needs
-
-slice-write-states : tie.Need-slice-write-states
-slice-write-states c = let r = c .before .before .before .before .before .before .before .before .pre .0 .running in word-room (memory-of (r .world)) _ (omega (arith, r .world .count, c .before .before .before .before .before .before .before .before .pre .1 .0 .0))
+set-yoke-requires : tie.Need-set-yoke-requires
+set-yoke-requires c κs = let r = c .before .before .before .before .before .before .before .before .before .pre .0 .running in word-room (memory-of (r .world)) _ (omega (arith, r .world .count, c .before .before .before .before .before .before .before .before .before .pre .1 .0 .0))
 
 same-length-3 : tie.Need-same-length-3
 same-length-3 c = search needs
@@ -38,7 +29,7 @@ same-length-4 : tie.Need-same-length-4
 same-length-4 c = search needs
 
 returns-2 : tie.Need-returns-2
-returns-2 c = λ vs w. changed w (c .before .before .before .before .before .before .before .before .pre .1 .0 .2) (omega (arith, w .world .count, c .before .before .before .before .before .before .before .before .pre .1 .0 .0)) (c .before .before .yoke-holds .ensures) (c .if1 .left) (c .before .before .before .before .before .before .before .before .pre .1 .0 .1)
+returns-2 c = λ vs w. changed w (c .before .before .before .before .before .before .before .before .before .before .before .before .pre .1 .0 .2) (omega (arith, w .world .count, c .before .before .before .before .before .before .before .before .before .before .before .before .pre .1 .0 .0)) (c .before .before .before .before .before .before .yoke-holds .ensures) (c .before .before .before .before .if1 .left) (c .before .before .before .before .before .before .before .before .before .before .before .before .pre .1 .0 .1) _ (c .before .before .set-yoke .ensures)
 
 pub change-yoke-spec : {M : Type 1} → statement M
 change-yoke-spec =
@@ -48,10 +39,7 @@ change-yoke-spec =
     same-length
     same-length-2
     returns
-    mul-states
-    add-states
-    mul-states-2
-    slice-write-states
+    set-yoke-requires
     same-length-3
     same-length-4
     returns-2)

@@ -12,7 +12,7 @@ use Rattle.lingua.specs.Run.{Declaration}
 use Rattle.lingua.specs.Store.{Variable}
 use Rattle.lingua.specs.Trees.{expressionTree}
 use Rattle.profile.specs.Facts.{RowFacts, rowTree}
-use Rattle.profile.specs.Accepted.{expression-attributes}
+use Rattle.profile.specs.Known.{row-known}
 use Rattle.run.specs.Reached.{Tells}
 use Rattle.erased.specs.Meaning.{allTold}
 use Rattle.erased.proofs.Telling.{sees-none}
@@ -44,23 +44,23 @@ use Rattle.erased.proofs.leaves.copied.Reads as copied-reads
 use Rattle.erased.proofs.leaves.fetch.Reads as fetch-reads
 use Rattle.erased.proofs.operate.binary.Reads as binary-reads
 use Rattle.erased.proofs.operate.unary.Reads as unary-reads
-use Rattle.erased.proofs.seen.concluded.Reads as concluded-reads
-use Rattle.erased.proofs.seen.noted.Reads as noted-reads
+use Rattle.erased.proofs.tally.concluded.Reads as concluded-reads
+use Rattle.erased.proofs.tally.tallied.Reads as tallied-reads
 use Rattle.profile.proofs.row.expression_row.Reads as expression-row-reads
 use Rattle.erased.proofs.eval.+all+choice+eval+lazy.{statement}
 use Rattle.erased.proofs.eval.+all+choice+eval+lazy.Tie.{close}
 
 abbrev μ-all : Measures 6 all-kinds.ps ℕ
-μ-all κs a = 2 * a .1 .1 .1 .1 .1 .0
+μ-all κs a = 2 * a .0
 
 abbrev μ-choice : Measures 6 choice-kinds.ps ℕ
-μ-choice κs a = 2 * a .1 .1 .1 .1 .1 .0
+μ-choice κs a = 2 * a .0
 
 abbrev μ-eval : Measures 6 eval-kinds.ps ℕ
-μ-eval κs a = 2 * a .1 .1 .1 .1 .1 .0 + 1
+μ-eval κs a = 2 * a .0 + 1
 
 abbrev μ-lazy : Measures 6 lazy-kinds.ps ℕ
-μ-lazy κs a = 2 * a .1 .1 .1 .1 .1 .0
+μ-lazy κs a = 2 * a .0
 
 abbrev all-at : ℕ → In 6 all-kinds.ps
 all-at t = and 6 all-kinds.ps (is 6 all-kinds.ps μ-all t) all.Pre
@@ -87,13 +87,13 @@ abbrev lazy-below : ℕ → In 6 lazy-kinds.ps
 lazy-below t = and 6 lazy-kinds.ps (falls 6 lazy-kinds.ps _<_ μ-lazy t) lazy.Pre
 
 abbrev all-Inv-loop : all-lts.InvT-loop
-all-Inv-loop rows t layout cells states row a current stack₀ width n seen₀ at₀ i₀ stack seen at i = (i ≤ n) × (length stack ≡ length stack₀) × (at ≡ 1 + i * width) × ((ds : List Declaration) (vs : List Variable) (b : Body) (x : Value) → Listed rows t layout cells states current (expressionTree rows a) width ds vs b x → Tells seen (allTold (firstResults (expressionTree rows a) vs x i)))
+all-Inv-loop row rows t layout cells states a current stack₀ width n seen₀ at₀ i₀ stack seen at i = (i ≤ n) × (length stack ≡ length stack₀) × (at ≡ 1 + i * width) × ((ds : List Declaration) (vs : List Variable) (b : Body) (x : Value) → Listed rows t layout cells states current (expressionTree rows a) width ds vs b x → Tells seen (allTold (firstResults (expressionTree rows a) vs x i)))
 
 abbrev all-μ-loop : all-lts.MeasureT-loop
-all-μ-loop rows t layout cells states row a current stack₀ width n seen₀ at₀ i₀ stack seen at i = n - i
+all-μ-loop row rows t layout cells states a current stack₀ width n seen₀ at₀ i₀ stack seen at i = n - i
 
 abbrev all-calls : ℕ → all-lts.Claims
-all-calls t = (second-at-reads.Asked, second-at-reads.Learnt, eval-below t, eval.Post, noted-reads.Asked, noted-reads.Learnt, concluded-reads.Asked, concluded-reads.Learnt)
+all-calls t = (second-at-reads.Asked, second-at-reads.Learnt, eval-below t, eval.Post, tallied-reads.Asked, tallied-reads.Learnt, concluded-reads.Asked, concluded-reads.Learnt)
 
 abbrev choice-calls : ℕ → choice-lts.Claims
 choice-calls t = (eval-below t, eval.Post, truth-of-reads.Asked, truth-of-reads.Learnt)
@@ -144,8 +144,8 @@ all-eval-requires t c κs =
     let l = ready-listed _ (c .before .before .before .before .before .second-at .ensures) (c .before .before .before .before .before .before .before .before .before .pre .1 .0) .listed in
     (omega (arith, c .before .before .before .before .before .before .before .before .before .pre .0, c .before .before .before .before .before .before .before .before .before .pre .1 .1 .0 .0), (element-ready l (c .before .before .before .loop .i) (c .before .before .before .loop .at) (c .before .before .before .loop .inv .2) (c .before .before .loop-test .taken), (omega (arith, c .before .before .before .before .before .before .before .before .before .pre .1 .1 .0), omega (arith, c .before .before .before .before .before .before .before .before .before .pre .1 .1 .0 .0, c .before .before .before .before .before .before .before .before .before .pre .1 .1 .1, c .before .before .before .loop .inv .1))))
 
-all-noted-requires : (t : ℕ) → all-lts.Need-noted-requires (all-calls t) (all-at t) all.Post all-Inv-loop all-μ-loop
-all-noted-requires t c κs = omega (arith, c .before .before .before .before .before .before .before .before .before .before .before .before .pre .1 .1 .1, c .before .before .before .before .before .before .loop .inv .1, c .before .before .eval .kept .1 .1 .1 .1 .1 .1 .1 .0)
+all-tallied-requires : (t : ℕ) → all-lts.Need-tallied-requires (all-calls t) (all-at t) all.Post all-Inv-loop all-μ-loop
+all-tallied-requires t c κs = omega (arith, c .before .before .before .before .before .before .before .before .before .before .before .before .pre .1 .1 .1, c .before .before .before .before .before .before .loop .inv .1, c .before .before .eval .kept .1 .1 .1 .1 .1 .1 .1 .0)
 
 all-add-at : (t : ℕ) → all-lts.Need-add-at (all-calls t) (all-at t) all.Post all-Inv-loop all-μ-loop
 all-add-at t c =
@@ -165,7 +165,7 @@ all-loop-again t c = (
   omega (arith, c .before .before .before .before .before .before .loop-test .taken),
   omega (arith, c .before .before .before .before .before .before .before .loop .inv .1, c .before .before .before .eval .kept .1 .1 .1 .1 .1 .1 .1 .0),
   next-place _ _ _ (c .before .before .before .before .before .before .before .loop .inv .2),
-  λ ds vs b x l. sees-more l (c .before .before .before .before .before .before .before .loop .i) (c .before .before .before .before .before .before .before .loop .at) (c .before .before .before .before .before .before .before .loop .inv .2) (c .before .before .before .before .before .before .loop-test .taken) (c .before .before .before .eval .ensures) (λ o h. c .noted .ensures _ o (c .before .before .before .before .before .before .before .loop .inv .3 ds vs b x l) h),
+  λ ds vs b x l. sees-more l (c .before .before .before .before .before .before .before .loop .i) (c .before .before .before .before .before .before .before .loop .at) (c .before .before .before .before .before .before .before .loop .inv .2) (c .before .before .before .before .before .before .loop-test .taken) (c .before .before .before .eval .ensures) (λ o h. c .tallied .ensures _ o (c .before .before .before .before .before .before .before .loop .inv .3 ds vs b x l) h),
 )
 
 all-concluded-requires : (t : ℕ) → all-lts.Need-concluded-requires (all-calls t) (all-at t) all.Post all-Inv-loop all-μ-loop
@@ -210,7 +210,7 @@ choice-returns-3 t c = choice-no _ _ _ _ (c .before .before .before .before .bef
 eval-expression-row-requires : (t : ℕ) → eval-lts.Need-expression-row-requires (eval-calls t) (eval-at t) eval.Post
 eval-expression-row-requires t c κs =
     let w = c .before .before .before .pre .1 .0 .world in
-    (w .table, (c .before .before .before .pre .1 .1 .0, expression-attributes _ (w .accepted .constants) _ (table-of w (c .before .before .before .pre .1 .1 .0))))
+    (w .table, (c .before .before .before .pre .1 .1 .0, row-known _ (w .accepted) _ (table-of w (c .before .before .before .pre .1 .1 .0))))
 
 eval-enum-told : (t : ℕ) → eval-lts.Need-enum-told (eval-calls t) (eval-at t) eval.Post
 eval-enum-told t c = search needs
@@ -455,7 +455,7 @@ pub +all+choice+eval+lazy-spec : {M : Type 1} → statement M
     (all-part-eval-start t)
     (all-part-eval-end t)
     (all-eval-requires t)
-    (all-noted-requires t)
+    (all-tallied-requires t)
     (all-add-at t)
     (all-add-i t)
     (all-loop-less t)

@@ -1,4 +1,6 @@
 -- `yoke_holds` meets its contract, by `none-admits` and `part-admits`. Assumes nothing.
+use mathlib.Core.Path.{sym, _∙_}
+use borrow.Author.Tests.{not-true, not-false}
 use Rattle.run.proofs.Parts.{states-room, cells-room}
 use Rattle.erased.proofs.Cycle.{memory-of}
 use Rattle.erased.proofs.Satisfying.{none-admits, part-ready, part-admits}
@@ -6,17 +8,11 @@ use borrow.Author.Needs.{needs}
 use Rattle.erased.proofs.holds.yoke_holds.Statement.{statement}
 use Rattle.erased.proofs.holds.yoke_holds.Tie as tie
 
-mul-if1 : tie.Need-mul-if1
-mul-if1 c = search needs
-
-mul-if1-2 : tie.Need-mul-if1-2
-mul-if1-2 c = search needs
-
-shared-slice-read-if1 : tie.Need-shared-slice-read-if1
-shared-slice-read-if1 c = let r = c .before .before .before .before .pre .0 in states-room (memory-of (r .world)) _ (r .there)
+is-filled-requires : tie.Need-is-filled-requires
+is-filled-requires c κs = let r = c .before .before .before .pre .0 in states-room (memory-of (r .world)) _ (r .there)
 
 returns : tie.Need-returns
-returns c = none-admits (c .before .before .before .before .before .args .n) (c .if1 .taken)
+returns c = none-admits (c .before .before .before .before .before .args .n) (sym (c .before .is-filled .ensures) ∙ not-true _ (c .if1 .taken))
 
 mul-at : tie.Need-mul-at
 mul-at c = search needs
@@ -37,21 +33,19 @@ part-satisfies-end : tie.Need-part-satisfies-end
 part-satisfies-end c = let r = c .before .before .before .before .before .pre .0 in cells-room (memory-of (r .world)) _ (r .there)
 
 satisfies-requires : tie.Need-satisfies-requires
-satisfies-requires c κs = (part-ready (c .before .before .before .before .before .before .before .args .n) (c .before .before .before .before .before .before .before .pre .0) (c .before .before .if1 .left), c .before .before .before .before .before .before .before .pre .1)
+satisfies-requires c κs = (part-ready (c .before .before .before .before .before .before .before .args .n) (c .before .before .before .before .before .before .before .pre .0) (sym (c .before .before .before .is-filled .ensures) ∙ not-false _ (c .before .before .if1 .left)), c .before .before .before .before .before .before .before .pre .1)
 
 same-length : tie.Need-same-length
 same-length c = search needs
 
 returns-2 : tie.Need-returns-2
-returns-2 c = part-admits (c .before .before .before .before .before .before .before .before .before .args .n) (c .before .before .before .before .if1 .left) (c .before .satisfies .ensures)
+returns-2 c = part-admits (c .before .before .before .before .before .before .before .before .before .args .n) (sym (c .before .before .before .before .before .is-filled .ensures) ∙ not-false _ (c .before .before .before .before .if1 .left)) (c .before .satisfies .ensures)
 
 pub yoke-holds-spec : {M : Type 1} → statement M
 yoke-holds-spec =
     tie.close
     (tie.spec
-    mul-if1
-    mul-if1-2
-    shared-slice-read-if1
+    is-filled-requires
     returns
     mul-at
     add-end

@@ -1,23 +1,18 @@
 -- `fetch` meets its contract, by `leaves-empty` and `leaves-filled`. Assumes nothing.
-use mathlib.Core.Path.{_∙_}
+use mathlib.Core.Path.{sym, _∙_}
 use native.Mathlib.Omega.{arith}
+use borrow.Author.Tests.{not-true, not-false}
 use Rattle.run.proofs.Parts.{states-room, cells-room}
 use Rattle.erased.proofs.Storing.{leaves-empty, leaves-filled}
 use borrow.Author.Needs.{needs}
 use Rattle.erased.proofs.leaves.fetch.Statement.{statement}
 use Rattle.erased.proofs.leaves.fetch.Tie as tie
 
-mul-if1 : tie.Need-mul-if1
-mul-if1 c = search needs
-
-mul-if1-2 : tie.Need-mul-if1-2
-mul-if1-2 c = search needs
-
-shared-slice-read-if1 : tie.Need-shared-slice-read-if1
-shared-slice-read-if1 c = let h = c .before .before .before .pre .0 in states-room (h .memory) _ (h .there)
+is-filled-requires : tie.Need-is-filled-requires
+is-filled-requires c κs = let h = c .before .before .pre .0 in states-room (h .memory) _ (h .there)
 
 returns : tie.Need-returns
-returns c = λ vs vars h l z. leaves-empty h _ l _ _ (c .if1 .taken)
+returns c = λ vs vars h l z. leaves-empty h _ l _ _ (sym (c .before .is-filled .ensures) ∙ not-true _ (c .if1 .taken))
 
 size-at-requires : tie.Need-size-at-requires
 size-at-requires c κs = search needs
@@ -34,15 +29,13 @@ same-length : tie.Need-same-length
 same-length c = search needs
 
 returns-2 : tie.Need-returns-2
-returns-2 c = λ vs vars h l z. leaves-filled h _ l (c .before .before .before .before .before .before .before .before .args .stack .now) _ _ (c .before .before .before .before .if1 .left) (c .before .before .before .size-at .ensures ∙ z) (c .before .copy .ensures)
+returns-2 c = λ vs vars h l z. leaves-filled h _ l (c .before .before .before .before .before .before .before .before .args .stack .now) _ _ (sym (c .before .before .before .before .before .is-filled .ensures) ∙ not-false _ (c .before .before .before .before .if1 .left)) (c .before .before .before .size-at .ensures ∙ z) (c .before .copy .ensures)
 
 pub fetch-spec : {M : Type 1} → statement M
 fetch-spec =
     tie.close
     (tie.spec
-    mul-if1
-    mul-if1-2
-    shared-slice-read-if1
+    is-filled-requires
     returns
     size-at-requires
     mul-copy

@@ -6,15 +6,12 @@ use Rattle.profile.proofs.agreement.in_range.Tie as tie
 use Rattle.profile.proofs.agreement.in_range.Reads as reads
 use Rattle.profile.proofs.agreement.in_range.Lts as lts
 
--- src/agreement.rt:31:9
 returns : tie.Need-returns
 returns c = below-range (c .before .args .z) (rw (toZ-ofZ _ _ (c .before .fits .z)) at (c .if1 .taken))
 
--- src/agreement.rt:34:9
 returns-2 : tie.Need-returns-2
 returns-2 c = above-range (c .before .before .args .z) (rw (toZ-ofZ _ _ (c .before .before .fits .z)) at (c .if2 .taken))
 
--- src/agreement.rt:27:1
 returns-3 : tie.Need-returns-3
 returns-3 c = in-its-range (c .before .before .args .z) (rw (toZ-ofZ _ _ (c .before .before .fits .z)) at (c .before .if1 .left)) (rw (toZ-ofZ _ _ (c .before .before .fits .z)) at (c .if2 .left))
 

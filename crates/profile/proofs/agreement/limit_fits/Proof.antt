@@ -22,51 +22,39 @@ use Rattle.profile.proofs.limits.limit_high.Reads as limit-high-reads
 use Rattle.profile.proofs.limits.limit_low.Reads as limit-low-reads
 use Rattle.rules.proofs.fields.bytes_at.Reads as bytes-at-reads
 
--- src/agreement.rt:83:9
 limit-low-requires : tie.Need-limit-low-requires
 limit-low-requires c κs = search needs
 
--- src/agreement.rt:84:9
 limit-high-requires : tie.Need-limit-high-requires
 limit-high-requires c κs = search needs
 
--- src/agreement.rt:86:9
 returns : tie.Need-returns
 returns c = ends-crossed (c .before .before .before .before .before .before .args .rows .now) (c .before .before .before .before .before .before .args .limits .now) (c .before .before .before .before .before .before .args .l) (toZ w64 (ofZ w64 (c .before .before .limit-low .result))) (toZ w64 (ofZ w64 (c .before .limit-high .result))) (toZ-ofZ w64 (c .before .before .limit-low .result) (record { sfits = c .before .before .limit-low .ok }) ∙ c .before .before .limit-low .ensures) (toZ-ofZ w64 (c .before .limit-high .result) (record { sfits = c .before .limit-high .ok }) ∙ c .before .limit-high .ensures) (c .if1 .taken)
 
--- src/agreement.rt:88:9
 in-range-requires : tie.Need-in-range-requires
 in-range-requires c κs = search needs
 
--- src/agreement.rt:89:9
 returns-2 : tie.Need-returns-2
 returns-2 c = low-outside (c .before .before .before .before .before .before .before .before .args .rows .now) (c .before .before .before .before .before .before .before .before .args .limits .now) (c .before .before .before .before .before .before .before .before .args .l) (toZ w64 (ofZ w64 (c .before .before .before .before .limit-low .result))) (toZ w64 (ofZ w64 (c .before .before .before .limit-high .result))) (toZ-ofZ w64 (c .before .before .before .before .limit-low .result) (record { sfits = c .before .before .before .before .limit-low .ok }) ∙ c .before .before .before .before .limit-low .ensures) (toZ-ofZ w64 (c .before .before .before .limit-high .result) (record { sfits = c .before .before .before .limit-high .ok }) ∙ c .before .before .before .limit-high .ensures) (c .before .in-range .result) (c .before .before .if1 .left) (c .before .in-range .ensures) (not-true (c .before .in-range .result) (c .if2 .taken))
 
--- src/agreement.rt:91:9
 in-range-requires-2 : tie.Need-in-range-requires-2
 in-range-requires-2 c κs = search needs
 
--- src/agreement.rt:92:9
 returns-3 : tie.Need-returns-3
 returns-3 c = high-outside (c .before .before .before .before .before .before .before .before .before .before .args .rows .now) (c .before .before .before .before .before .before .before .before .before .before .args .limits .now) (c .before .before .before .before .before .before .before .before .before .before .args .l) (toZ w64 (ofZ w64 (c .before .before .before .before .before .before .limit-low .result))) (toZ w64 (ofZ w64 (c .before .before .before .before .before .limit-high .result))) (toZ-ofZ w64 (c .before .before .before .before .before .before .limit-low .result) (record { sfits = c .before .before .before .before .before .before .limit-low .ok }) ∙ c .before .before .before .before .before .before .limit-low .ensures) (toZ-ofZ w64 (c .before .before .before .before .before .limit-high .result) (record { sfits = c .before .before .before .before .before .limit-high .ok }) ∙ c .before .before .before .before .before .limit-high .ensures) (c .before .before .before .in-range .result) (c .before .in-range2 .result) (c .before .before .before .before .if1 .left) (c .before .before .before .in-range .ensures) (not-false (c .before .before .before .in-range .result) (c .before .before .if2 .left)) (c .before .in-range2 .ensures) (not-true (c .before .in-range2 .result) (c .if3 .taken))
 
--- src/agreement.rt:95:60
 mul-bytes-at : tie.Need-mul-bytes-at
 mul-bytes-at c = search needs
 
--- src/agreement.rt:95:52
 add-bytes-at : tie.Need-add-bytes-at
 add-bytes-at c = search needs
 
--- src/agreement.rt:95:35
 bytes-at-requires : tie.Need-bytes-at-requires
 bytes-at-requires c κs = search needs
 
--- src/agreement.rt:95:5
 names-number-requires : tie.Need-names-number-requires
 names-number-requires c κs = search needs
 
--- src/agreement.rt:75:1
 returns-4 : tie.Need-returns-4
 unfolding nameAt
 returns-4 c = name-decides (c .before .before .before .before .before .before .before .before .before .before .before .before .args .rows .now) (c .before .before .before .before .before .before .before .before .before .before .before .before .args .limits .now) (c .before .before .before .before .before .before .before .before .before .before .before .before .args .l) (toZ w64 (ofZ w64 (c .before .before .before .before .before .before .before .before .limit-low .result))) (toZ w64 (ofZ w64 (c .before .before .before .before .before .before .before .limit-high .result))) (toZ-ofZ w64 (c .before .before .before .before .before .before .before .before .limit-low .result) (record { sfits = c .before .before .before .before .before .before .before .before .limit-low .ok }) ∙ c .before .before .before .before .before .before .before .before .limit-low .ensures) (toZ-ofZ w64 (c .before .before .before .before .before .before .before .limit-high .result) (record { sfits = c .before .before .before .before .before .before .before .limit-high .ok }) ∙ c .before .before .before .before .before .before .before .limit-high .ensures) (c .before .before .before .before .before .in-range .result) (c .before .before .before .in-range2 .result) (c .names-number .result) (c .before .before .before .before .before .before .if1 .left) (c .before .before .before .before .before .in-range .ensures) (not-false (c .before .before .before .before .before .in-range .result) (c .before .before .before .before .if2 .left)) (c .before .before .before .in-range2 .ensures) (not-false (c .before .before .before .in-range2 .result) (c .before .before .if3 .left)) (c .names-number .ensures ∙ ap (namesNumber (c .before .before .before .before .before .before .before .before .before .before .before .before .args .rows .now)) (c .before .bytes-at .ensures .0 ∙ ap (bytesAt (c .before .before .before .before .before .before .before .before .before .before .before .before .args .limits .now)) (name-place (c .before .before .before .before .before .before .before .before .before .before .before .before .args .limits .now) limit-section (c .before .before .before .before .before .before .before .before .before .before .before .before .args .u) (c .before .before .before .before .before .before .before .before .before .before .before .before .pre .1 .1 .1 .0) (c .before .before .before .before .before .before .before .before .before .before .before .before .args .l))))

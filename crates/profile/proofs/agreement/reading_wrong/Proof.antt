@@ -21,47 +21,36 @@ Inv-loop rows t bodies variables n i₀ i = (i ≤ n) × (n ≤ 16) × (everyBel
 abbrev μ-loop : tie.MeasureT-loop
 μ-loop rows t bodies variables n i₀ i = n - i
 
--- src/agreement.rt:126:9
 returns : tie.Need-returns Inv-loop μ-loop
 returns c = too-many (c .before .before .before .before .args .rows .now) (c .before .before .before .before .args .variables .now) (c .if1 .taken)
 
--- src/agreement.rt:129:5
 loop-holds : tie.Need-loop-holds Inv-loop μ-loop
 loop-holds c = (omega arith, omega arith, every-begins (λ k. isNumberVariable (c .before .before .before .before .args .rows .now) (getD (c .before .before .before .before .args .variables .now) k 0)))
 
--- src/agreement.rt:130:17
 mul-v : tie.Need-mul-v Inv-loop μ-loop
 mul-v c = omega (arith, c .before .before .before .before .before .before .good)
 
--- src/agreement.rt:130:17
 shared-slice-read-v : tie.Need-shared-slice-read-v Inv-loop μ-loop
 shared-slice-read-v c = omega arith
 
--- src/agreement.rt:130:17
 cast-v : tie.Need-cast-v Inv-loop μ-loop
 cast-v c = omega (arith, c .shared-slice-known4 .given (c .before .before .loop .i))
 
--- src/agreement.rt:131:13
 is-number-variable-requires : tie.Need-is-number-variable-requires Inv-loop μ-loop
 is-number-variable-requires c κs = (c .before .before .before .before .before .before .before .pre .0, (c .before .before .before .before .before .before .before .pre .1 .0, c .before .before .before .before .before .before .before .pre .1 .1))
 
--- src/agreement.rt:132:13
 returns-2 : tie.Need-returns-2 Inv-loop μ-loop
 returns-2 c = reading-fails (c .before .before .before .before .before .before .before .before .before .args .rows .now) (c .before .before .before .before .before .before .before .before .before .args .variables .now) (c .before .before .before .before .loop .i) (c .before .is-number-variable .result) (c .before .before .before .before .loop .inv .1) (omega arith) (c .before .is-number-variable .ensures) (not-true (c .before .is-number-variable .result) (c .if2 .taken))
 
--- src/agreement.rt:134:9
 add-i : tie.Need-add-i Inv-loop μ-loop
 add-i c = omega arith
 
--- src/agreement.rt:129:5
 loop-less : tie.Need-loop-less Inv-loop μ-loop
 loop-less c = omega arith
 
--- src/agreement.rt:129:5
 loop-again : tie.Need-loop-again Inv-loop μ-loop
 loop-again c = (omega arith, c .before .before .before .before .loop .inv .1, every-more (c .before .before .before .before .loop .i) (λ k. isNumberVariable (c .before .before .before .before .before .before .before .before .before .args .rows .now) (getD (c .before .before .before .before .before .before .before .before .before .args .variables .now) k 0)) (c .before .before .before .before .loop .inv .2) (sym (c .before .is-number-variable .ensures) ∙ not-false (c .before .is-number-variable .result) (c .if2 .left)))
 
--- src/agreement.rt:118:1
 returns-3 : tie.Need-returns-3 Inv-loop μ-loop
 returns-3 c = readings-right (c .before .before .before .before .before .before .args .rows .now) (c .before .before .before .before .before .before .args .variables .now) (c .before .loop .i) (c .before .loop .inv .1) (c .before .loop .inv .2) (c .loop-test .left)
 

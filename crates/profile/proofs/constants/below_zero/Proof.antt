@@ -16,15 +16,12 @@ use borrow.Author.Needs.{needs}
 code-is : (k : ℕ) → k < 9223372036854775808 → negsuc 0 -ℤ toZ w64 k ≡ negsuc k
 code-is k h = ap (λ (z : ℤ). negsuc 0 -ℤ z) (toZ-pos w64 k h) ∙ minus-one k
 
--- src/constants.rt:32:10
 cast-result : tie.Need-cast-result
 cast-result c = search needs
 
--- src/constants.rt:32:5
 sub-result : tie.Need-sub-result
 sub-result c = rw (code-is _ (c .pre)) (record { sfits = omega (arith, c .pre) })
 
--- src/constants.rt:28:1
 returns : tie.Need-returns
 returns c = ap (λ (z : ℤ). toZ w64 (ofZ w64 z)) (code-is _ (c .pre)) ∙ toZ-ofZ w64 (negsuc (c .args .k)) (record { sfits = omega (arith, c .pre) })
 

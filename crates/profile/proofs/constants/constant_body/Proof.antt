@@ -1,54 +1,50 @@
--- `constant_body` meets its contract: kinds 1 to 3 are the tags of the simple bodies. Assumes nothing.
+-- `constant_body` meets its contract, constant by constant. Assumes nothing.
 use Rattle.profile.proofs.ConstantCells.{body-boolean, body-number, body-word}
 use borrow.Author.Needs.{needs}
 use Rattle.profile.proofs.constants.constant_body.Statement.{statement}
 use Rattle.profile.proofs.constants.constant_body.Tie as tie
-use Rattle.profile.proofs.constants.constant_body.Reads as reads
-use Rattle.profile.proofs.constants.constant_body.Lts as lts
-use Rattle.body.proofs.make.simple.Reads as simple-reads
-use Rattle.rules.proofs.fields.kind_at.Reads as kind-at-reads
 
--- src/constants.rt:109:30
-add-kind-at : tie.Need-add-kind-at
-add-kind-at c = search needs
+constant-at-requires : tie.Need-constant-at-requires
+constant-at-requires c κs = search needs
 
--- src/constants.rt:109:9
-kind-at-requires : tie.Need-kind-at-requires
-kind-at-requires c κs = search needs
+enum-told : tie.Need-enum-told
+enum-told c = search needs
 
--- src/constants.rt:111:9
 simple-requires : tie.Need-simple-requires
 simple-requires c κs = search needs
 
--- src/constants.rt:111:9
-returns : tie.Need-returns
-returns c = body-boolean (c .before .before .before .before .args .rows .now) (c .before .before .before .before .args .t .start) (c .before .before .before .before .args .r) (c .before .before .before .before .pre .0 .start) (c .before .before .kind-at .result) (c .before .before .kind-at .ensures) (c .simple .result) (c .before .if1 .taken) (c .simple .ensures)
+enum-told-2 : tie.Need-enum-told-2
+enum-told-2 c = search needs
 
--- src/constants.rt:114:9
 simple-requires-2 : tie.Need-simple-requires-2
 simple-requires-2 c κs = search needs
 
--- src/constants.rt:114:9
-returns-2 : tie.Need-returns-2
-returns-2 c = body-number (c .before .before .before .before .before .args .rows .now) (c .before .before .before .before .before .args .t .start) (c .before .before .before .before .before .args .r) (c .before .before .before .before .before .pre .0 .start) (c .before .before .before .kind-at .result) (c .before .before .before .kind-at .ensures) (c .simple2 .result) (c .before .if2 .taken) (c .simple2 .ensures)
+enum-told-3 : tie.Need-enum-told-3
+enum-told-3 c = search needs
 
--- src/constants.rt:116:5
 simple-requires-3 : tie.Need-simple-requires-3
 simple-requires-3 c κs = search needs
 
--- src/constants.rt:103:1
+returns : tie.Need-returns
+returns c = body-boolean (c .before .before .before .before .before .args .rows .now) (c .before .before .before .before .before .args .t) (c .before .before .before .before .before .args .r) (c .before .before .before .before .before .pre .0) (c .before .before .before .constant-at .result) (c .before .before .before .constant-at .ensures) (c .simple .result) (c .before .enum-told .given .1) (c .simple .ensures)
+
+returns-2 : tie.Need-returns-2
+returns-2 c = body-number (c .before .before .before .before .before .args .rows .now) (c .before .before .before .before .before .args .t) (c .before .before .before .before .before .args .r) (c .before .before .before .before .before .pre .0) (c .before .before .before .constant-at .result) (c .before .before .before .constant-at .ensures) (c .simple2 .result) (c .before .enum-told2 .given .1) (c .simple2 .ensures)
+
 returns-3 : tie.Need-returns-3
-returns-3 c = body-word (c .before .before .before .before .before .args .rows .now) (c .before .before .before .before .before .args .t .start) (c .before .before .before .before .before .args .r) (c .before .before .before .before .before .pre .0 .start) (c .before .before .before .kind-at .result) (c .before .before .before .kind-at .ensures) (c .simple3 .result) (c .before .before .if1 .left) (c .before .if2 .left) (c .simple3 .ensures)
+returns-3 c = body-word (c .before .before .before .before .before .args .rows .now) (c .before .before .before .before .before .args .t) (c .before .before .before .before .before .args .r) (c .before .before .before .before .before .pre .0) (c .before .before .before .constant-at .result) (c .before .before .before .constant-at .ensures) (c .simple3 .result) (c .before .enum-told3 .given .1) (c .simple3 .ensures)
 
 pub constant-body-spec : {M : Type 1} → statement M
 constant-body-spec =
     tie.close
     (tie.spec
-    add-kind-at
-    kind-at-requires
+    constant-at-requires
+    enum-told
     simple-requires
-    returns
+    enum-told-2
     simple-requires-2
-    returns-2
+    enum-told-3
     simple-requires-3
+    returns
+    returns-2
     returns-3)

@@ -8,75 +8,57 @@ use Rattle.profile.proofs.constants.high_first.Tie as tie
 use Rattle.profile.proofs.constants.high_first.Reads as reads
 use Rattle.profile.proofs.constants.high_first.Lts as lts
 
--- src/constants.rt:62:13
 shared-slice-read-a : tie.Need-shared-slice-read-a
 shared-slice-read-a c = search needs
 
--- src/constants.rt:62:13
 cast-a : tie.Need-cast-a
 cast-a c = omega (arith, c .shared-slice-known .given (c .before .args .at))
 
--- src/constants.rt:63:19
 add-b : tie.Need-add-b
 add-b c = search needs
 
--- src/constants.rt:63:13
 shared-slice-read-b : tie.Need-shared-slice-read-b
 shared-slice-read-b c = search needs
 
--- src/constants.rt:63:13
 cast-b : tie.Need-cast-b
 cast-b c = omega (arith, c .before .shared-slice-known .given (c .before .before .args .at + 1))
 
--- src/constants.rt:64:19
 add-c : tie.Need-add-c
 add-c c = search needs
 
--- src/constants.rt:64:13
 shared-slice-read-c : tie.Need-shared-slice-read-c
 shared-slice-read-c c = search needs
 
--- src/constants.rt:64:13
 cast-c : tie.Need-cast-c
 cast-c c = omega (arith, c .before .before .shared-slice-known .given (c .before .before .before .args .at + 2))
 
--- src/constants.rt:65:19
 add-d : tie.Need-add-d
 add-d c = search needs
 
--- src/constants.rt:65:13
 shared-slice-read-d : tie.Need-shared-slice-read-d
 shared-slice-read-d c = search needs
 
--- src/constants.rt:65:13
 cast-d : tie.Need-cast-d
 cast-d c = omega (arith, c .before .before .before .shared-slice-known .given (c .before .before .before .before .args .at + 3))
 
--- src/constants.rt:66:5
 mul-result : tie.Need-mul-result
 mul-result c = omega (arith, c .before .before .before .shared-slice-known .given (c .before .before .before .before .args .at), c .before .before .before .shared-slice-known .given (c .before .before .before .before .args .at + 1), c .before .before .before .shared-slice-known .given (c .before .before .before .before .args .at + 2), c .before .before .before .shared-slice-known .given (c .before .before .before .before .args .at + 3))
 
--- src/constants.rt:66:20
 mul-result-2 : tie.Need-mul-result-2
 mul-result-2 c = omega (arith, c .before .before .before .shared-slice-known .given (c .before .before .before .before .args .at), c .before .before .before .shared-slice-known .given (c .before .before .before .before .args .at + 1), c .before .before .before .shared-slice-known .given (c .before .before .before .before .args .at + 2), c .before .before .before .shared-slice-known .given (c .before .before .before .before .args .at + 3))
 
--- src/constants.rt:66:5
 add-result : tie.Need-add-result
 add-result c = omega (arith, c .before .before .before .shared-slice-known .given (c .before .before .before .before .args .at), c .before .before .before .shared-slice-known .given (c .before .before .before .before .args .at + 1), c .before .before .before .shared-slice-known .given (c .before .before .before .before .args .at + 2), c .before .before .before .shared-slice-known .given (c .before .before .before .before .args .at + 3))
 
--- src/constants.rt:66:32
 mul-result-3 : tie.Need-mul-result-3
 mul-result-3 c = omega (arith, c .before .before .before .shared-slice-known .given (c .before .before .before .before .args .at), c .before .before .before .shared-slice-known .given (c .before .before .before .before .args .at + 1), c .before .before .before .shared-slice-known .given (c .before .before .before .before .args .at + 2), c .before .before .before .shared-slice-known .given (c .before .before .before .before .args .at + 3))
 
--- src/constants.rt:66:5
 add-result-2 : tie.Need-add-result-2
 add-result-2 c = omega (arith, c .before .before .before .shared-slice-known .given (c .before .before .before .before .args .at), c .before .before .before .shared-slice-known .given (c .before .before .before .before .args .at + 1), c .before .before .before .shared-slice-known .given (c .before .before .before .before .args .at + 2), c .before .before .before .shared-slice-known .given (c .before .before .before .before .args .at + 3))
 
--- src/constants.rt:66:5
 add-result-3 : tie.Need-add-result-3
 add-result-3 c = omega (arith, c .before .before .before .shared-slice-known .given (c .before .before .before .before .args .at), c .before .before .before .shared-slice-known .given (c .before .before .before .before .args .at + 1), c .before .before .before .shared-slice-known .given (c .before .before .before .before .args .at + 2), c .before .before .before .shared-slice-known .given (c .before .before .before .before .args .at + 3))
 
--- src/constants.rt:57:1
 returns : tie.Need-returns
 returns c = (refl, omega (arith, c .before .before .before .shared-slice-known .given (c .before .before .before .before .args .at), c .before .before .before .shared-slice-known .given (c .before .before .before .before .args .at + 1), c .before .before .before .shared-slice-known .given (c .before .before .before .before .args .at + 2), c .before .before .before .shared-slice-known .given (c .before .before .before .before .args .at + 3)))
 

@@ -13,27 +13,21 @@ use Rattle.profile.proofs.constants.word_cell.Reads as reads
 use Rattle.profile.proofs.constants.word_cell.Lts as lts
 use Rattle.profile.proofs.constants.high_first.Reads as high-first-reads
 
--- src/constants.rt:75:9
 high-first-requires : tie.Need-high-first-requires
 high-first-requires c κs = search needs
 
--- src/constants.rt:76:9
 high-first-requires-2 : tie.Need-high-first-requires-2
 high-first-requires-2 c κs = search needs
 
--- src/constants.rt:77:6
 mul-result : tie.Need-mul-result
 mul-result c = search needs
 
--- src/constants.rt:77:6
 add-result : tie.Need-add-result
 add-result c = search needs
 
--- src/constants.rt:77:5
 cast-result : tie.Need-cast-result
 cast-result c = omega (arith, word-half isCharacter (c .before .before .before .args .bytes .now) (c .before .before .before .pre .1 .0) (c .before .high-first .result) (c .high-first2 .result) (c .before .high-first .ensures .0) (c .high-first2 .ensures .0) (c .before .before .before .pre .1 .1))
 
--- src/constants.rt:70:1
 returns : tie.Need-returns
 unfolding packed
 returns c =

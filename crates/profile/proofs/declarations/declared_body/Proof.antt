@@ -6,17 +6,14 @@ use Rattle.profile.proofs.declarations.declared_body.Tie as tie
 use Rattle.profile.proofs.declarations.declared_body.Reads as reads
 use Rattle.profile.proofs.declarations.declared_body.Lts as lts
 use Rattle.profile.proofs.declarations.declared_type.Reads as declared-type-reads
-use Rattle.profile.proofs.types.type_body.Reads as type-body-reads
+use Rattle.rules.proofs.types.type_body.Reads as type-body-reads
 
--- src/declarations.rt:47:9
 declared-type-requires : tie.Need-declared-type-requires
 declared-type-requires c κs = search needs
 
--- src/declarations.rt:48:5
 type-body-requires : tie.Need-type-body-requires
 type-body-requires c κs = type-inside (c .before .before .before .args .rows .now) (c .before .before .before .args .bodies .now) (c .before .before .before .pre .1 .1 .0) (c .before .before .before .args .t) (c .before .before .before .pre .0) (c .before .before .before .pre .1 .1 .1) (c .before .before .before .args .d) (c .before .before .before .pre .1 .0) (c .declared-type .result) (c .declared-type .ensures)
 
--- src/declarations.rt:40:1
 returns : tie.Need-returns
 returns c = declared-is (c .before .before .before .before .args .rows .now) (c .before .before .before .before .args .bodies .now) (c .before .before .before .before .pre .1 .1 .0) (c .before .before .before .before .args .t) (c .before .before .before .before .pre .0) (c .before .before .before .before .pre .1 .1 .1) (c .before .before .before .before .args .d) (c .before .before .before .before .pre .1 .0) (c .before .declared-type .result) (c .type-body .result) (c .before .declared-type .ensures) (c .type-body .ensures)
 

@@ -10,23 +10,18 @@ use Rattle.profile.proofs.declarations.declared_type.Reads as reads
 use Rattle.profile.proofs.declarations.declared_type.Lts as lts
 use Rattle.rules.proofs.fields.a_at.Reads as a-at-reads
 
--- src/declarations.rt:25:25
 mul-a-at : tie.Need-mul-a-at
 mul-a-at c = search needs
 
--- src/declarations.rt:25:25
 add-a-at : tie.Need-add-a-at
 add-a-at c = search needs
 
--- src/declarations.rt:25:16
 add-a-at-2 : tie.Need-add-a-at-2
 add-a-at-2 c = search needs
 
--- src/declarations.rt:25:5
 a-at-requires : tie.Need-a-at-requires
 a-at-requires c κs = search needs
 
--- src/declarations.rt:19:1
 returns : tie.Need-returns
 returns c = c .a-at .ensures .0 ∙ ap (aAt (c .before .before .args .rows .now)) (detail-place (c .before .before .args .rows .now) declaration-section (c .before .before .args .t) (c .before .before .pre .0) (c .before .before .args .d))
 

@@ -7,23 +7,18 @@ use Rattle.profile.proofs.declarations.declared_yoke.Reads as reads
 use Rattle.profile.proofs.declarations.declared_yoke.Lts as lts
 use Rattle.rules.proofs.fields.b_at.Reads as b-at-reads
 
--- src/declarations.rt:36:25
 mul-b-at : tie.Need-mul-b-at
 mul-b-at c = search needs
 
--- src/declarations.rt:36:25
 add-b-at : tie.Need-add-b-at
 add-b-at c = search needs
 
--- src/declarations.rt:36:16
 add-b-at-2 : tie.Need-add-b-at-2
 add-b-at-2 c = search needs
 
--- src/declarations.rt:36:5
 b-at-requires : tie.Need-b-at-requires
 b-at-requires c κs = search needs
 
--- src/declarations.rt:29:1
 returns : tie.Need-returns
 returns c = (yoke-is (c .before .before .args .rows .now) (c .before .before .args .t) (c .before .before .args .d) (c .b-at .result) (c .before .before .pre .0) (c .b-at .ensures .0), c .b-at .ensures .1)
 

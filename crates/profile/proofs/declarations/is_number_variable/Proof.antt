@@ -8,19 +8,15 @@ use Rattle.profile.proofs.declarations.is_number_variable.Reads as read
 use Rattle.profile.proofs.declarations.is_number_variable.Lts as lts
 use Rattle.profile.proofs.declarations.declared_body.Reads as declared-body-reads
 
--- src/declarations.rt:60:9
 returns : tie.Need-returns
 returns c = no-variable-there (c .before .before .before .before .args .rows .now) (c .before .before .before .before .args .t) (c .before .before .before .before .args .d) (c .before .before .before .before .pre .0) (c .if1 .taken)
 
--- src/declarations.rt:62:16
 declared-body-requires : tie.Need-declared-body-requires
 declared-body-requires c κs = search needs
 
--- src/declarations.rt:63:5
 array-read-result : tie.Need-array-read-result
 array-read-result c = search needs
 
--- src/declarations.rt:52:1
 returns-2 : tie.Need-returns-2
 returns-2 c = number-there (c .before .before .before .before .before .args .rows .now) (c .before .before .before .before .before .args .t) (c .before .before .before .before .before .args .d) (c .declared-body .result) (c .before .before .before .before .before .pre .0) (omega (arith, c .before .if1 .left)) (c .declared-body .ensures)
 

@@ -11,35 +11,27 @@ use Rattle.profile.proofs.limits.limit_high.Lts as lts
 use Rattle.profile.proofs.constants.signed32.Reads as signed32-reads
 use Rattle.rules.proofs.fields.word32_at.Reads as word32-at-reads
 
--- src/limits.rt:40:22
 mul-i : tie.Need-mul-i
 mul-i c = search needs
 
--- src/limits.rt:40:22
 add-i : tie.Need-add-i
 add-i c = search needs
 
--- src/limits.rt:40:13
 add-i-2 : tie.Need-add-i-2
 add-i-2 c = search needs
 
--- src/limits.rt:41:32
 mul-word32-at : tie.Need-mul-word32-at
 mul-word32-at c = search needs
 
--- src/limits.rt:41:32
 add-word32-at : tie.Need-add-word32-at
 add-word32-at c = search needs
 
--- src/limits.rt:41:14
 word32-at-requires : tie.Need-word32-at-requires
 word32-at-requires c κs = search needs
 
--- src/limits.rt:41:5
 signed32-requires : tie.Need-signed32-requires
 signed32-requires c κs = search needs
 
--- src/limits.rt:34:1
 returns : tie.Need-returns
 returns c = high-is (c .before .before .before .args .limits .now) (c .before .before .before .args .t) (c .before .before .before .pre .0) (c .before .before .before .args .l) (c .before .word32-at .result) _ (c .before .word32-at .ensures .0) (toZ-ofZ w64 (c .signed32 .result) (record { sfits = c .signed32 .ok }) ∙ c .signed32 .ensures)
 

@@ -1,52 +1,28 @@
--- `instruction_row` meets its contract: the table's row is the file's, and its kind tells what it is. Assumes nothing.
-use Rattle.profile.proofs.Decoding.{instruction-says}
+-- `instruction_row` meets its contract: the kind is known, so there is a row. Assumes nothing.
+use Rattle.profile.proofs.Decoding.{instruction-says, instruction-not-unknown}
 use borrow.Author.Needs.{needs}
 use Rattle.profile.proofs.row.instruction_row.Statement.{statement}
 use Rattle.profile.proofs.row.instruction_row.Tie as tie
-use Rattle.profile.proofs.row.instruction_row.Reads as reads
-use Rattle.profile.proofs.row.instruction_row.Lts as lts
-use Rattle.profile.proofs.row.instruction_kind.Reads as instruction-kind-reads
-use Rattle.rules.proofs.fields.a_at.Reads as a-at-reads
-use Rattle.rules.proofs.fields.b_at.Reads as b-at-reads
-use Rattle.rules.proofs.fields.c_at.Reads as c-at-reads
-use Rattle.rules.proofs.fields.kind_at.Reads as kind-at-reads
 
--- src/row.rt:126:13
-add-i : tie.Need-add-i
-add-i c = search needs
+add-instruction-at : tie.Need-add-instruction-at
+add-instruction-at c = search needs
 
--- src/row.rt:127:9
-kind-at-requires : tie.Need-kind-at-requires
-kind-at-requires c κs = search needs
+instruction-at-requires : tie.Need-instruction-at-requires
+instruction-at-requires c κs = search needs
 
--- src/row.rt:128:9
-a-at-requires : tie.Need-a-at-requires
-a-at-requires c κs = search needs
+enum-known-d : tie.Need-enum-known-d
+enum-known-d c = search needs
 
--- src/row.rt:129:9
-b-at-requires : tie.Need-b-at-requires
-b-at-requires c κs = search needs
+enum-told : tie.Need-enum-told
+enum-told c = search needs
 
--- src/row.rt:130:9
-c-at-requires : tie.Need-c-at-requires
-c-at-requires c κs = search needs
-
--- src/row.rt:131:5
-instruction-kind-requires : tie.Need-instruction-kind-requires
-instruction-kind-requires c κs = search needs
-
--- src/row.rt:120:1
 returns : tie.Need-returns
-returns c = instruction-says (c .before .before .before .before .before .before .args .rows .now) (c .before .before .before .before .before .before .args .t .start) (c .before .before .before .before .before .before .args .r) (c .before .before .before .before .kind-at .result) (c .before .before .before .a-at .result) (c .before .before .b-at .result) (c .before .c-at .result) (c .instruction-kind .result) (c .before .before .before .before .before .before .pre .0 .start) (c .before .before .before .before .kind-at .ensures) (c .before .before .before .a-at .ensures .0) (c .before .before .b-at .ensures .0) (c .before .c-at .ensures .0) (c .instruction-kind .ensures)
+returns c = instruction-says (c .before .before .before .before .before .before .args .rows .now) (c .before .before .before .before .before .before .args .t) (c .before .before .before .before .before .before .args .r) (c .before .before .before .before .before .before .pre .0) (c .before .before .before .instruction-at .result) (c .before .before .before .instruction-at .ensures) _ _ (c .before .d .given .1)
+
+returns-2 : tie.Need-returns-2
+returns-2 c = absurd (instruction-not-unknown (c .before .before .before .before .before .args .rows .now) (c .before .before .before .before .before .args .t) (c .before .before .before .before .before .args .r) (c .before .before .before .before .before .pre .0) (c .before .before .instruction-at .result) (c .before .before .instruction-at .ensures) (c .before .before .before .before .before .pre .1 .1) (c .enum-told .given .1))
 
 pub instruction-row-spec : {M : Type 1} → statement M
 instruction-row-spec =
     tie.close
-    (tie.spec
-    add-i
-    kind-at-requires
-    a-at-requires
-    b-at-requires
-    c-at-requires
-    instruction-kind-requires
-    returns)
+    (tie.spec add-instruction-at instruction-at-requires enum-known-d enum-told returns returns-2)

@@ -2,6 +2,7 @@
 use native.Mathlib.Omega.{arith}
 use borrow.Author.Needs.{needs}
 use denote.Ref.{now}
+use Rattle.laws.specs.Stores.{flag-room}
 use Rattle.report.proofs.Putting.{few-variables, line-put}
 use Rattle.report.proofs.lines.put_line.Statement.{statement}
 use Rattle.report.proofs.lines.put_line.Tie as tie
@@ -9,77 +10,55 @@ use Rattle.report.proofs.lines.put_line.Reads as reads
 use Rattle.report.proofs.lines.put_line.Lts as lts
 use Rattle.report.proofs.lines.declared_cells.Reads as declared-cells-reads
 use Rattle.rules.proofs.fields.bytes_at.Reads as bytes-at-reads
+use Rattle.run.proofs.words.is_filled.Reads as is-filled-reads
 use Rattle.text.proofs.report.put_variable_line.Reads as put-variable-line-reads
 
--- src/lines.rt:54:39
 mul-bytes-at : tie.Need-mul-bytes-at
 mul-bytes-at c = search needs
 
--- src/lines.rt:54:31
 add-bytes-at : tie.Need-add-bytes-at
 add-bytes-at c = search needs
 
--- src/lines.rt:54:9
 bytes-at-requires : tie.Need-bytes-at-requires
 bytes-at-requires c κs = search needs
 
--- src/lines.rt:55:9
 declared-cells-requires : tie.Need-declared-cells-requires
 declared-cells-requires c κs = search needs
 
--- src/lines.rt:56:16
 mul-from : tie.Need-mul-from
 mul-from c =
     omega (arith, few-variables (now (c .before .before .before .before .before .before .args .rows)) (c .before .before .before .before .before .before .args .t) (c .before .before .before .before .before .before .args .d) (c .before .before .before .before .before .before .pre .1 .1 .0) (c .before .before .before .before .before .before .pre .0) (c .before .before .before .before .before .before .pre .1 .0), c .declared-cells .ensures .1, c .before .before .before .before .before .before .pre .1 .1 .1 .1 .0, c .before .before .before .before .before .before .pre .1 .1 .1 .1 .1)
 
--- src/lines.rt:57:14
 add-to : tie.Need-add-to
 add-to c =
     omega (arith, few-variables (now (c .before .before .before .before .before .before .args .rows)) (c .before .before .before .before .before .before .args .t) (c .before .before .before .before .before .before .args .d) (c .before .before .before .before .before .before .pre .1 .1 .0) (c .before .before .before .before .before .before .pre .0) (c .before .before .before .before .before .before .pre .1 .0), c .declared-cells .ensures .1, c .before .before .before .before .before .before .pre .1 .1 .1 .1 .0, c .before .before .before .before .before .before .pre .1 .1 .1 .1 .1)
 
--- src/lines.rt:58:45
+is-filled-requires : tie.Need-is-filled-requires
+is-filled-requires c κs = flag-room (now (c .before .before .before .before .before .before .before .args .states)) (c .before .before .before .before .before .before .before .args .d) (omega (arith, c .before .before .before .before .before .before .before .pre .1 .1 .1 .1 .1)) (few-variables (now (c .before .before .before .before .before .before .before .args .rows)) (c .before .before .before .before .before .before .before .args .t) (c .before .before .before .before .before .before .before .args .d) (c .before .before .before .before .before .before .before .pre .1 .1 .0) (c .before .before .before .before .before .before .before .pre .0) (c .before .before .before .before .before .before .before .pre .1 .0))
+
 mul-put-variable-line : tie.Need-mul-put-variable-line
-mul-put-variable-line c = search needs
-
--- src/lines.rt:58:38
-mul-put-variable-line-2 : tie.Need-mul-put-variable-line-2
-mul-put-variable-line-2 c = search needs
-
--- src/lines.rt:58:38
-shared-slice-read-put-variable-line : tie.Need-shared-slice-read-put-variable-line
-shared-slice-read-put-variable-line c =
+mul-put-variable-line c =
     omega (arith, few-variables (now (c .before .before .before .before .before .before .before .before .args .rows)) (c .before .before .before .before .before .before .before .before .args .t) (c .before .before .before .before .before .before .before .before .args .d) (c .before .before .before .before .before .before .before .before .pre .1 .1 .0) (c .before .before .before .before .before .before .before .before .pre .0) (c .before .before .before .before .before .before .before .before .pre .1 .0), c .before .before .declared-cells .ensures .1, c .before .before .before .before .before .before .before .before .pre .1 .1 .1 .1 .0, c .before .before .before .before .before .before .before .before .pre .1 .1 .1 .1 .1)
 
--- src/lines.rt:58:58
-mul-put-variable-line-3 : tie.Need-mul-put-variable-line-3
-mul-put-variable-line-3 c =
-    omega (arith, few-variables (now (c .before .before .before .before .before .before .before .before .args .rows)) (c .before .before .before .before .before .before .before .before .args .t) (c .before .before .before .before .before .before .before .before .args .d) (c .before .before .before .before .before .before .before .before .pre .1 .1 .0) (c .before .before .before .before .before .before .before .before .pre .0) (c .before .before .before .before .before .before .before .before .pre .1 .0), c .before .before .declared-cells .ensures .1, c .before .before .before .before .before .before .before .before .pre .1 .1 .1 .1 .0, c .before .before .before .before .before .before .before .before .pre .1 .1 .1 .1 .1)
-
--- src/lines.rt:58:58
 sub-put-variable-line : tie.Need-sub-put-variable-line
 sub-put-variable-line c = search needs
 
--- src/lines.rt:58:58
 part-put-variable-line-start : tie.Need-part-put-variable-line-start
 part-put-variable-line-start c = search needs
 
--- src/lines.rt:58:58
 part-put-variable-line-end : tie.Need-part-put-variable-line-end
 part-put-variable-line-end c =
     omega (arith, few-variables (now (c .before .before .before .before .before .before .before .before .args .rows)) (c .before .before .before .before .before .before .before .before .args .t) (c .before .before .before .before .before .before .before .before .args .d) (c .before .before .before .before .before .before .before .before .pre .1 .1 .0) (c .before .before .before .before .before .before .before .before .pre .0) (c .before .before .before .before .before .before .before .before .pre .1 .0), c .before .before .declared-cells .ensures .1, c .before .before .before .before .before .before .before .before .pre .1 .1 .1 .1 .0, c .before .before .before .before .before .before .before .before .pre .1 .1 .1 .1 .1)
 
--- src/lines.rt:58:5
 put-variable-line-requires : tie.Need-put-variable-line-requires
 put-variable-line-requires c κs = search needs
 
--- src/lines.rt:35:1
 same-length : tie.Need-same-length
 same-length c = search needs
 
--- src/lines.rt:35:1
 returns : tie.Need-returns
 returns c =
-    line-put (now (c .before .before .before .before .before .before .before .before .before .before .before .before .args .rows)) (now (c .before .before .before .before .before .before .before .before .before .before .before .before .args .cells)) (now (c .before .before .before .before .before .before .before .before .before .before .before .before .args .states)) _ (c .before .before .before .before .before .before .before .before .before .before .before .before .args .t) (c .before .before .before .before .before .before .before .before .before .before .before .before .args .d) (c .before .before .before .before .before .before .declared-cells .result) (c .before .before .before .before .before .before .before .before .before .before .before .before .pre .0) (c .before .before .before .before .before .before .before .bytes-at .ensures .0) (c .before .before .before .before .before .before .declared-cells .ensures .0) (c .before .before .put-variable-line .ensures)
+    line-put (now (c .before .before .before .before .before .before .before .before .before .before .before .before .args .rows)) (now (c .before .before .before .before .before .before .before .before .before .before .before .before .args .cells)) (now (c .before .before .before .before .before .before .before .before .before .before .before .before .args .states)) _ (c .before .before .before .before .before .before .before .before .before .before .before .before .args .t) (c .before .before .before .before .before .before .before .before .before .before .before .before .args .d) (c .before .before .before .before .before .before .declared-cells .result) _ (c .before .before .before .before .before .before .before .before .before .before .before .before .pre .0) (c .before .before .before .before .before .before .before .bytes-at .ensures .0) (c .before .before .before .before .before .before .declared-cells .ensures .0) (c .before .before .before .before .is-filled .ensures) (c .before .before .put-variable-line .ensures)
 
 pub put-line-spec : {M : Type 1} → statement M
 put-line-spec =
@@ -91,10 +70,8 @@ put-line-spec =
     declared-cells-requires
     mul-from
     add-to
+    is-filled-requires
     mul-put-variable-line
-    mul-put-variable-line-2
-    shared-slice-read-put-variable-line
-    mul-put-variable-line-3
     sub-put-variable-line
     part-put-variable-line-start
     part-put-variable-line-end

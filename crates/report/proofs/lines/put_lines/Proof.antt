@@ -15,48 +15,36 @@ use Rattle.report.proofs.lines.put_lines.Tie as tie
 use Rattle.report.proofs.lines.put_lines.Reads as reads
 use Rattle.report.proofs.lines.put_lines.Lts as lts
 use Rattle.report.proofs.lines.put_line.Reads as put-line-reads
-use Rattle.rules.proofs.tables.tables_of.Reads as tables-of-reads
 
 abbrev Inv-loop : tie.InvT-loop
-Inv-loop rows bodies cells states out₀ at t n end₀ d₀ out end d = (length out ≡ length out₀) × (d ≤ n) × Appended out₀ at (memoryLines rows cells states 0 d) out end
+Inv-loop rows t bodies cells states out₀ at n end₀ d₀ out end d = (length out ≡ length out₀) × (d ≤ n) × Appended out₀ at (memoryLines rows cells states 0 d) out end
 
 abbrev μ-loop : tie.MeasureT-loop
-μ-loop rows bodies cells states out₀ at t n end₀ d₀ out end d = n - d
+μ-loop rows t bodies cells states out₀ at n end₀ d₀ out end d = n - d
 
--- src/lines.rt:76:9
-tables-of-requires : tie.Need-tables-of-requires Inv-loop μ-loop
-tables-of-requires c κs = search needs
-
--- src/lines.rt:81:5
 loop-holds : tie.Need-loop-holds Inv-loop μ-loop
 loop-holds c = (search needs, omega arith, lines-begin _ _ _ _ _)
 
--- src/lines.rt:82:9
 put-line-requires : tie.Need-put-line-requires Inv-loop μ-loop
 put-line-requires c κs =
-    (c .before .before .before .before .before .tables-of .ensures .declarations, (c .before .loop-test .taken, c .before .before .before .before .before .before .before .before .before .before .pre))
+    (c .before .before .before .before .before .before .before .before .pre .0, (c .before .loop-test .taken, c .before .before .before .before .before .before .before .before .pre .1))
 
--- src/lines.rt:83:9
 add-d : tie.Need-add-d Inv-loop μ-loop
 add-d c = search needs
 
--- src/lines.rt:81:5
 loop-less : tie.Need-loop-less Inv-loop μ-loop
 loop-less c = search needs
 
--- src/lines.rt:81:5
 loop-again : tie.Need-loop-again Inv-loop μ-loop
 loop-again c =
-    (search needs, omega arith, lines-next (now (c .before .before .before .before .before .before .before .before .before .before .before .before .before .args .rows)) (now (c .before .before .before .before .before .before .before .before .before .before .before .before .before .args .cells)) (now (c .before .before .before .before .before .before .before .before .before .before .before .before .before .args .states)) (c .before .before .before .before .before .loop .d) (c .before .before .before .before .before .loop .inv .2) (c .before .before .before .before .before .loop .inv .0) (c .before .before .put-line .ensures))
+    (search needs, omega arith, lines-next (now (c .before .before .before .before .before .before .before .before .before .before .before .args .rows)) (now (c .before .before .before .before .before .before .before .before .before .before .before .args .cells)) (now (c .before .before .before .before .before .before .before .before .before .before .before .args .states)) (c .before .before .before .before .before .loop .d) (c .before .before .before .before .before .loop .inv .2) (c .before .before .before .before .before .loop .inv .0) (c .before .before .put-line .ensures))
 
--- src/lines.rt:62:1
 same-length : tie.Need-same-length Inv-loop μ-loop
 same-length c = search needs
 
--- src/lines.rt:62:1
 returns : tie.Need-returns Inv-loop μ-loop
 returns c =
-    lines-all (now (c .before .before .before .before .before .before .before .before .before .args .rows)) (now (c .before .before .before .before .before .before .before .before .before .args .cells)) (now (c .before .before .before .before .before .before .before .before .before .args .states)) (c .before .loop .d) _ (c .before .loop .inv .1) (c .loop-test .left) (pairs (now (c .before .before .before .before .before .before .before .before .before .args .rows)) declaration-section _ (c .before .before .before .before .tables-of .ensures .declarations)) (c .before .loop .inv .2)
+    lines-all (now (c .before .before .before .before .before .before .before .args .rows)) (now (c .before .before .before .before .before .before .before .args .cells)) (now (c .before .before .before .before .before .before .before .args .states)) (c .before .loop .d) _ (c .before .loop .inv .1) (c .loop-test .left) (pairs (now (c .before .before .before .before .before .before .before .args .rows)) declaration-section _ (c .before .before .before .before .before .before .before .pre .0)) (c .before .loop .inv .2)
 
 pub put-lines-spec : {M : Type 1} → statement M
 put-lines-spec =
@@ -64,7 +52,6 @@ put-lines-spec =
     (tie.spec
     Inv-loop
     μ-loop
-    tables-of-requires
     loop-holds
     put-line-requires
     add-d

@@ -11,47 +11,36 @@ use Rattle.report.proofs.answers.put_answer.Reads as put-answer-reads
 use Rattle.calls.proofs.checked_run.run_checked.Reads as run-checked-reads
 use Rattle.report.proofs.variables.put_variables.Reads as put-variables-reads
 
--- src/report.rt:25:9
 slice-aggregate-run-checked : tie.Need-slice-aggregate-run-checked
 slice-aggregate-run-checked c = search needs
 
--- src/report.rt:26:9
 slice-aggregate-run-checked-2 : tie.Need-slice-aggregate-run-checked-2
 slice-aggregate-run-checked-2 c = search needs
 
--- src/report.rt:28:9
 slice-aggregate-run-checked-3 : tie.Need-slice-aggregate-run-checked-3
 slice-aggregate-run-checked-3 c = search needs
 
--- src/report.rt:29:9
 slice-aggregate-run-checked-4 : tie.Need-slice-aggregate-run-checked-4
 slice-aggregate-run-checked-4 c = search needs
 
--- src/report.rt:22:9
 run-checked-requires : tie.Need-run-checked-requires
 run-checked-requires c κs = search needs
 
--- src/report.rt:31:9
 put-answer-requires : tie.Need-put-answer-requires
 put-answer-requires c κs = search needs
 
--- src/report.rt:32:36
 slice-aggregate-put-variables : tie.Need-slice-aggregate-put-variables
 slice-aggregate-put-variables c = search needs
 
--- src/report.rt:32:44
 slice-aggregate-put-variables-2 : tie.Need-slice-aggregate-put-variables-2
 slice-aggregate-put-variables-2 c = search needs
 
--- src/report.rt:32:5
 put-variables-requires : tie.Need-put-variables-requires
 put-variables-requires c κs = search needs
 
--- src/report.rt:14:1
 same-length : tie.Need-same-length
 same-length c = search needs
 
--- src/report.rt:14:1
 returns : tie.Need-returns
 unfolding reportCall
 returns c =

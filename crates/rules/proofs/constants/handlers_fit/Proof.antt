@@ -6,24 +6,24 @@ use native.Mathlib.Omega.{arith}
 use borrow.Author.Needs.{needs}
 use borrow.Author.Tests.{not-true, not-false}
 use Rattle.lingua.specs.Numbers.{instruction-section}
-use Rattle.lingua.specs.Errors.{last-error}
+use Rattle.lingua.specs.Errors.{isError}
 use Rattle.lingua.specs.Value.{allOf}
 use Rattle.lingua.specs.Rows.{tableCount, instructionRow}
 use Rattle.lingua.specs.Format.{everyBelow}
-use Rattle.lingua.specs.Rules.{between, handledErrors}
+use Rattle.lingua.specs.Rules.{handledErrors}
 use Rattle.rules.proofs.Every.{every-none, every-more, every-fails, every-all}
 use Rattle.rules.proofs.Short.{within-errors}
 use Rattle.rules.proofs.constants.handlers_fit.Statement.{statement}
 use Rattle.rules.proofs.constants.handlers_fit.Tie as tie
 
 abbrev Inv-loop : tie.InvT-loop
-Inv-loop rows t count r₀ r = (r ≤ count) × (everyBelow r (λ k. allOf (λ n. between 1 last-error n) (handledErrors (instructionRow rows k))) ≡ true)
+Inv-loop rows t count r₀ r = (r ≤ count) × (everyBelow r (λ k. allOf isError (handledErrors (instructionRow rows k))) ≡ true)
 
 abbrev μ-loop : tie.MeasureT-loop
 μ-loop rows t count r₀ r = count - r
 
 loop-holds : tie.Need-loop-holds Inv-loop μ-loop
-loop-holds c = (omega arith, every-none (λ (k : ℕ). allOf (λ n. between 1 last-error n) (handledErrors (instructionRow (c .before .args .rows .now) k))))
+loop-holds c = (omega arith, every-none (λ (k : ℕ). allOf isError (handledErrors (instructionRow (c .before .args .rows .now) k))))
 
 handled-of-requires : tie.Need-handled-of-requires Inv-loop μ-loop
 handled-of-requires c κs = (c .before .before .before .pre, c .loop-test .taken)
@@ -32,7 +32,7 @@ all-within-requires : tie.Need-all-within-requires Inv-loop μ-loop
 all-within-requires c κs = search needs
 
 returns : tie.Need-returns Inv-loop μ-loop
-returns c = sym (every-fails (λ (k : ℕ). allOf (λ n. between 1 last-error n) (handledErrors (instructionRow (c .before .before .before .before .before .before .args .rows .now) k))) (tableCount (c .before .before .before .before .before .before .args .rows .now) instruction-section) (c .before .before .before .before .loop .r) (omega arith) (within-errors (c .before .before .handled-of .ensures) (c .before .all-within .ensures) ∙ not-true (c .before .all-within .result) (c .if1 .taken)))
+returns c = sym (every-fails (λ (k : ℕ). allOf isError (handledErrors (instructionRow (c .before .before .before .before .before .before .args .rows .now) k))) (tableCount (c .before .before .before .before .before .before .args .rows .now) instruction-section) (c .before .before .before .before .loop .r) (omega arith) (within-errors (c .before .before .handled-of .ensures) (c .before .all-within .ensures) ∙ not-true (c .before .all-within .result) (c .if1 .taken)))
 
 add-r : tie.Need-add-r Inv-loop μ-loop
 add-r c = omega arith
@@ -41,10 +41,10 @@ loop-less : tie.Need-loop-less Inv-loop μ-loop
 loop-less c = omega arith
 
 loop-again : tie.Need-loop-again Inv-loop μ-loop
-loop-again c = (omega arith, every-more (λ (k : ℕ). allOf (λ n. between 1 last-error n) (handledErrors (instructionRow (c .before .before .before .before .before .before .args .rows .now) k))) (c .before .before .before .before .loop .r) (c .before .before .before .before .loop .inv .1) (within-errors (c .before .before .handled-of .ensures) (c .before .all-within .ensures) ∙ not-false (c .before .all-within .result) (c .if1 .left)))
+loop-again c = (omega arith, every-more (λ (k : ℕ). allOf isError (handledErrors (instructionRow (c .before .before .before .before .before .before .args .rows .now) k))) (c .before .before .before .before .loop .r) (c .before .before .before .before .loop .inv .1) (within-errors (c .before .before .handled-of .ensures) (c .before .all-within .ensures) ∙ not-false (c .before .all-within .result) (c .if1 .left)))
 
 returns-2 : tie.Need-returns-2 Inv-loop μ-loop
-returns-2 c = every-all (λ (k : ℕ). allOf (λ n. between 1 last-error n) (handledErrors (instructionRow (c .before .before .before .args .rows .now) k))) (c .before .loop .r) (tableCount (c .before .before .before .args .rows .now) instruction-section) (c .before .loop .inv .1) (omega arith)
+returns-2 c = every-all (λ (k : ℕ). allOf isError (handledErrors (instructionRow (c .before .before .before .args .rows .now) k))) (c .before .loop .r) (tableCount (c .before .before .before .args .rows .now) instruction-section) (c .before .loop .inv .1) (omega arith)
 
 pub handlers-fit-spec : {M : Type 1} → statement M
 handlers-fit-spec =

@@ -18,19 +18,13 @@ section-belongs-requires : tie.Need-section-belongs-requires
 section-belongs-requires c κs = search needs
 
 returns : tie.Need-returns
-returns c = row-out (fileMeaning (c .before .before .before .before .args .file)) (c .before .before .before .before .args .rows .now) (c .before .before .before .before .args .i) (c .before .before .section-at .result) 0 0 (c .before .before .section-at .ensures) (sym (c .before .section-belongs .ensures) ∙ not-true (c .before .section-belongs .result) (c .if1 .taken))
-
-kind-at-requires : tie.Need-kind-at-requires
-kind-at-requires c κs = search needs
+returns c = row-out (fileMeaning (c .before .before .before .before .args .file)) (c .before .before .before .before .args .rows .now) (c .before .before .before .before .args .i) (c .before .before .section-at .result) 0 (c .before .before .section-at .ensures) (sym (c .before .section-belongs .ensures) ∙ not-true (c .before .section-belongs .result) (c .if1 .taken))
 
 used-bytes-requires : tie.Need-used-bytes-requires
 used-bytes-requires c κs = search needs
 
-cast-used : tie.Need-cast-used
-cast-used c = search needs
-
 returns-2 : tie.Need-returns-2
-returns-2 c = row-none (fileMeaning (c .before .before .before .before .before .before .before .args .file)) (c .before .before .before .before .before .before .before .args .rows .now) (c .before .before .before .before .before .before .before .args .i) (c .before .before .before .before .before .section-at .result) (c .before .before .kind-at .result) (c .before .used-bytes .result) (c .before .before .before .before .before .section-at .ensures) (c .before .before .kind-at .ensures) (c .before .used-bytes .ensures) (sym (c .before .before .before .before .section-belongs .ensures) ∙ not-false (c .before .before .before .before .section-belongs .result) (c .before .before .before .if1 .left)) (c .if2 .taken)
+returns-2 c = row-none (fileMeaning (c .before .before .before .before .before .before .args .file)) (c .before .before .before .before .before .before .args .rows .now) (c .before .before .before .before .before .before .args .i) (c .before .before .before .before .section-at .result) (c .before .used-bytes .result) (c .before .before .before .before .section-at .ensures) (c .before .used-bytes .ensures) (sym (c .before .before .before .section-belongs .ensures) ∙ not-false (c .before .before .before .section-belongs .result) (c .before .before .if1 .left)) (c .if2 .taken)
 
 bytes-at-requires : tie.Need-bytes-at-requires
 bytes-at-requires c κs = search needs
@@ -42,7 +36,7 @@ zero-from-requires : tie.Need-zero-from-requires
 zero-from-requires c κs = search needs
 
 returns-3 : tie.Need-returns-3
-returns-3 c = c .zero-from .ensures ∙ ap (λ (b : List ℕ). allZero (drop (c .before .before .before .used-bytes .result - 1) b)) (c .before .bytes-at .ensures .0) ∙ row-some (fileMeaning (c .before .before .before .before .before .before .before .before .before .args .file)) (c .before .before .before .before .before .before .before .before .before .args .rows .now) (c .before .before .before .before .before .before .before .before .before .args .i) (c .before .before .before .before .before .before .before .section-at .result) (c .before .before .before .before .kind-at .result) (c .before .before .before .used-bytes .result) (c .before .before .before .before .before .before .before .section-at .ensures) (c .before .before .before .before .kind-at .ensures) (c .before .before .before .used-bytes .ensures) (sym (c .before .before .before .before .before .before .section-belongs .ensures) ∙ not-false (c .before .before .before .before .before .before .section-belongs .result) (c .before .before .before .before .before .if1 .left)) (c .before .before .if2 .left)
+returns-3 c = c .zero-from .ensures ∙ ap (λ (b : List ℕ). allZero (drop (c .before .before .before .used-bytes .result - 1) b)) (c .before .bytes-at .ensures .0) ∙ row-some (fileMeaning (c .before .before .before .before .before .before .before .before .args .file)) (c .before .before .before .before .before .before .before .before .args .rows .now) (c .before .before .before .before .before .before .before .before .args .i) (c .before .before .before .before .before .before .section-at .result) (c .before .before .before .used-bytes .result) (c .before .before .before .before .before .before .section-at .ensures) (c .before .before .before .used-bytes .ensures) (sym (c .before .before .before .before .before .section-belongs .ensures) ∙ not-false (c .before .before .before .before .before .section-belongs .result) (c .before .before .before .before .if1 .left)) (c .before .before .if2 .left)
 
 pub row-fits-spec : {M : Type 1} → statement M
 row-fits-spec =
@@ -51,9 +45,7 @@ row-fits-spec =
     section-at-requires
     section-belongs-requires
     returns
-    kind-at-requires
     used-bytes-requires
-    cast-used
     returns-2
     bytes-at-requires
     sub-zero-from

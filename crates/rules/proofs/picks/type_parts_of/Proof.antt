@@ -1,25 +1,45 @@
--- `type_parts_of` meets its contract: the code's table by kind is the definition's choice. Assumes nothing.
+-- `type_parts_of` meets its contract: what the decoded row names is what the row names. Assumes nothing.
 use mathlib.Core.Path.{_∙_}
-use Rattle.rules.proofs.Choices.{type-parts-pick}
+use Rattle.lingua.specs.References.{typeParts}
+use Rattle.rules.proofs.Decoding.{type-unknown-of, type-known-of}
 use borrow.Author.Needs.{needs}
 use Rattle.rules.proofs.picks.type_parts_of.Statement.{statement}
 use Rattle.rules.proofs.picks.type_parts_of.Tie as tie
 
-add-i : tie.Need-add-i
-add-i c = search needs
+add-type-at : tie.Need-add-type-at
+add-type-at c = search needs
 
-kind-within-requires : tie.Need-kind-within-requires
-kind-within-requires c κs = search needs
+type-at-requires : tie.Need-type-at-requires
+type-at-requires c κs = search needs
 
-array-read-chosen : tie.Need-array-read-chosen
-array-read-chosen c = search needs
+enum-told : tie.Need-enum-told
+enum-told c = search needs
 
-chosen-requires : tie.Need-chosen-requires
-chosen-requires c κs = search needs
+none-requires : tie.Need-none-requires
+none-requires c κs = search needs
+
+enum-known-d : tie.Need-enum-known-d
+enum-known-d c = search needs
+
+type-parts-requires : tie.Need-type-parts-requires
+type-parts-requires c κs = search needs
 
 returns : tie.Need-returns
-returns c = c .chosen .ensures ∙ type-parts-pick (c .before .before .before .before .args .rows .now) (c .before .before .before .before .args .t) (c .before .before .before .before .args .r) (c .before .before .before .before .pre .0) (c .before .kind-within .result) (c .before .kind-within .ensures)
+unfolding typeParts
+returns c = c .none .ensures ∙ type-unknown-of typeParts (c .before .before .before .before .before .before .args .rows .now) (c .before .before .before .before .before .before .args .t) (c .before .before .before .before .before .before .args .r) (c .before .before .before .before .before .before .pre .0) (c .before .before .before .type-at .result) (c .before .before .before .type-at .ensures) (c .before .enum-told .given .1)
+
+returns-2 : tie.Need-returns-2
+returns-2 c = c .type-parts .ensures ∙ type-known-of typeParts (c .before .before .before .before .before .before .before .args .rows .now) (c .before .before .before .before .before .before .before .args .t) (c .before .before .before .before .before .before .before .args .r) (c .before .before .before .before .before .before .before .pre .0) (c .before .before .before .before .type-at .result) (c .before .before .before .before .type-at .ensures) _ _ (c .before .before .d .given .1)
 
 pub type-parts-of-spec : {M : Type 1} → statement M
 type-parts-of-spec =
-    tie.close (tie.spec add-i kind-within-requires array-read-chosen chosen-requires returns)
+    tie.close
+    (tie.spec
+    add-type-at
+    type-at-requires
+    enum-told
+    none-requires
+    enum-known-d
+    type-parts-requires
+    returns
+    returns-2)

@@ -1,43 +1,65 @@
 -- `link_refusal` meets its contract: the first rule that applies is the lowest. Assumes nothing.
 use mathlib.Core.Path.{sym, _∙_}
+use native.Mathlib.Omega.{arith}
 use Rattle.lingua.specs.References.{referenceWrong, useWrong, placeWrong, typeWrong}
+use Rattle.rules.specs.Types.{types-ready}
 use Rattle.rules.specs.Refusals.{linkRules}
-use Rattle.rules.proofs.Lowest.{reference-applies, use-applies, place-applies, type-applies, links-pass}
+use Rattle.rules.proofs.Lowest.{reference-applies, use-applies, place-applies, type-applies, links-pass, sized, refused-linked}
 use borrow.Author.Needs.{needs}
 use Rattle.rules.proofs.refusal.link_refusal.Statement.{statement}
 use Rattle.rules.proofs.refusal.link_refusal.Tie as tie
 
 reference-wrong-requires : tie.Need-reference-wrong-requires
-reference-wrong-requires c κs = search needs
+reference-wrong-requires c κs = c .before .before .pre .tables
 
 returns : tie.Need-returns
 unfolding linkRules
-returns c = reference-applies (referenceWrong (c .before .before .before .args .rows .now)) (useWrong (c .before .before .before .args .rows .now)) (placeWrong (c .before .before .before .args .rows .now)) (typeWrong (c .before .before .before .args .rows .now)) (sym (c .before .reference-wrong .ensures) ∙ c .if1 .taken)
+returns c =
+    let rows = c .before .before .before .before .args .rows .now in
+    refused-linked rows (reference-applies (referenceWrong rows) (useWrong rows) (placeWrong rows) (typeWrong rows) (sym (c .before .reference-wrong .ensures) ∙ c .if1 .taken)) (omega arith)
 
 use-wrong-requires : tie.Need-use-wrong-requires
-use-wrong-requires c κs = search needs
+use-wrong-requires c κs = (c .before .before .before .before .pre .tables, sized _ _ (c .before .before .before .before .pre .tables) (c .before .before .before .before .pre .counts))
 
 returns-2 : tie.Need-returns-2
 unfolding linkRules
-returns-2 c = use-applies (referenceWrong (c .before .before .before .before .before .args .rows .now)) (useWrong (c .before .before .before .before .before .args .rows .now)) (placeWrong (c .before .before .before .before .before .args .rows .now)) (typeWrong (c .before .before .before .before .before .args .rows .now)) (sym (c .before .before .before .reference-wrong .ensures) ∙ c .before .before .if1 .left) (sym (c .before .use-wrong .ensures) ∙ c .if2 .taken)
+returns-2 c =
+    let rows = c .before .before .before .before .before .before .args .rows .now in
+    refused-linked rows (use-applies (referenceWrong rows) (useWrong rows) (placeWrong rows) (typeWrong rows) (sym (c .before .before .before .reference-wrong .ensures) ∙ c .before .before .if1 .left) (sym (c .before .use-wrong .ensures) ∙ c .if2 .taken)) (omega arith)
 
 place-wrong-requires : tie.Need-place-wrong-requires
-place-wrong-requires c κs = (c .before .before .before .before .before .pre .0, (c .before .before .before .before .before .pre .1 .0, (sym (c .before .before .before .reference-wrong .ensures) ∙ c .before .before .if1 .left)))
+place-wrong-requires c κs = (c .before .before .before .before .before .before .pre .tables, (sized _ _ (c .before .before .before .before .before .before .pre .tables) (c .before .before .before .before .before .before .pre .counts), sym (c .before .before .before .reference-wrong .ensures) ∙ c .before .before .if1 .left))
 
 returns-3 : tie.Need-returns-3
 unfolding linkRules
-returns-3 c = place-applies (referenceWrong (c .before .before .before .before .before .before .before .args .rows .now)) (useWrong (c .before .before .before .before .before .before .before .args .rows .now)) (placeWrong (c .before .before .before .before .before .before .before .args .rows .now)) (typeWrong (c .before .before .before .before .before .before .before .args .rows .now)) (sym (c .before .before .before .before .before .reference-wrong .ensures) ∙ c .before .before .before .before .if1 .left) (sym (c .before .before .before .use-wrong .ensures) ∙ c .before .before .if2 .left) (sym (c .before .place-wrong .ensures) ∙ c .if3 .taken)
+returns-3 c =
+    let rows = c .before .before .before .before .before .before .before .before .args .rows .now in
+    refused-linked rows (place-applies (referenceWrong rows) (useWrong rows) (placeWrong rows) (typeWrong rows) (sym (c .before .before .before .before .before .reference-wrong .ensures) ∙ c .before .before .before .before .if1 .left) (sym (c .before .before .before .use-wrong .ensures) ∙ c .before .before .if2 .left) (sym (c .before .place-wrong .ensures) ∙ c .if3 .taken)) (omega arith)
 
 type-wrong-requires : tie.Need-type-wrong-requires
-type-wrong-requires c κs = (c .before .before .before .before .before .before .before .before .pre .0 .types, (c .before .before .before .before .before .before .before .before .pre .1 .0 .types, (c .before .before .before .before .before .before .before .before .pre .1 .1, (sym (c .before .before .before .before .before .before .reference-wrong .ensures) ∙ c .before .before .before .before .before .if1 .left))))
+type-wrong-requires c κs =
+    (c .before .before .before .before .before .before .before .before .before .before .pre .tables .types, (types-ready _ (c .before .before .before .before .before .before .before .before .before .before .pre .counts) (c .before .before .before .before .before .before .before .before .before .before .pre .constants) (sym (c .before .before .before .before .before .before .before .reference-wrong .ensures) ∙ c .before .before .before .before .before .before .if1 .left), c .before .before .before .before .before .before .before .before .before .before .pre .room))
 
 returns-4 : tie.Need-returns-4
 unfolding linkRules
-returns-4 c = type-applies (referenceWrong (c .before .before .before .before .before .before .before .before .before .before .args .rows .now)) (useWrong (c .before .before .before .before .before .before .before .before .before .before .args .rows .now)) (placeWrong (c .before .before .before .before .before .before .before .before .before .before .args .rows .now)) (typeWrong (c .before .before .before .before .before .before .before .before .before .before .args .rows .now)) (sym (c .before .before .before .before .before .before .before .before .reference-wrong .ensures) ∙ c .before .before .before .before .before .before .before .if1 .left) (sym (c .before .before .before .before .before .before .use-wrong .ensures) ∙ c .before .before .before .before .before .if2 .left) (sym (c .before .before .before .before .place-wrong .ensures) ∙ c .before .before .before .if3 .left) (sym (c .before .type-wrong .ensures) ∙ c .if4 .taken)
+returns-4 c =
+    let rows = c .before .before .before .before .before .before .before .before .before .before .before .before .before .before .args .rows .now in
+    refused-linked rows (type-applies (referenceWrong rows) (useWrong rows) (placeWrong rows) (typeWrong rows) (sym (c .before .before .before .before .before .before .before .before .before .before .before .reference-wrong .ensures) ∙ c .before .before .before .before .before .before .before .before .before .before .if1 .left) (sym (c .before .before .before .before .before .before .before .before .before .use-wrong .ensures) ∙ c .before .before .before .before .before .before .before .before .if2 .left) (sym (c .before .before .before .before .before .before .before .place-wrong .ensures) ∙ c .before .before .before .before .before .before .if3 .left) (sym (c .before .before .before .type-wrong .ensures .0) ∙ c .if4 .taken)) (omega arith)
 
 returns-5 : tie.Need-returns-5
 unfolding linkRules
-returns-5 c = links-pass (referenceWrong (c .before .before .before .before .before .before .before .before .before .before .args .rows .now)) (useWrong (c .before .before .before .before .before .before .before .before .before .before .args .rows .now)) (placeWrong (c .before .before .before .before .before .before .before .before .before .before .args .rows .now)) (typeWrong (c .before .before .before .before .before .before .before .before .before .before .args .rows .now)) (sym (c .before .before .before .before .before .before .before .before .reference-wrong .ensures) ∙ c .before .before .before .before .before .before .before .if1 .left) (sym (c .before .before .before .before .before .before .use-wrong .ensures) ∙ c .before .before .before .before .before .if2 .left) (sym (c .before .before .before .before .place-wrong .ensures) ∙ c .before .before .before .if3 .left) (sym (c .before .type-wrong .ensures) ∙ c .if4 .left)
+returns-5 c =
+    let rows = c .before .before .before .before .before .before .before .before .before .before .before .before .before .before .args .rows .now in
+    record {
+      refusal = links-pass (referenceWrong rows) (useWrong rows) (placeWrong rows) (typeWrong rows) (sym (c .before .before .before .before .before .before .before .before .before .before .before .reference-wrong .ensures) ∙ c .before .before .before .before .before .before .before .before .before .before .if1 .left) (sym (c .before .before .before .before .before .before .before .before .before .use-wrong .ensures) ∙ c .before .before .before .before .before .before .before .before .if2 .left) (sym (c .before .before .before .before .before .before .before .place-wrong .ensures) ∙ c .before .before .before .before .before .before .if3 .left) (sym (c .before .before .before .type-wrong .ensures .0) ∙ c .if4 .left);
+      held = λ z. c .before .before .before .type-wrong .ensures .1 (c .if4 .left);
+    }
+
+same-length : tie.Need-same-length
+same-length c = search needs
+
+same-length-2 : tie.Need-same-length-2
+same-length-2 c = search needs
 
 pub link-refusal-spec : {M : Type 1} → statement M
 link-refusal-spec =
@@ -50,5 +72,7 @@ link-refusal-spec =
     place-wrong-requires
     returns-3
     type-wrong-requires
+    same-length
     returns-4
+    same-length-2
     returns-5)

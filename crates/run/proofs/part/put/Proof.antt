@@ -1,5 +1,4 @@
 -- `put` meets its contract, by `put-is`. Assumes nothing.
-use mathlib.Core.Path.{refl}
 use Rattle.run.proofs.Copying.{put-is}
 use borrow.Author.Needs.{needs}
 use Rattle.run.proofs.part.put.Statement.{statement}
@@ -26,14 +25,8 @@ part-copy-end c = search needs
 copy-requires : tie.Need-copy-requires
 copy-requires c κs = search needs
 
-mul-states : tie.Need-mul-states
-mul-states c = search needs
-
-mul-states-2 : tie.Need-mul-states-2
-mul-states-2 c = search needs
-
-slice-write-states : tie.Need-slice-write-states
-slice-write-states c = search needs
+set-filled-requires : tie.Need-set-filled-requires
+set-filled-requires c κs = search needs
 
 same-length : tie.Need-same-length
 same-length c = search needs
@@ -42,7 +35,7 @@ same-length-2 : tie.Need-same-length-2
 same-length-2 c = search needs
 
 returns : tie.Need-returns
-returns c = (put-is (c .before .before .before .before .args .cells .now) (c .before .before .before .before .args .value .now) _ (c .before .before .before .before .args .n) (c .before .before .before .before .args .width) (c .before .copy .ensures), refl)
+returns c = (put-is (c .before .before .before .before .before .before .before .before .args .cells .now) (c .before .before .before .before .before .before .before .before .args .value .now) _ (c .before .before .before .before .before .before .before .before .args .n) (c .before .before .before .before .before .before .before .before .args .width) (c .before .before .before .before .before .copy .ensures), c .before .before .set-filled .ensures)
 
 pub put-spec : {M : Type 1} → statement M
 put-spec =
@@ -55,9 +48,7 @@ put-spec =
     part-copy-start
     part-copy-end
     copy-requires
-    mul-states
-    mul-states-2
-    slice-write-states
+    set-filled-requires
     same-length
     same-length-2
     returns)

@@ -1,69 +1,94 @@
--- `keep_limit` meets its contract: `kept-within` and `kept-nothing`. Assumes nothing.
+-- `keep_limit` meets its contract: no variable has the name, or the one that has it gets the limit. Assumes nothing.
 use denote.Ref.{now}
 use native.Mathlib.Omega.{arith}
 use lib.ListN.{length-set}
-use Rattle.run.proofs.Keeping.{kept-within, kept-nothing}
+use Rattle.lingua.specs.Numbers.{limit-section}
+use Rattle.profile.proofs.Declaring.{pairs}
+use Rattle.profile.proofs.Finding.{is-found, is-nothing}
+use Rattle.run.proofs.Unfilled.{few-variables}
+use Rattle.run.proofs.Keeping.{find-name, found-room, limit-of-none, limit-kept}
 use borrow.Author.Needs.{needs}
 use Rattle.run.proofs.start.keep_limit.Statement.{statement}
 use Rattle.run.proofs.start.keep_limit.Tie as tie
 
-mul-at : tie.Need-mul-at
-mul-at c = search needs
+find-requires : tie.Need-find-requires
+find-requires c κs = (c .before .before .before .pre .1 .0 .0, c .bytes-at .ensures .1)
 
-enum-known-limit : tie.Need-enum-known-limit
-enum-known-limit c = search needs
+limit-low-requires : tie.Need-limit-low-requires
+limit-low-requires c κs = (c .before .before .before .before .before .before .before .pre .1 .0 .1, c .before .before .before .before .before .before .before .pre .1 .1 .0)
 
-mul-kept : tie.Need-mul-kept
-mul-kept c = search needs
+limit-high-requires : tie.Need-limit-high-requires
+limit-high-requires c κs = (c .before .before .before .before .before .before .before .before .pre .1 .0 .1, c .before .before .before .before .before .before .before .before .pre .1 .1 .0)
 
-slice-set-of-kept : tie.Need-slice-set-of-kept
-slice-set-of-kept c = search needs
+mul-bytes-at : tie.Need-mul-bytes-at
+mul-bytes-at c = search needs
 
-add-low : tie.Need-add-low
-add-low c = search needs
+add-bytes-at : tie.Need-add-bytes-at
+add-bytes-at c = search needs
 
-mul-low : tie.Need-mul-low
-mul-low c = search needs
+bytes-at-requires : tie.Need-bytes-at-requires
+bytes-at-requires c κs = search needs
 
-slice-set-from-low : tie.Need-slice-set-from-low
-slice-set-from-low c = simp length-set (omega arith)
-
-add-high : tie.Need-add-high
-add-high c = search needs
-
-mul-high : tie.Need-mul-high
-mul-high c = search needs
-
-slice-set-from-high : tie.Need-slice-set-from-high
-slice-set-from-high c = simp length-set (omega arith)
+enum-known-found : tie.Need-enum-known-found
+enum-known-found c = search needs
 
 enum-told : tie.Need-enum-told
 enum-told c = search needs
 
-mul-kept-2 : tie.Need-mul-kept-2
-mul-kept-2 c = search needs
+returns : tie.Need-returns
+returns c =
+    limit-of-none (now (c .before .before .before .before .before .before .args .rows)) (now (c .before .before .before .before .before .before .args .limits)) (now (c .before .before .before .before .before .before .args .kept)) (c .before .before .before .before .before .before .args .l) (omega (arith, c .before .before .before .before .before .before .pre .1 .1 .0, pairs (now (c .before .before .before .before .before .before .args .limits)) limit-section (c .before .before .before .before .before .before .args .u) (c .before .before .before .before .before .before .pre .1 .0 .1))) (c .before .before .before .before .before .before .pre .1 .1 .1)
+    (is-nothing _ _ (c .before .before .find .result) (c .enum-told .given .1) (find-name (now (c .before .before .before .before .before .before .args .rows)) (now (c .before .before .before .before .before .before .args .limits)) (c .before .before .before .before .before .before .args .u) (c .before .before .before .before .before .before .args .l) (c .before .before .find .result) _ (c .before .before .before .before .before .before .pre .1 .0 .1) (c .before .before .before .bytes-at .ensures .0) (c .before .before .find .ensures)))
 
-slice-set-of-kept-2 : tie.Need-slice-set-of-kept-2
-slice-set-of-kept-2 c = search needs
+mul-at : tie.Need-mul-at
+mul-at c = omega (arith, c .before .before .before .before .before .before .before .before .before .pre .1 .1 .1 .room, found-room _ _ (now (c .before .before .before .before .before .before .before .before .before .args .kept)) _ _ (c .before .before .before .before .before .before .before .before .before .pre .0) (c .before .before .before .before .before .before .before .before .before .pre .1 .1 .1) (is-found (now (c .before .before .before .before .before .before .before .before .before .args .rows)) (now (c .before .before .before .before .before .before .bytes-at .result)) (c .before .before .before .before .before .find .result) _ (c .before .before .before .found .given .1) (c .before .before .before .before .before .find .ensures)))
+
+mul-kept : tie.Need-mul-kept
+mul-kept c = omega (arith, c .before .before .before .before .before .before .before .before .before .pre .1 .1 .1 .room, found-room _ _ (now (c .before .before .before .before .before .before .before .before .before .args .kept)) _ _ (c .before .before .before .before .before .before .before .before .before .pre .0) (c .before .before .before .before .before .before .before .before .before .pre .1 .1 .1) (is-found (now (c .before .before .before .before .before .before .before .before .before .args .rows)) (now (c .before .before .before .before .before .before .bytes-at .result)) (c .before .before .before .before .before .find .result) _ (c .before .before .before .found .given .1) (c .before .before .before .before .before .find .ensures)))
+
+slice-set-of-kept : tie.Need-slice-set-of-kept
+slice-set-of-kept c = omega (arith, c .before .before .before .before .before .before .before .before .before .pre .1 .1 .1 .room, found-room _ _ (now (c .before .before .before .before .before .before .before .before .before .args .kept)) _ _ (c .before .before .before .before .before .before .before .before .before .pre .0) (c .before .before .before .before .before .before .before .before .before .pre .1 .1 .1) (is-found (now (c .before .before .before .before .before .before .before .before .before .args .rows)) (now (c .before .before .before .before .before .before .bytes-at .result)) (c .before .before .before .before .before .find .result) _ (c .before .before .before .found .given .1) (c .before .before .before .before .before .find .ensures)))
+
+add-low : tie.Need-add-low
+add-low c = omega (arith, c .before .before .before .before .before .before .before .before .before .pre .1 .1 .1 .room, found-room _ _ (now (c .before .before .before .before .before .before .before .before .before .args .kept)) _ _ (c .before .before .before .before .before .before .before .before .before .pre .0) (c .before .before .before .before .before .before .before .before .before .pre .1 .1 .1) (is-found (now (c .before .before .before .before .before .before .before .before .before .args .rows)) (now (c .before .before .before .before .before .before .bytes-at .result)) (c .before .before .before .before .before .find .result) _ (c .before .before .before .found .given .1) (c .before .before .before .before .before .find .ensures)))
+
+mul-low : tie.Need-mul-low
+mul-low c = omega (arith, c .before .before .before .before .before .before .before .before .before .pre .1 .1 .1 .room, found-room _ _ (now (c .before .before .before .before .before .before .before .before .before .args .kept)) _ _ (c .before .before .before .before .before .before .before .before .before .pre .0) (c .before .before .before .before .before .before .before .before .before .pre .1 .1 .1) (is-found (now (c .before .before .before .before .before .before .before .before .before .args .rows)) (now (c .before .before .before .before .before .before .bytes-at .result)) (c .before .before .before .before .before .find .result) _ (c .before .before .before .found .given .1) (c .before .before .before .before .before .find .ensures)))
+
+slice-set-from-low : tie.Need-slice-set-from-low
+slice-set-from-low c = simp length-set (omega (arith, found-room _ _ (now (c .before .before .before .before .before .before .before .before .before .args .kept)) _ _ (c .before .before .before .before .before .before .before .before .before .pre .0) (c .before .before .before .before .before .before .before .before .before .pre .1 .1 .1) (is-found (now (c .before .before .before .before .before .before .before .before .before .args .rows)) (now (c .before .before .before .before .before .before .bytes-at .result)) (c .before .before .before .before .before .find .result) _ (c .before .before .before .found .given .1) (c .before .before .before .before .before .find .ensures))))
+
+add-high : tie.Need-add-high
+add-high c = omega (arith, c .before .before .before .before .before .before .before .before .before .pre .1 .1 .1 .room, found-room _ _ (now (c .before .before .before .before .before .before .before .before .before .args .kept)) _ _ (c .before .before .before .before .before .before .before .before .before .pre .0) (c .before .before .before .before .before .before .before .before .before .pre .1 .1 .1) (is-found (now (c .before .before .before .before .before .before .before .before .before .args .rows)) (now (c .before .before .before .before .before .before .bytes-at .result)) (c .before .before .before .before .before .find .result) _ (c .before .before .before .found .given .1) (c .before .before .before .before .before .find .ensures)))
+
+mul-high : tie.Need-mul-high
+mul-high c = omega (arith, c .before .before .before .before .before .before .before .before .before .pre .1 .1 .1 .room, found-room _ _ (now (c .before .before .before .before .before .before .before .before .before .args .kept)) _ _ (c .before .before .before .before .before .before .before .before .before .pre .0) (c .before .before .before .before .before .before .before .before .before .pre .1 .1 .1) (is-found (now (c .before .before .before .before .before .before .before .before .before .args .rows)) (now (c .before .before .before .before .before .before .bytes-at .result)) (c .before .before .before .before .before .find .result) _ (c .before .before .before .found .given .1) (c .before .before .before .before .before .find .ensures)))
+
+slice-set-from-high : tie.Need-slice-set-from-high
+slice-set-from-high c = simp length-set (omega (arith, found-room _ _ (now (c .before .before .before .before .before .before .before .before .before .args .kept)) _ _ (c .before .before .before .before .before .before .before .before .before .pre .0) (c .before .before .before .before .before .before .before .before .before .pre .1 .1 .1) (is-found (now (c .before .before .before .before .before .before .before .before .before .args .rows)) (now (c .before .before .before .before .before .before .bytes-at .result)) (c .before .before .before .before .before .find .result) _ (c .before .before .before .found .given .1) (c .before .before .before .before .before .find .ensures))))
 
 same-length : tie.Need-same-length
 same-length c = search needs
 
-returns : tie.Need-returns
-returns c = kept-within (now (c .before .before .before .args .kept)) (c .before .before .before .args .d) (c .before .before .before .args .limit) (c .before .limit .given .0 .0) (c .before .limit .given .0 .1 .0) (c .before .limit .given .1) (c .known-told .given .0 .1) (c .known-told .given .1 .0 .1) (c .before .before .before .pre)
-
-same-length-2 : tie.Need-same-length-2
-same-length-2 c = search needs
-
 returns-2 : tie.Need-returns-2
-returns-2 c = kept-nothing (now (c .before .before .args .kept)) (c .before .before .args .d) (c .before .before .args .limit) (c .enum-told .given .1) (c .before .before .pre)
+returns-2 c =
+    limit-kept (now (c .before .before .before .before .before .before .before .before .before .args .rows)) (now (c .before .before .before .before .before .before .before .before .before .args .limits)) (now (c .before .before .before .before .before .before .before .before .before .args .kept)) (c .before .before .before .before .before .before .before .before .before .args .l) (omega (arith, c .before .before .before .before .before .before .before .before .before .pre .1 .1 .0, pairs (now (c .before .before .before .before .before .before .before .before .before .args .limits)) limit-section (c .before .before .before .before .before .before .before .before .before .args .u) (c .before .before .before .before .before .before .before .before .before .pre .1 .0 .1))) (c .before .before .before .before .before .before .before .before .before .pre .1 .1 .1) (c .before .before .before .before .before .before .before .before .before .pre .0 .names) (few-variables (now (c .before .before .before .before .before .before .before .before .before .args .rows)) (c .before .before .before .before .before .before .before .before .before .pre .0)) _
+    (is-found _ _ (c .before .before .before .before .before .find .result) _ (c .before .before .before .found .given .1) (find-name (now (c .before .before .before .before .before .before .before .before .before .args .rows)) (now (c .before .before .before .before .before .before .before .before .before .args .limits)) (c .before .before .before .before .before .before .before .before .before .args .u) (c .before .before .before .before .before .before .before .before .before .args .l) (c .before .before .before .before .before .find .result) _ (c .before .before .before .before .before .before .before .before .before .pre .1 .0 .1) (c .before .before .before .before .before .before .bytes-at .ensures .0) (c .before .before .before .before .before .find .ensures))) _ _ (c .before .limit-low .ensures) (c .limit-high .ensures) (c .before .limit-low .ok) (c .limit-high .ok)
 
 pub keep-limit-spec : {M : Type 1} → statement M
 keep-limit-spec =
     tie.close
     (tie.spec
+    mul-bytes-at
+    add-bytes-at
+    bytes-at-requires
+    find-requires
+    enum-known-found
+    enum-told
+    returns
+    limit-low-requires
+    limit-high-requires
     mul-at
-    enum-known-limit
     mul-kept
     slice-set-of-kept
     add-low
@@ -72,10 +97,5 @@ keep-limit-spec =
     add-high
     mul-high
     slice-set-from-high
-    enum-told
-    mul-kept-2
-    slice-set-of-kept-2
     same-length
-    returns
-    same-length-2
     returns-2)

@@ -1,43 +1,54 @@
--- `keep_limits` meets its contract: a turn is `limits-more`. Assumes nothing.
+-- `keep_limits` meets its contract: from the last row to the first, a turn is `keep_limit`. Assumes nothing.
 use denote.Ref.{now}
-use mathlib.Core.Path.{sym, _∙_}
-use Prim.Native.Nat.{_-_, _≤_}
+use mathlib.Core.Path.{_≡_, sym, subst, _∙_}
+use Prim.Native.Nat.{ℕ, _+_, _-_, _/_, _≤_}
 use native.Mathlib.Omega.{arith}
-use Rattle.run.specs.Kept.{LimitsKept}
-use Rattle.run.proofs.Unfilled.{counted, few-counted}
-use Rattle.run.proofs.Keeping.{limits-none, limits-more, all-limits}
+use Rattle.lingua.specs.Numbers.{limit-section}
+use Rattle.profile.proofs.Declaring.{pairs}
+use Rattle.run.specs.Kept.{LimitsFrom}
+use Rattle.run.proofs.Keeping.{limits-none}
+use borrow.Author.Needs.{needs}
 use Rattle.run.proofs.start.keep_limits.Statement.{statement}
 use Rattle.run.proofs.start.keep_limits.Tie as tie
 
 abbrev Inv-loop : tie.InvT-loop
-Inv-loop rows t limits u kept₀ count d₀ kept d = (d ≤ count) × LimitsKept rows limits kept d
+Inv-loop rows t limits u kept₀ l₀ kept l = (l ≤ u .count / 2) × LimitsFrom rows limits kept l
 
 abbrev μ-loop : tie.MeasureT-loop
-μ-loop rows t limits u kept₀ count d₀ kept d = count - d
+μ-loop rows t limits u kept₀ l₀ kept l = l
+
+clear-cells-requires : tie.Need-clear-cells-requires Inv-loop μ-loop
+clear-cells-requires c κs = search needs
 
 loop-holds : tie.Need-loop-holds Inv-loop μ-loop
-loop-holds c = (omega arith, limits-none (now (c .before .before .before .args .rows)) (now (c .before .before .before .args .limits)) (now (c .before .before .before .args .kept)) (c .before .before .before .pre .1 .1 .1))
+loop-holds c = (omega arith, limits-none (now (c .before .before .before .before .before .before .args .rows)) (now (c .before .before .before .before .before .before .args .limits)) _ _ _ (c .before .before .clear-cells .ensures) (c .before .before .before .before .before .before .pre .1 .1 .1) (pairs (now (c .before .before .before .before .before .before .args .limits)) limit-section (c .before .before .before .before .before .before .args .u) (c .before .before .before .before .before .before .pre .1 .1 .0)))
 
-variable-limit-requires : tie.Need-variable-limit-requires Inv-loop μ-loop
-variable-limit-requires c κs = (c .before .before .before .before .before .pre .1 .0, (omega arith, c .before .before .before .before .before .pre .1 .1 .0))
+sub-l : tie.Need-sub-l Inv-loop μ-loop
+sub-l c = omega arith
 
 keep-limit-requires : tie.Need-keep-limit-requires Inv-loop μ-loop
-keep-limit-requires c κs = omega (arith, c .before .before .before .loop .inv .1 .room, few-counted (now (c .before .before .before .before .before .before .before .args .rows)) (c .before .before .before .before .before .before .before .args .t) (c .before .before .before .before .before .before .before .pre .0) (c .before .before .before .before .before .before .before .pre .1 .0))
-
-add-d : tie.Need-add-d Inv-loop μ-loop
-add-d c = omega arith
+keep-limit-requires c κs = (
+  c .before .before .before .before .before .before .before .before .before .pre .0,
+  (
+    (c .before .before .before .before .before .before .before .before .before .pre .1 .0, c .before .before .before .before .before .before .before .before .before .pre .1 .1 .0),
+    (
+      omega arith,
+      subst (λ (k : ℕ). LimitsFrom (now (c .before .before .before .before .before .before .before .before .before .args .rows)) (now (c .before .before .before .before .before .before .before .before .before .args .limits)) (c .before .before .loop .kept) k) (let e : c .before .before .loop .l ≡ c .before .before .loop .l - 1 + 1 = omega arith in e) (c .before .before .loop .inv .1),
+    ),
+  ),
+)
 
 loop-less : tie.Need-loop-less Inv-loop μ-loop
 loop-less c = omega arith
 
 loop-again : tie.Need-loop-again Inv-loop μ-loop
-loop-again c = (omega arith, limits-more (now (c .before .before .before .before .before .before .before .before .before .args .rows)) (now (c .before .before .before .before .before .before .before .before .before .args .limits)) (c .before .before .before .before .before .loop .kept) _ (c .before .before .before .before .before .loop .d) _ (c .before .before .before .before .before .loop .inv .1) (c .before .before .before .variable-limit .ensures) (c .before .keep-limit .ensures))
+loop-again c = (omega arith, c .before .keep-limit .ensures)
 
 same-length : tie.Need-same-length Inv-loop μ-loop
-same-length c = c .before .loop .inv .1 .room ∙ sym (c .before .before .before .before .before .pre .1 .1 .1)
+same-length c = c .before .loop .inv .1 .room ∙ sym (c .before .before .before .before .before .before .before .before .pre .1 .1 .1)
 
 returns : tie.Need-returns Inv-loop μ-loop
-returns c = all-limits (now (c .before .before .before .before .before .args .rows)) (now (c .before .before .before .before .before .args .limits)) (c .before .loop .kept) (c .before .loop .d) (omega (arith, counted (now (c .before .before .before .before .before .args .rows)) (c .before .before .before .before .before .args .t) (c .before .before .before .before .before .pre .1 .0))) (c .before .loop .inv .1)
+returns c = subst (λ (k : ℕ). LimitsFrom (now (c .before .before .before .before .before .before .before .before .args .rows)) (now (c .before .before .before .before .before .before .before .before .args .limits)) (c .before .loop .kept) k) (let e : c .before .loop .l ≡ 0 = omega arith in e) (c .before .loop .inv .1)
 
 pub keep-limits-spec : {M : Type 1} → statement M
 keep-limits-spec =
@@ -45,10 +56,10 @@ keep-limits-spec =
     (tie.spec
     Inv-loop
     μ-loop
+    clear-cells-requires
     loop-holds
-    variable-limit-requires
+    sub-l
     keep-limit-requires
-    add-d
     loop-less
     loop-again
     same-length

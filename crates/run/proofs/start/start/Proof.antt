@@ -1,5 +1,9 @@
 -- `start` meets its contract, by `begun` from what each part ensures. Assumes nothing.
 use denote.Ref.{now}
+use mathlib.Core.Path.{ap, _∙_}
+use Prim.Native.Nat.{ℕ}
+use lib.IntN.{pos}
+use lib.ListN.{replicate}
 use Rattle.run.proofs.Keeping.{begun}
 use borrow.Author.Needs.{needs}
 use Rattle.run.proofs.start.start.Statement.{statement}
@@ -27,7 +31,7 @@ same-length-3 : tie.Need-same-length-3
 same-length-3 c = search needs
 
 returns : tie.Need-returns
-returns c = begun (now (c .before .before .before .before .before .before .before .before .before .before .before .before .before .before .before .before .before .args .rows)) (now (c .before .before .before .before .before .before .before .before .before .before .before .before .before .before .before .before .before .args .limits)) _ _ _ (c .before .before .before .before .before .before .before .before .before .before .before .before .before .before .before .before .before .pre .0) (c .before .before .before .before .before .before .before .before .before .before .before .before .clear-cells .ensures) (c .before .before .before .before .before .keep-yokes .ensures) (c .before .keep-limits .ensures)
+returns c = begun (now (c .before .before .before .before .before .before .before .before .before .before .before .before .before .before .before .before .before .args .rows)) (now (c .before .before .before .before .before .before .before .before .before .before .before .before .before .before .before .before .before .args .limits)) _ _ _ (c .before .before .before .before .before .before .before .before .before .before .before .before .before .before .before .before .before .pre .accepted) (c .before .before .before .before .before .before .before .before .before .before .before .before .clear-cells .ensures ∙ ap (λ (n : ℕ). replicate n (pos 0)) (c .before .before .before .before .before .before .before .before .before .before .before .before .before .before .before .before .before .pre .long-cells)) (c .before .before .before .before .before .keep-yokes .ensures) (c .before .keep-limits .ensures)
 
 pub start-spec : {M : Type 1} → statement M
 start-spec =

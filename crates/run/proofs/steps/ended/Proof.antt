@@ -6,19 +6,15 @@ use Rattle.run.proofs.steps.ended.Tie as tie
 use Rattle.run.proofs.steps.ended.Reads as reads
 use Rattle.run.proofs.steps.ended.Lts as lts
 
--- src/lib.rt:87:17
 sub-steps : tie.Need-sub-steps
 sub-steps c = search needs
 
--- src/lib.rt:89:9
 returns : tie.Need-returns
 returns c = ended-out _ _ (c .if1 .taken)
 
--- src/lib.rt:96:9
 returns-2 : tie.Need-returns-2
 returns-2 c = ended-failed _ _ (c .before .before .if1 .left) (c .if2 .taken)
 
--- src/lib.rt:82:1
 returns-3 : tie.Need-returns-3
 returns-3 c = ended-finished _ _ (c .before .before .if1 .left) (c .if2 .left) (c .before .before .before .before .pre .1 (c .before .before .if1 .left) (c .if2 .left))
 

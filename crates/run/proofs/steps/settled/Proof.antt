@@ -6,11 +6,9 @@ use Rattle.run.proofs.steps.settled.Tie as tie
 use Rattle.run.proofs.steps.settled.Reads as reads
 use Rattle.run.proofs.steps.settled.Lts as lts
 
--- src/lib.rt:59:9
 returns : tie.Need-returns
 returns c = search needs
 
--- src/lib.rt:55:1
 returns-2 : tie.Need-returns-2
 returns-2 c = records _ _ _ (c .if1 .left)
 

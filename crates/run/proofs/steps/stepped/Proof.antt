@@ -8,15 +8,12 @@ use Rattle.run.proofs.steps.stepped.Tie as tie
 use Rattle.run.proofs.steps.stepped.Reads as reads
 use Rattle.run.proofs.steps.stepped.Lts as lts
 
--- src/lib.rt:40:9
 returns : tie.Need-returns
 returns c = record { is = steps-none (c .before .before .args .m) (c .if1 .taken); error = refl; place = refl; fewer = λ e. absurd (true≢false e) }
 
--- src/lib.rt:50:15
 sub-t3 : tie.Need-sub-t3
 sub-t3 c = search needs
 
--- src/lib.rt:35:1
 returns-2 : tie.Need-returns-2
 returns-2 c = record { is = steps-one (c .before .before .before .args .m) (c .before .if1 .left); error = refl; place = refl; fewer = λ e. one-more _ (c .before .if1 .left) }
 

@@ -5,7 +5,7 @@ use Prim.Native.Nat.{ℕ, _<_}
 use native.Mathlib.Omega.{arith}
 use Rattle.lingua.specs.Numbers.{type-section}
 use Rattle.lingua.specs.Rows.{aAt, tableCount}
-use Rattle.profile.specs.Accepted.{counts}
+use Rattle.rules.specs.Accepted.{counts}
 use Rattle.typecheck.proofs.Parts.{within-bodies, declared-type, detail-is, detail-within, variable-holds}
 use Rattle.typecheck.proofs.leaves.variable_body.Statement.{statement}
 use Rattle.typecheck.proofs.leaves.variable_body.Tie as tie

@@ -13,7 +13,7 @@ simple-requires : tie.Need-simple-requires
 simple-requires c κs = search needs
 
 check-requires : tie.Need-check-requires
-check-requires c κs = record { ready = c .before .before .before .before .before .pre .0; here = c .before .before .before .before .before .pre .1 .1 .1 .0; held = record { body = boolean; holds = none-holds _ (c .before .simple .ensures) }; room = c .before .before .before .before .before .pre .1 .1 .1 .1 }
+check-requires c κs = record { ready = c .before .before .before .before .before .pre .ready; here = c .before .before .before .before .before .pre .here; held = record { body = boolean; holds = none-holds _ (c .before .simple .ensures) }; room = c .before .before .before .before .before .pre .room }
 
 settled-requires : tie.Need-settled-requires
 settled-requires c κs = search needs
@@ -25,16 +25,16 @@ returns : tie.Need-returns
 returns c = assign-fails _ _ _ _ (c .before .before .before .before .before .check .result) (c .settled .result) _ _ _ _ (c .before .before .before .before .before .check .ensures boolean (none-holds _ (c .before .before .before .before .before .before .before .simple .ensures))) (c .before .if1 .taken) (c .settled .ensures)
 
 variable-body-requires : tie.Need-variable-body-requires
-variable-body-requires c κs = search needs
+variable-body-requires c κs = (c .before .before .before .before .before .before .before .before .before .before .pre .ready, c .before .before .before .before .before .before .before .before .before .before .pre .declared)
 
 same-requires : tie.Need-same-requires
 same-requires c κs = search needs
 
 add-settled : tie.Need-add-settled
-add-settled c = search needs
+add-settled c = omega (arith, c .before .before .before .before .before .before .before .before .before .before .before .before .before .before .pre .few)
 
 cast-settled : tie.Need-cast-settled
-cast-settled c = omega (arith, c .before .before .before .before .before .before .before .before .before .before .before .before .before .before .pre .1 .0)
+cast-settled c = omega (arith, c .before .before .before .before .before .before .before .before .before .before .before .before .before .before .pre .few)
 
 settled-requires-2 : tie.Need-settled-requires-2
 settled-requires-2 c κs = search needs

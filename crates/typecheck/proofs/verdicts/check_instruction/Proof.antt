@@ -2,7 +2,8 @@
 use denote.Ref.{now}
 use native.Mathlib.Omega.{arith}
 use Rattle.lingua.specs.Typing.{checkInstruction}
-use Rattle.profile.specs.Accepted.{counts}
+use Rattle.rules.specs.Accepted.{counts}
+use Rattle.profile.specs.Known.{instruction-row-known}
 use Rattle.profile.specs.Facts.{InstructionFacts, instructionRowTree}
 use Rattle.typecheck.proofs.Rows.{instruction-at, instruction-tree-at}
 use Rattle.profile.specs.Yokes.{every-yoke}
@@ -18,7 +19,7 @@ cast-place : tie.Need-cast-place
 cast-place c = omega (arith, c .before .before .before .pre .1 .0, counts (now (c .before .before .before .args .rows)) (c .before .before .before .pre .0 .accepted .counts) .instructions .most)
 
 instruction-row-requires : tie.Need-instruction-row-requires
-instruction-row-requires c κs = search needs
+instruction-row-requires c κs = (c .before .before .before .before .pre .0 .tables .instructions, (omega (arith, c .before .before .before .before .pre .1 .0, c .before .before .before .before .pre .0 .tables .instructions .count), instruction-row-known _ (c .before .before .before .before .pre .0 .accepted) _ (c .before .before .before .before .pre .1 .0)))
 
 enum-told : tie.Need-enum-told
 enum-told c = search needs
@@ -33,7 +34,7 @@ check-assignment-requires : tie.Need-check-assignment-requires
 unfolding InstructionFacts
 check-assignment-requires c κs =
     let f = instruction-at (now (c .before .before .before .before .before .before .before .before .before .args .rows)) (c .before .before .before .before .before .before .before .before .before .pre .0 .accepted) (c .before .before .before .before .before .before .before .before .before .args .row) (c .before .before .before .before .before .before .before .before .before .pre .1 .0) _ _ (c .before .before .before .before .instruction-row .ensures) (c .before .before .i .given .1) in
-    (c .before .before .before .before .before .before .before .before .before .pre .0, (omega (arith, c .before .before .before .before .before .before .before .before .before .pre .1 .0, counts (now (c .before .before .before .before .before .before .before .before .before .args .rows)) (c .before .before .before .before .before .before .before .before .before .pre .0 .accepted .counts) .instructions .most), (f .0, (f .1, c .before .before .before .before .before .before .before .before .before .pre .1 .1))))
+    record { ready = c .before .before .before .before .before .before .before .before .before .pre .0; few = omega (arith, c .before .before .before .before .before .before .before .before .before .pre .1 .0, counts (now (c .before .before .before .before .before .before .before .before .before .args .rows)) (c .before .before .before .before .before .before .before .before .before .pre .0 .accepted .counts) .instructions .most); declared = f .0; here = f .1; room = c .before .before .before .before .before .before .before .before .before .pre .1 .1 }
 
 enum-known-i-2 : tie.Need-enum-known-i-2
 enum-known-i-2 c = search needs

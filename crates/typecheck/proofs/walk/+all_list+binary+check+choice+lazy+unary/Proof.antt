@@ -8,7 +8,7 @@ use mathlib.Core.Path.{_≡_, refl, sym, ap, _∙_}
 use lib.ListN.{length}
 use borrow.Author.Tests.{not-true, not-false}
 use Rattle.lingua.specs.Operations.{unaryMeaning}
-use Rattle.profile.specs.Accepted.{expression-attributes}
+use Rattle.profile.specs.Known.{row-known}
 use Rattle.profile.specs.Facts.{RowFacts, rowTree}
 use Rattle.typecheck.proofs.Rows.{facts-at, tree-at, asked-below, asked-room, asked-small}
 use Rattle.typecheck.proofs.Returns.{Passed, passed, result-held, half-held, half-small, constant-passes, variable-passes, current-passes, unary-operand, unary-own, unary-passes, binary-first, binary-second, binary-own, binary-passes, lazy-first, lazy-first-own, lazy-second, lazy-second-own, lazy-passes, choice-test, choice-test-own, choice-first, choice-second, choice-own, choice-passes, all-list-own, element-of, all-list-inner, all-list-result, all-list-passes}
@@ -47,22 +47,22 @@ use Rattle.typecheck.proofs.walk.+all_list+binary+check+choice+lazy+una
 use Rattle.typecheck.proofs.walk.+all_list+binary+check+choice+lazy+unary.Tie.{close}
 
 abbrev μ-all-list : Measures 3 all-list-kinds.ps ℕ
-μ-all-list κs a = 2 * a .1 .1 .1 .0
+μ-all-list κs a = 2 * a .0
 
 abbrev μ-binary : Measures 3 binary-kinds.ps ℕ
-μ-binary κs a = 2 * a .1 .1 .1 .0
+μ-binary κs a = 2 * a .0
 
 abbrev μ-check : Measures 3 check-kinds.ps ℕ
-μ-check κs a = 2 * a .1 .1 .1 .0 + 1
+μ-check κs a = 2 * a .0 + 1
 
 abbrev μ-choice : Measures 3 choice-kinds.ps ℕ
-μ-choice κs a = 2 * a .1 .1 .1 .0
+μ-choice κs a = 2 * a .0
 
 abbrev μ-lazy : Measures 3 lazy-kinds.ps ℕ
-μ-lazy κs a = 2 * a .1 .1 .1 .0
+μ-lazy κs a = 2 * a .0
 
 abbrev μ-unary : Measures 3 unary-kinds.ps ℕ
-μ-unary κs a = 2 * a .1 .1 .1 .0
+μ-unary κs a = 2 * a .0
 
 abbrev all-list-at : ℕ → In 3 all-list-kinds.ps
 all-list-at t = and 3 all-list-kinds.ps (is 3 all-list-kinds.ps μ-all-list t) all-list.Pre
@@ -234,7 +234,7 @@ binary-returns-4 t c = λ d h.
     binary-passes _ _ _ _ _ _ _ _ _ p _ _ q (c .before .before .before .before .before .before .before .binary-half .result) (c .before .before .before .before .before .before .before .binary-half .ensures _ _ (p .passes .holds) (q .passes .holds)) (c .before .before .noted .result) _ (c .before .before .before .before .before .if3 .left) (c .before .before .noted .ensures)
 
 check-expression-row-requires : (t : ℕ) → check-lts.Need-expression-row-requires (check-calls t) (check-at t) check.Post
-check-expression-row-requires t c κs = (c .before .before .before .before .pre .1 .ready .tables .expressions, (omega (arith, c .before .before .before .before .pre .1 .here, c .before .before .before .before .pre .1 .ready .tables .expressions .count), expression-attributes _ (c .before .before .before .before .pre .1 .ready .accepted .constants) _ (c .before .before .before .before .pre .1 .here)))
+check-expression-row-requires t c κs = (c .before .before .before .before .pre .1 .ready .tables .expressions, (omega (arith, c .before .before .before .before .pre .1 .here, c .before .before .before .before .pre .1 .ready .tables .expressions .count), row-known _ (c .before .before .before .before .pre .1 .ready .accepted) _ (c .before .before .before .before .pre .1 .here)))
 
 check-enum-told : (t : ℕ) → check-lts.Need-enum-told (check-calls t) (check-at t) check.Post
 check-enum-told t c = search needs

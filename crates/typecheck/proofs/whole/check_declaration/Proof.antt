@@ -8,7 +8,7 @@ use Rattle.lingua.specs.Body.{Body}
 use Rattle.lingua.specs.Rows.{bAt, tableCount}
 use Rattle.lingua.specs.References.{declaredYoke}
 use Rattle.body.specs.Encode.{Holds}
-use Rattle.profile.specs.Accepted.{counts}
+use Rattle.rules.specs.Accepted.{counts}
 use Rattle.typecheck.specs.Verdicts.{declarationCheck}
 use Rattle.profile.specs.Yokes.{all-yoke}
 use Rattle.typecheck.proofs.Parts.{variable-is, declared-yoke, detail-is, detail-within}

@@ -12,12 +12,12 @@ use Rattle.lingua.specs.Expression.{loop}
 use Rattle.lingua.specs.Trees.{expressionTree, instructionTree}
 use Rattle.lingua.specs.Run.{exec as meaning}
 use Rattle.profile.specs.Facts.{InstructionFacts, instructionRowTree}
-use Rattle.run.specs.Moments.{stateOf}
+use Rattle.run.specs.Statuses.{stateOf}
 use Rattle.run.specs.Reached.{lent}
 use Rattle.run.specs.Acting.{going-after, stays, reaches-as}
 use Rattle.run.specs.Instructing.{sequence-out, sequence-on, branch-passed, branch-out, branch-failed, branch-yes, branch-no, handle-out, handle-other, handle-own, cleared-going, Turning, first-turn, turns-over, turn-out, turn-failed, turn-last, body-out, fewer-left, next-turn}
 use Rattle.walk.specs.Meaning.{context, Holds}
-use Rattle.walk.proofs.Rows.{meant-as, narrow, facts, executes, branch-test, loop-test, part, onward-asked}
+use Rattle.walk.proofs.Rows.{kind-known, meant-as, narrow, facts, executes, branch-test, loop-test, part, onward-asked}
 use Prim.Native.Nat.{ℕ, _<_}
 use borrow.Fn.Kinds.{In}
 use borrow.Fn.PlainCycle.{Measures, is, falls, and}
@@ -160,7 +160,7 @@ unfolding instructionRowTree
 branch-returns-5 t c = executes (c .before .before .before .before .before .before .before .before .before .before .before .before .before .before .before .before .before .before .before .before .before .before .before .before .pre .1 .0) (c .before .before .before .before .before .before .before .before .before .before .before .before .before .before .before .before .before .before .before .before .before .before .before .before .pre .1 .1) (λ vs h. reaches-as (branch-no (c .before .before .before .before .before .before .before .before .before .before .before .before .before .before .before .before .before .stepped .ensures) (c .before .before .before .before .before .before .before .before .before .before .before .before .before .before .before .before .before .before .if1 .left) vs _ _ _ _ (c .before .before .before .before .before .before .before .before .before .before .before .before .before .before .before .before .if2 .left) (c .before .before .before .before .before .before .before .before .before .before .before .before .test .ensures _ .tells vs h) (c .before .before .before .before .before .before .before .before .before .if3 .left) (c .before .before .before .before .before .before .before .before .if4 .left)) (c .before .before .before .before .exec2 .ensures .reaches vs h))
 
 exec-instruction-row-requires : (t : ℕ) → exec-lts.Need-instruction-row-requires (exec-calls t) (exec-at t) exec.Post
-exec-instruction-row-requires t c κs = (c .before .before .before .before .pre .1 .instructions, c .before .before .before .before .pre .1 .there)
+exec-instruction-row-requires t c κs = (c .before .before .before .before .pre .1 .instructions, (c .before .before .before .before .pre .1 .there, kind-known (c .before .before .before .before .pre .1)))
 
 exec-enum-told : (t : ℕ) → exec-lts.Need-enum-told (exec-calls t) (exec-at t) exec.Post
 exec-enum-told t c = search needs

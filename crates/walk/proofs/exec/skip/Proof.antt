@@ -4,15 +4,12 @@ use borrow.Author.Needs.{needs}
 use Rattle.walk.proofs.exec.skip.Statement.{statement}
 use Rattle.walk.proofs.exec.skip.Tie as tie
 
--- src/exec.rt:33:9
 returns : tie.Need-returns
 returns c = λ row. skip-passed row (c .before .before .pre) (c .if1 .taken)
 
--- src/exec.rt:35:5
 stepped-requires : tie.Need-stepped-requires
 stepped-requires c κs = search needs
 
--- src/exec.rt:28:1
 returns-2 : tie.Need-returns-2
 returns-2 c = λ row. skip-stepped row (c .before .before .before .pre) (c .stepped .ensures) (c .before .if1 .left)
 

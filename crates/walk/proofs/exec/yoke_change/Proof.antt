@@ -7,45 +7,35 @@ use borrow.Author.Needs.{needs}
 use Rattle.walk.proofs.exec.yoke_change.Statement.{statement}
 use Rattle.walk.proofs.exec.yoke_change.Tie as tie
 
--- src/exec.rt:97:9
 returns : tie.Need-returns
 unfolding instructionRowTree
 returns c = executes (c .before .before .before .before .before .before .pre .0) (c .before .before .before .before .before .before .pre .1) (λ vs h. change-passed vs h (c .before .before .before .before .before .before .pre .0 .going) _ _ _ (c .if1 .taken))
 
--- src/exec.rt:99:9
 stepped-requires : tie.Need-stepped-requires
 stepped-requires c κs = search needs
 
--- src/exec.rt:101:9
 returns-2 : tie.Need-returns-2
 unfolding instructionRowTree
 returns-2 c = executes (c .before .before .before .before .before .before .before .before .pre .0) (c .before .before .before .before .before .before .before .before .pre .1) (λ vs h. change-out vs h (c .before .before .before .before .before .before .before .before .pre .0 .going) _ _ _ (c .before .stepped .ensures) (c .before .before .if1 .left) (c .if2 .taken))
 
--- src/exec.rt:113:9
 cast-change-yoke : tie.Need-cast-change-yoke
 cast-change-yoke c = record { fits = few-yokes (c .before .before .before .before .before .before .before .before .before .pre .0) (c .before .before .before .before .before .before .before .before .before .pre .1) }
 
--- src/exec.rt:103:9
 change-yoke-requires : tie.Need-change-yoke-requires
 change-yoke-requires c κs = (c .before .before .before .before .before .before .before .before .before .before .pre .0 .standing, yoke-row (c .before .before .before .before .before .before .before .before .before .before .pre .0) (c .before .before .before .before .before .before .before .before .before .before .pre .1))
 
--- src/exec.rt:116:27
 cast-settled : tie.Need-cast-settled
 cast-settled c = record { fits = narrow (c .before .before .before .before .before .before .before .before .before .before .before .before .before .before .pre .0) }
 
--- src/exec.rt:116:5
 settled-requires : tie.Need-settled-requires
 settled-requires c κs = search needs
 
--- src/exec.rt:76:1
 same-length : tie.Need-same-length
 same-length c = search needs
 
--- src/exec.rt:76:1
 same-length-2 : tie.Need-same-length-2
 same-length-2 c = search needs
 
--- src/exec.rt:76:1
 returns-3 : tie.Need-returns-3
 unfolding instructionRowTree
 returns-3 c = executes (c .before .before .before .before .before .before .before .before .before .before .before .before .before .before .before .pre .0) (c .before .before .before .before .before .before .before .before .before .before .before .before .before .before .before .pre .1) (λ vs h. change-settled vs h (c .before .before .before .before .before .before .before .before .before .before .before .before .before .before .before .pre .0 .going) _ _ _ (c .before .before .before .before .before .before .before .before .stepped .ensures) (c .before .before .before .before .before .before .before .before .before .if1 .left) _ _ (c .before .before .before .before .before .before .before .if2 .left) (c .before .before .before .before .change-yoke .ensures .settles vs h) (c .settled .ensures))

@@ -6,27 +6,21 @@ use borrow.Author.Needs.{needs}
 use Rattle.walk.proofs.inputs.take_one.Statement.{statement}
 use Rattle.walk.proofs.inputs.take_one.Tie as tie
 
--- src/inputs.rt:41:9
 take-reading-requires : tie.Need-take-reading-requires
 take-reading-requires c κs = search needs
 
--- src/inputs.rt:54:5
 settled-requires : tie.Need-settled-requires
 settled-requires c κs = search needs
 
--- src/inputs.rt:21:1
 same-length : tie.Need-same-length
 same-length c = search needs
 
--- src/inputs.rt:21:1
 same-length-2 : tie.Need-same-length-2
 same-length-2 c = search needs
 
--- src/inputs.rt:21:1
 same-length-3 : tie.Need-same-length-3
 same-length-3 c = search needs
 
--- src/inputs.rt:21:1
 returns : tie.Need-returns
 returns c = takes _ (c .before .before .before .before .before .take-reading .result) (c .before .before .before .before .before .before .before .before .before .before .before .before .before .args .place) _ _ (c .before .before .before .before .before .before .before .before .before .before .before .before .before .pre .1 .1 .0) (c .settled .ensures) (stores-number _ (toZ-ofZ _ _ (c .before .before .before .before .before .before .before .before .before .before .before .before .before .fits .z)) (c .before .before .before .before .before .take-reading .ensures))
 

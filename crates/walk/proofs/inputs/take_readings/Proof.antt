@@ -20,83 +20,63 @@ abbrev μ-loop : tie.MeasureT-loop
 μ-loop way rows t bodies layout limits cells₀ states₀ who numbers stack₀ count moment₀ i₀ cells states stack moment i =
     length who - i
 
--- src/inputs.rt:79:5
 loop-holds : tie.Need-loop-holds Inv-loop μ-loop
 loop-holds c = (taking-first (c .before .before .before .before .before .pre .1 .0), omega arith, refl, refl, refl)
 
--- src/inputs.rt:81:13
 same-length : tie.Need-same-length Inv-loop μ-loop
 same-length c = search needs
 
--- src/inputs.rt:81:13
 same-length-2 : tie.Need-same-length-2 Inv-loop μ-loop
 same-length-2 c = search needs
 
--- src/inputs.rt:81:13
 same-length-3 : tie.Need-same-length-3 Inv-loop μ-loop
 same-length-3 c = search needs
 
--- src/inputs.rt:81:13
 returns : tie.Need-returns Inv-loop μ-loop
 returns c = taking-stops (c .before .before .before .loop .inv .0) (λ z. omega (arith, c .if1 .taken))
 
--- src/inputs.rt:83:17
 mul-n : tie.Need-mul-n Inv-loop μ-loop
 mul-n c = search needs
 
--- src/inputs.rt:83:17
 shared-slice-read-n : tie.Need-shared-slice-read-n Inv-loop μ-loop
 shared-slice-read-n c = search needs
 
--- src/inputs.rt:83:17
 cast-n : tie.Need-cast-n Inv-loop μ-loop
 cast-n c = omega (arith, c .shared-slice-known5 .given (c .before .before .before .before .loop .i))
 
--- src/inputs.rt:84:17
 mul-z : tie.Need-mul-z Inv-loop μ-loop
 mul-z c = search needs
 
--- src/inputs.rt:84:17
 shared-slice-copy-out-z : tie.Need-shared-slice-copy-out-z Inv-loop μ-loop
 shared-slice-copy-out-z c = search needs
 
--- src/inputs.rt:85:22
 add-place : tie.Need-add-place Inv-loop μ-loop
 add-place c = search needs
 
--- src/inputs.rt:85:21
 cast-place : tie.Need-cast-place Inv-loop μ-loop
 cast-place c = record { fits = omega (arith, few-readings (c .before .before .before .before .before .before .before .before .before .before .before .pre .1 .1), c .before .before .before .before .loop-test .taken) }
 
--- src/inputs.rt:86:9
 take-one-requires : tie.Need-take-one-requires Inv-loop μ-loop
 take-one-requires c κs = (taking-standing (c .before .before .before .before .before .before .before .before .loop .inv .0) (c .before .before .before .before .before .before .before .before .before .before .before .before .before .before .pre .0) (omega (arith, c .before .before .before .before .before .before .before .before .loop .inv .2)), (reads-variable (c .before .before .before .before .before .before .before .before .before .before .before .before .before .before .pre .1 .1) (c .before .before .before .before .before .before .before .before .loop .i) (omega arith), (c .before .before .before .before .before .before .before .before .loop .inv .0 .goes, omega (arith, c .before .before .before .before .before .if1 .left))))
 
--- src/inputs.rt:101:9
 add-i : tie.Need-add-i Inv-loop μ-loop
 add-i c = omega (arith, c .before .before .before .before .before .before .before .before .before .before .before .before .loop-test .taken, few-readings (c .before .before .before .before .before .before .before .before .before .before .before .before .before .before .before .before .before .before .before .pre .1 .1))
 
--- src/inputs.rt:79:5
 loop-less : tie.Need-loop-less Inv-loop μ-loop
 loop-less c = search needs
 
--- src/inputs.rt:79:5
 loop-again : tie.Need-loop-again Inv-loop μ-loop
 loop-again c = (taking-more (c .before .before .before .before .before .before .before .before .before .before .before .before .before .loop .inv .0) _ _ _ _ (c .before .before .before .before .take-one .ensures) (c .before .before .before .before .before .before .before .before .before .before .before .before .before .before .before .before .before .before .before .pre .1 .1 .same-length) (omega arith) refl (cell-back _ (c .before .before .before .before .before .before .before .before .z .given)) refl (omega (arith, c .before .before .before .before .before .before .before .before .before .before .if1 .left)), omega arith, omega (arith, c .before .before .before .before .take-one .kept, c .before .before .before .before .before .before .before .before .before .before .before .before .before .loop .inv .2), omega (arith, c .before .before .before .before .take-one .kept, c .before .before .before .before .before .before .before .before .before .before .before .before .before .loop .inv .3), omega (arith, c .before .before .before .before .take-one .kept, c .before .before .before .before .before .before .before .before .before .before .before .before .before .loop .inv .4))
 
--- src/inputs.rt:57:1
 same-length-4 : tie.Need-same-length-4 Inv-loop μ-loop
 same-length-4 c = search needs
 
--- src/inputs.rt:57:1
 same-length-5 : tie.Need-same-length-5 Inv-loop μ-loop
 same-length-5 c = search needs
 
--- src/inputs.rt:57:1
 same-length-6 : tie.Need-same-length-6 Inv-loop μ-loop
 same-length-6 c = search needs
 
--- src/inputs.rt:57:1
 returns-2 : tie.Need-returns-2 Inv-loop μ-loop
 returns-2 c = taking-ends (c .before .loop .inv .0) (omega arith)
 

@@ -5,55 +5,42 @@ use borrow.Author.Needs.{needs}
 use Rattle.walk.proofs.leaves.assign.Statement.{statement}
 use Rattle.walk.proofs.leaves.assign.Tie as tie
 
--- src/leaves.rt:43:64
 enum-told : tie.Need-enum-told
 enum-told c = search needs
 
--- src/leaves.rt:43:17
 eval-plain-requires : tie.Need-eval-plain-requires
 eval-plain-requires c κs = let r = checked-standing (c .before .before .before .enum-told .given .1) (c .before .before .before .before .before .before .before .before .before .pre .0) in (record { store = c .before .before .before .before .before .before .before .before .before .pre .0 .store; world = r .world }, (c .before .before .before .before .before .before .before .before .before .pre .1 .1, omega (arith, c .before .before .before .before .before .before .before .before .before .pre .1 .1, c .before .before .before .before .before .before .before .before .before .pre .0 .enough)))
 
--- src/leaves.rt:44:13
 assign-requires : tie.Need-assign-requires
 assign-requires c κs = let r = checked-standing (c .before .before .before .before .before .before .before .before .enum-told .given .1) (c .before .before .before .before .before .before .before .before .before .before .before .before .before .before .pre .0) in (record { store = c .before .before .before .before .before .before .before .before .before .before .before .before .before .before .pre .0 .store; running = r; there = omega (arith, c .before .before .before .before .before .before .before .before .before .before .before .before .before .before .pre .1 .0, r .world .count); given = record { outcome = _; gives = c .before .before .before .before .eval-plain .ensures (c .before .before .before .before .before .before .before .before .before .before .before .before .before .before .pre .0 .store) (r .world) } }, omega (arith, c .before .before .before .before .before .before .before .before .before .before .before .before .before .before .pre .0 .enough, c .before .before .before .before .eval-plain .kept))
 
--- src/leaves.rt:46:62
 enum-told-2 : tie.Need-enum-told-2
 enum-told-2 c = search needs
 
--- src/leaves.rt:46:24
 assign-requires-2 : tie.Need-assign-requires-2
 assign-requires-2 c κs = (erased-standing (c .before .before .before .enum-told2 .given .1) (c .before .before .before .before .before .before .before .before .before .pre .0), (c .before .before .before .before .before .before .before .before .before .pre .1, c .before .before .before .before .before .before .before .before .before .pre .0 .enough))
 
--- src/leaves.rt:23:1
 same-length : tie.Need-same-length
 same-length c = search needs
 
--- src/leaves.rt:23:1
 same-length-2 : tie.Need-same-length-2
 same-length-2 c = search needs
 
--- src/leaves.rt:23:1
 same-length-3 : tie.Need-same-length-3
 same-length-3 c = search needs
 
--- src/leaves.rt:23:1
 returns : tie.Need-returns
 returns c = checked-stores (c .before .before .before .before .before .before .before .before .before .before .before .before .before .enum-told .given .1) _ (λ vs r. c .before .before .before .before .assign .ensures vs _ r (omega (arith, c .before .before .before .before .before .before .before .before .before .before .before .before .before .before .before .before .before .before .before .pre .1 .0, r .world .count)) (c .before .before .before .before .before .before .before .before .before .eval-plain .ensures vs (r .world)))
 
--- src/leaves.rt:23:1
 same-length-4 : tie.Need-same-length-4
 same-length-4 c = search needs
 
--- src/leaves.rt:23:1
 same-length-5 : tie.Need-same-length-5
 same-length-5 c = search needs
 
--- src/leaves.rt:23:1
 same-length-6 : tie.Need-same-length-6
 same-length-6 c = search needs
 
--- src/leaves.rt:23:1
 returns-2 : tie.Need-returns-2
 returns-2 c = erased-stores (c .before .before .before .before .before .before .before .before .enum-told2 .given .1) _ (c .before .before .before .before .assign2 .ensures)
 

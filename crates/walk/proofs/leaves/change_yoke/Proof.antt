@@ -5,43 +5,33 @@ use borrow.Author.Needs.{needs}
 use Rattle.walk.proofs.leaves.change_yoke.Statement.{statement}
 use Rattle.walk.proofs.leaves.change_yoke.Tie as tie
 
--- src/leaves.rt:71:74
 enum-told : tie.Need-enum-told
 enum-told c = search needs
 
--- src/leaves.rt:71:13
 change-yoke-requires : tie.Need-change-yoke-requires
 change-yoke-requires c κs = let r = checked-standing (c .before .before .enum-told .given .1) (c .before .before .before .before .before .before .before .before .pre .0) in (record { store = c .before .before .before .before .before .before .before .before .pre .0 .store; running = r; there = omega (arith, c .before .before .before .before .before .before .before .before .pre .1 .0, r .world .count) }, (c .before .before .before .before .before .before .before .before .pre .1 .1, omega (arith, c .before .before .before .before .before .before .before .before .pre .1 .1, c .before .before .before .before .before .before .before .before .pre .0 .enough)))
 
--- src/leaves.rt:73:74
 enum-told-2 : tie.Need-enum-told-2
 enum-told-2 c = search needs
 
--- src/leaves.rt:73:24
 change-yoke-requires-2 : tie.Need-change-yoke-requires-2
 change-yoke-requires-2 c κs = (erased-standing (c .before .before .enum-told2 .given .1) (c .before .before .before .before .before .before .before .before .pre .0), (c .before .before .before .before .before .before .before .before .pre .1, c .before .before .before .before .before .before .before .before .pre .0 .enough))
 
--- src/leaves.rt:51:1
 same-length : tie.Need-same-length
 same-length c = search needs
 
--- src/leaves.rt:51:1
 same-length-2 : tie.Need-same-length-2
 same-length-2 c = search needs
 
--- src/leaves.rt:51:1
 returns : tie.Need-returns
 returns c = checked-stores (c .before .before .before .before .before .before .enum-told .given .1) _ (λ vs r. c .before .before .before .change-yoke .ensures vs r (omega (arith, c .before .before .before .before .before .before .before .before .before .before .before .before .pre .1 .0, r .world .count)))
 
--- src/leaves.rt:51:1
 same-length-3 : tie.Need-same-length-3
 same-length-3 c = search needs
 
--- src/leaves.rt:51:1
 same-length-4 : tie.Need-same-length-4
 same-length-4 c = search needs
 
--- src/leaves.rt:51:1
 returns-2 : tie.Need-returns-2
 returns-2 c = erased-stores (c .before .before .before .before .before .before .enum-told2 .given .1) _ (c .before .before .before .change-yoke2 .ensures)
 

@@ -6,51 +6,39 @@ use borrow.Author.Needs.{needs}
 use Rattle.walk.proofs.leaves.take_reading.Statement.{statement}
 use Rattle.walk.proofs.leaves.take_reading.Tie as tie
 
--- src/leaves.rt:121:69
 enum-told : tie.Need-enum-told
 enum-told c = search needs
 
--- src/leaves.rt:121:13
 take-reading-requires : tie.Need-take-reading-requires
 take-reading-requires c κs = let r = checked-standing (c .before .before .before .enum-told .given .1) (c .before .before .before .before .before .before .before .before .before .pre .0) in (record { store = c .before .before .before .before .before .before .before .before .before .pre .0 .store; running = r; there = omega (arith, c .before .before .before .before .before .before .before .before .before .pre .1 .0, r .world .count) }, c .before .before .before .before .before .before .before .before .before .pre .0 .enough)
 
--- src/leaves.rt:123:68
 enum-told-2 : tie.Need-enum-told-2
 enum-told-2 c = search needs
 
--- src/leaves.rt:123:24
 take-reading-requires-2 : tie.Need-take-reading-requires-2
 take-reading-requires-2 c κs = (erased-standing (c .before .before .before .enum-told2 .given .1) (c .before .before .before .before .before .before .before .before .before .pre .0), (c .before .before .before .before .before .before .before .before .before .pre .1, c .before .before .before .before .before .before .before .before .before .pre .0 .enough))
 
--- src/leaves.rt:101:1
 same-length : tie.Need-same-length
 same-length c = search needs
 
--- src/leaves.rt:101:1
 same-length-2 : tie.Need-same-length-2
 same-length-2 c = search needs
 
--- src/leaves.rt:101:1
 same-length-3 : tie.Need-same-length-3
 same-length-3 c = search needs
 
--- src/leaves.rt:101:1
 returns : tie.Need-returns
 returns c = stores-number _ (toZ-ofZ _ _ (c .before .before .before .before .before .before .before .before .before .before .before .before .before .before .fits .z)) (checked-stores (c .before .before .before .before .before .before .before .before .enum-told .given .1) _ (λ vs r. c .before .before .before .before .take-reading .ensures vs r (omega (arith, c .before .before .before .before .before .before .before .before .before .before .before .before .before .before .pre .1 .0, r .world .count))))
 
--- src/leaves.rt:101:1
 same-length-4 : tie.Need-same-length-4
 same-length-4 c = search needs
 
--- src/leaves.rt:101:1
 same-length-5 : tie.Need-same-length-5
 same-length-5 c = search needs
 
--- src/leaves.rt:101:1
 same-length-6 : tie.Need-same-length-6
 same-length-6 c = search needs
 
--- src/leaves.rt:101:1
 returns-2 : tie.Need-returns-2
 returns-2 c = stores-number _ (toZ-ofZ _ _ (c .before .before .before .before .before .before .before .before .before .before .before .before .before .before .fits .z)) (erased-stores (c .before .before .before .before .before .before .before .before .enum-told2 .given .1) _ (c .before .before .before .before .take-reading2 .ensures))
 

@@ -5,35 +5,27 @@ use borrow.Author.Needs.{needs}
 use Rattle.walk.proofs.leaves.test.Statement.{statement}
 use Rattle.walk.proofs.leaves.test.Tie as tie
 
--- src/leaves.rt:95:85
 enum-told : tie.Need-enum-told
 enum-told c = search needs
 
--- src/leaves.rt:95:25
 eval-test-requires : tie.Need-eval-test-requires
 eval-test-requires c κs = let r = checked-standing (c .before .enum-told .given .1) (c .before .before .before .before .before .before .before .pre .0 .standing) in (record { store = c .before .before .before .before .before .before .before .pre .0 .standing .store; world = r .world }, (c .before .before .before .before .before .before .before .pre .1 .0, omega (arith, c .before .before .before .before .before .before .before .pre .1 .0, c .before .before .before .before .before .before .before .pre .0 .standing .enough)))
 
--- src/leaves.rt:96:78
 enum-told-2 : tie.Need-enum-told-2
 enum-told-2 c = search needs
 
--- src/leaves.rt:96:24
 test-requires : tie.Need-test-requires
 test-requires c κs = (under-standing (c .before .enum-told2 .given .1) (c .before .before .before .before .before .before .before .pre .0 .standing), (c .before .before .before .before .before .before .before .pre .1, c .before .before .before .before .before .before .before .pre .0 .standing .enough))
 
--- src/leaves.rt:78:1
 same-length : tie.Need-same-length
 same-length c = search needs
 
--- src/leaves.rt:78:1
 returns : tie.Need-returns
 returns c = λ limits. checked-tells (c .before .before .before .enum-told .given .1) (λ vs r. c .before .eval-test .ensures vs (r .world))
 
--- src/leaves.rt:78:1
 same-length-2 : tie.Need-same-length-2
 same-length-2 c = search needs
 
--- src/leaves.rt:78:1
 returns-2 : tie.Need-returns-2
 returns-2 c = λ limits. erased-tells (c .before .before .before .enum-told2 .given .1) (c .before .test .ensures limits)
 

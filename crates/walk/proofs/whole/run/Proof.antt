@@ -5,43 +5,33 @@ use borrow.Author.Needs.{needs}
 use Rattle.walk.proofs.whole.run.Statement.{statement}
 use Rattle.walk.proofs.whole.run.Tie as tie
 
--- src/run.rt:36:9
 fresh-requires : tie.Need-fresh-requires
 fresh-requires c κs = search needs
 
--- src/run.rt:49:9
 slice-aggregate-take-readings : tie.Need-slice-aggregate-take-readings
 slice-aggregate-take-readings c = search needs
 
--- src/run.rt:37:9
 take-readings-requires : tie.Need-take-readings-requires
 take-readings-requires c κs = (begins-standing (c .before .before .before .before .before .before .before .before .before .before .before .pre .1 .0), (fresh-going _ (c .before .before .before .before .before .before .before .before .before .before .before .args .budget) (c .before .before .before .fresh .ensures), c .before .before .before .before .before .before .before .before .before .before .before .pre .1 .1))
 
--- src/run.rt:51:15
 sub-row : tie.Need-sub-row
 sub-row c = some-row (c .before .before .before .before .before .before .before .before .before .before .before .before .before .before .before .before .before .pre .1 .0) (c .before .before .before .before .before .before .before .before .before .before .before .before .before .before .before .before .before .pre .0 .instructions)
 
--- src/run.rt:64:9
 slice-aggregate-exec : tie.Need-slice-aggregate-exec
 slice-aggregate-exec c = search needs
 
--- src/run.rt:52:9
 exec-requires : tie.Need-exec-requires
 exec-requires c κs = program-asked (c .before .before .before .before .before .before .before .before .before .before .before .before .before .before .before .before .before .before .before .before .pre .1 .0) (c .before .before .before .before .before .before .before .before .before .before .before .before .before .before .before .before .before .before .before .before .pre .0 .instructions) (c .before .before .before .before .before .before .before .before .take-readings .ensures) (omega (arith, c .before .before .before .before .before .before .before .before .take-readings .kept))
 
--- src/run.rt:66:5
 ended-requires : tie.Need-ended-requires
 ended-requires c κs = (left-within (c .before .before .before .before .before .before .before .before .before .before .before .before .before .before .before .before .before .before .before .before .before .before .before .before .before .pre .0 .instructions) (c .before .before .before .before .before .before .before .before .before .before .before .before .before .before .before .before .before .before .before .before .before .before .before .before .before .args .budget) (c .before .before .before .before .before .before .before .before .before .before .before .before .before .before .before .before .before .fresh .ensures) (c .before .before .before .before .before .before .before .before .before .before .before .before .before .take-readings .ensures) (c .before .before .before .before .exec .ensures) (c .before .before .before .before .before .before .before .before .before .before .before .before .before .before .before .before .before .before .before .before .before .before .before .before .before .pre .1 .0), end-clean (c .before .before .before .before .before .before .before .before .before .before .before .before .before .before .before .before .before .before .before .before .before .before .before .before .before .pre .0 .instructions) (c .before .before .before .before .before .before .before .before .before .before .before .before .before .before .before .before .before .before .before .before .before .before .before .before .before .args .budget) (c .before .before .before .before .before .before .before .before .before .before .before .before .before .before .before .before .before .fresh .ensures) (c .before .before .before .before .before .before .before .before .before .before .before .before .before .take-readings .ensures) (c .before .before .before .before .exec .ensures) (c .before .before .before .before .before .before .before .before .before .before .before .before .before .before .before .before .before .before .before .before .before .before .before .before .before .pre .1 .0))
 
--- src/run.rt:15:1
 same-length : tie.Need-same-length
 same-length c = search needs
 
--- src/run.rt:15:1
 same-length-2 : tie.Need-same-length-2
 same-length-2 c = search needs
 
--- src/run.rt:15:1
 returns : tie.Need-returns
 returns c = run-answered (c .before .before .before .before .before .before .before .before .before .before .before .before .before .before .before .before .before .before .before .before .before .before .before .before .before .before .pre .0 .instructions) (c .before .before .before .before .before .before .before .before .before .before .before .before .before .before .before .before .before .before .before .before .before .before .before .before .before .before .args .budget) (c .before .before .before .before .before .before .before .before .before .before .before .before .before .before .before .before .before .before .fresh .ensures) (c .before .before .before .before .before .before .before .before .before .before .before .before .before .before .take-readings .ensures) (c .before .before .before .before .before .exec .ensures) _ (c .ended .ensures)
 

@@ -1,0 +1,33 @@
+-- What a pair of files that is taken gives whoever goes on with its rows. Assumes nothing.
+use mathlib.Core.Path.{_≡_, sym, subst}
+use mathlib.Core.List.{List}
+use Prim.Native.Nat.{ℕ, _≤_}
+use native.Mathlib.Omega.{arith}
+use lib.ListN.{length, take}
+use Rattle.lingua.specs.Numbers.{type-section, limit-section}
+use Rattle.lingua.specs.Rows.{tableCount}
+use Rattle.lingua.specs.Refusal.{lowest, pairRules}
+use Rattle.safety.specs.Accepted.{AcceptedRows, accepted-pair}
+use Rattle.rules.specs.Tables.{IsTable, AreTables}
+use Rattle.rules.specs.Types.{BodiesBelow}
+use Rattle.pair.specs.Taken.{roomFor}
+use Rattle.pair.specs.declared.Pair.{Pair}
+use Rattle.pair.specs.Pair.{Room, TakenPair}
+
+-- buffers of these lengths have room
+pub room-there : (areas others bodies : List ℕ) → length areas ≡ 8500 → length others ≡ 500 → length bodies ≡ 3072 → Room areas others bodies
+unfolding roomFor
+room-there areas others bodies a o b = record { for-rows = omega (arith, a); for-limits = omega (arith, o); for-bodies = b }
+
+module _ {prof lims areas others bodies : List ℕ} {p : Pair} (h : TakenPair p prof lims areas others bodies) where
+  pub rows-accepted : lowest (pairRules prof lims) ≡ 0 → AcceptedRows (take (p .rows) areas)
+  rows-accepted e = subst (λ (rows : List ℕ). AcceptedRows rows) (sym (h .rows)) (accepted-pair prof lims e)
+
+  pub tables-there : AreTables (take (p .rows) areas) (p .tables)
+  tables-there = subst (λ (rows : List ℕ). AreTables rows (p .tables)) (sym (h .rows)) (h .tables)
+
+  pub named-there : IsTable (take (p .limits) others) limit-section (p .named)
+  named-there = subst (λ (rows : List ℕ). IsTable rows limit-section (p .named)) (sym (h .limits)) (h .named)
+
+  pub bodies-held : BodiesBelow (take (p .rows) areas) bodies (tableCount (take (p .rows) areas) type-section)
+  bodies-held = subst (λ (rows : List ℕ). BodiesBelow rows bodies (tableCount rows type-section)) (sym (h .rows)) (h .held)

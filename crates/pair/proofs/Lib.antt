@@ -1,0 +1,3 @@
+pub mod Returns
+pub mod Pairs
+pub mod Given

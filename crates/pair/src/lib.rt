@@ -1,0 +1,95 @@
+// Both files taken whole: the lowest number over both, or their rows and the bodies of the profile's types.
+use crate::file::take;
+use blocks::words::word16_at;
+use lingua::FileKind;
+use lingua::errors::BAD_LIMIT;
+use lingua::errors::MODELS_DIFFER;
+use lingua::errors::NO_ERROR;
+use profile::agreement::limit_wrong;
+use rules::tables::Table;
+use rules::tables::Tables;
+use rules::tables::no_tables;
+ghost use mathlib.Core.Path.{_≡_};
+ghost use Rattle.laws.specs.Lowest.{lesser};
+ghost use Rattle.pair.specs.Pair.{Room, PairIs};
+
+pub mod file; // file.rt: one file
+
+// The lowest rule of both files, 0 where none applies; then their rows are so many bytes, the profile's in these tables, and the limits in
+// this one.
+pub struct Pair {
+    pub refusal: u8,
+    pub rows: usize,
+    pub limits: usize,
+    pub tables: Tables,
+    pub named: Table,
+}
+
+// The lower of two refusals, where 0 is none.
+fn lower(a: u8, b: u8) -> u8
+    ensures { λ r. ⌜ r ≡ lesser a b ⌝ }
+{
+    if a == 0 {
+        return b;
+    }
+    if b == 0 {
+        return a;
+    }
+    if a < b {
+        return a;
+    }
+    b
+}
+
+// A refused pair has no rows.
+pub fn refused(number: u8) -> Pair
+    ensures { λ r. ⌜ r .refusal ≡ number ⌝ }
+{
+    let tables = no_tables();
+    let named = tables.limits;
+    Pair {
+        refusal: number,
+        rows: 0,
+        limits: 0,
+        tables: tables,
+        named: named,
+    }
+}
+
+// The profile comes last: the bodies that stay are those of its types.
+pub fn take_pair(
+    profile: &[u8],
+    limits: &[u8],
+    areas: &mut [u8],
+    others: &mut [u8],
+    bodies: &mut [u8],
+) -> Pair
+    requires { ⌜ Room (now areas) (now others) (now bodies) ⌝ }
+    ensures { λ r. ⌜ PairIs r (now (profile .entry)) (now (limits .entry)) (now (areas .exit)) (now (others .exit)) (now (bodies .exit)) ⌝ }
+{
+    let l = take(FileKind::Limits, limits, &mut *others, &mut *bodies);
+    let p = take(FileKind::Profile, profile, &mut *areas, &mut *bodies);
+    let own = lower(p.refusal, l.refusal);
+    if own != NO_ERROR {
+        return refused(own);
+    }
+    if word16_at(profile, 6) != word16_at(limits, 6) {
+        return refused(MODELS_DIFFER);
+    }
+    let n = p.length;
+    let m = l.length;
+    let tables = p.tables;
+    let declarations = tables.declarations;
+    let others_tables = l.tables;
+    let named = others_tables.limits;
+    if limit_wrong(&areas[..n], declarations, bodies, &others[..m], named) {
+        return refused(BAD_LIMIT);
+    }
+    Pair {
+        refusal: NO_ERROR,
+        rows: n,
+        limits: m,
+        tables: tables,
+        named: named,
+    }
+}

@@ -1,0 +1,29 @@
+-- `set_yoke` meets its contract, by what `setYokeAt` says. Assumes nothing.
+use mathlib.Core.Path.{refl}
+use Rattle.lingua.specs.Store.{setYokeAt}
+use borrow.Author.Needs.{needs}
+use Rattle.run.proofs.words.set_yoke.Statement.{statement}
+use Rattle.run.proofs.words.set_yoke.Tie as tie
+
+mul-states : tie.Need-mul-states
+mul-states c = search needs
+
+add-states : tie.Need-add-states
+add-states c = search needs
+
+mul-states-2 : tie.Need-mul-states-2
+mul-states-2 c = search needs
+
+slice-write-states : tie.Need-slice-write-states
+slice-write-states c = search needs
+
+same-length : tie.Need-same-length
+same-length c = search needs
+
+returns : tie.Need-returns
+unfolding setYokeAt
+returns c = refl
+
+pub set-yoke-spec : {M : Type 1} → statement M
+set-yoke-spec =
+    tie.close (tie.spec mul-states add-states mul-states-2 slice-write-states same-length returns)
