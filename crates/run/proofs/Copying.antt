@@ -6,7 +6,7 @@ use native.Mathlib.Numerals.{add-one}
 use native.Mathlib.Omega.{arith}
 use lib.IntN.{ℤ, pos}
 use lib.ListN.{length, take, drop, getD, set, length-drop}
-use lib.Seq.{drop-drop, getD-drop, take-suc, take-suc-set, paste, paste-suc}
+use lib.Seq.{drop-drop, getD-drop, take-suc, take-suc-set, paste, paste-zero, paste-suc}
 use Rattle.lingua.specs.Numbers.{body-cells}
 use Rattle.lingua.specs.Body.{Body, size}
 use Rattle.lingua.specs.Value.{Value, Fits, cellsOf}
@@ -20,6 +20,14 @@ cells-turn s from at i h k =
     ∙ ap (λ (j : ℕ). set (paste s 0 (drop at from) i) j (getD (drop at from) i (pos 0))) (let e : i ≡ 0 + i = omega arith in e)
     ∙ paste-suc s 0 (drop at from) i (pos 0) (omega arith) l
     ∙ ap (λ (n : ℕ). paste s 0 (drop at from) n) (sym (add-one i))
+
+-- one cell needs no loop
+pub one-cell : (s from : List ℤ) (at n : ℕ) (z : ℤ) → z ≡ getD from at (pos 0) → n ≡ 1 → 0 < length s → at < length from → set s 0 z ≡ paste s 0 (drop at from) n
+one-cell s from at n z e f h k =
+    ap (λ (x : ℤ). set s 0 x) (e ∙ ap (λ (j : ℕ). getD from j (pos 0)) (let j : at ≡ at + 0 = omega arith in j))
+    ∙ ap (λ (x : List ℤ). set x 0 (getD from (at + 0) (pos 0))) (paste-zero s 0 (drop at from))
+    ∙ cells-turn s from at 0 h (omega arith)
+    ∙ ap (λ (m : ℕ). paste s 0 (drop at from) m) (let m : 0 + 1 ≡ n = omega (arith, f) in m)
 
 pub front-turn : (out from : List ℤ) (i : ℕ) → i < length out → i < length from → take i out ≡ take i from → take (i + 1) (set out i (getD from i (pos 0))) ≡ take (i + 1) from
 front-turn out from i h k e =
