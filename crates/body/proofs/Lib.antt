@@ -15,3 +15,4 @@ pub mod Selecting
 pub mod Expanding
 pub mod Results
 pub mod Offsets
+pub mod Simple
