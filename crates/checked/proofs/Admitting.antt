@@ -2,20 +2,23 @@
 use mathlib.Core.Path.{_≡_, refl, sym, ap, _∙_, subst}
 use mathlib.Core.Bool.{Bool, true, false, _&&_}
 use mathlib.Core.List.{List}
-use Prim.Native.Nat.{ℕ, _≤_, _<_}
+use Prim.Native.Nat.{ℕ, _*_, _≤_, _<_}
 use native.Mathlib.Omega.{arith}
 use lib.IntN.{ℤ, pos}
-use lib.ListN.{length, getD}
+use lib.ListN.{length, take, drop, getD}
+use Rattle.lingua.specs.Numbers.{body-bytes}
 use Rattle.lingua.specs.Errors.{no-coherence, yoke-expected, yoke-not-satisfied}
 use Rattle.lingua.specs.Outcome.{Result, require, _>>=_, _>>_}
-use Rattle.lingua.specs.Body.{Body, size, isNumber, sameBody}
-use Rattle.lingua.specs.Value.{Value, Fits, fit-truth, fit-whole, fit-text, fit-items, fit-fields, asWhole, Composite}
-use Rattle.lingua.specs.Expression.{Yoke}
+use Rattle.lingua.specs.Body.{Body, size, isNumber, isBoolean, sameBody}
+use Rattle.lingua.specs.Value.{Value, Fits, fit-truth, fit-whole, fit-text, fit-items, fit-fields, asWhole, asTruth, Composite}
+use Rattle.lingua.specs.Expression.{Yoke, always}
 use Rattle.lingua.specs.Evaluation.{truthOr, evalYoke}
 use Rattle.lingua.specs.Store.{Variable, variableAt, contents, within, admitted, yokeAt}
 use Rattle.lingua.specs.Trees.{yokeTree}
 use Rattle.laws.specs.Outcomes.{is-number, false-is-true}
 use Rattle.rules.specs.declared.tables.Table.{Table}
+use Rattle.profile.specs.Yokes.{always-is}
+use Rattle.body.specs.Encode.{Holds}
 use Rattle.body.proofs.Tags as tags
 use Rattle.cells.specs.Stack.{Lies}
 use Rattle.cells.proofs.Operands.{lies-long}
@@ -26,7 +29,7 @@ use Rattle.run.specs.Reached.{lent, Tells}
 use Rattle.run.specs.Memory.{Admits}
 use Rattle.run.proofs.Parts
 use Rattle.run.proofs.Admitting.{admits-error}
-use Rattle.checked.specs.Meaning.{Running, Current, Gives}
+use Rattle.checked.specs.Meaning.{Bounds, Running, Current, Gives}
 use Rattle.checked.proofs.Storing.{memory-of}
 
 -- ---- a number's cell
@@ -55,6 +58,36 @@ module _ {rows : List ℕ} {t : Table} {variables : List ℕ} {limits cells : Li
 
   pub own-yoke : {k : ℕ} → k ≡ yokeAt states n → (x : Composite) → evalYoke (yokeTree rows k) (contents vs) x ≡ evalYoke (variableAt vs n .current) (contents vs) x
   own-yoke e x = ap (λ (y : Yoke). evalYoke y (contents vs) x) (ap (yokeTree rows) e ∙ Parts.own-yoke (memory-of (h .world .stored)) n lt (h .yokes n lt))
+
+-- ---- the checks without a yoke
+pub held-own : {variables : List ℕ} {limits : List ℤ} {n : ℕ} {v : Variable} → Bounds variables limits n v → {body : List ℕ} → body ≡ take body-bytes (drop (body-bytes * n) variables) → Holds body (v .body)
+held-own {v = v} b e = subst (λ (l : List ℕ). Holds l (v .body)) (sym e) (b .own)
+
+pub no-yoke : {rows : List ℕ} {t : Table} {variables : List ℕ} {limits cells : List ℤ} {states : List ℕ} {vs : List Variable} → Running rows t variables limits (lent cells states) vs → (n : ℕ) → n < length vs → {k : ℕ} → k ≡ yokeAt states n → k ≡ 0 → variableAt vs n .current ≡ always
+no-yoke {rows} h n lt {k} e z = sym (Parts.own-yoke (memory-of (h .world .stored)) n lt (h .yokes n lt)) ∙ ap (yokeTree rows) (sym e) ∙ always-is rows k z
+
+module _ (vs : List Variable) (v : Variable) (x : Composite) (free : v .current ≡ always) (b : Bool) (same : b ≡ sameBody (v .body) (x .body)) where
+  free-is : admitted vs v x ≡ (require b no-coherence >> require (within (v .limit) (asWhole (x .value))) yoke-not-satisfied)
+  unfolding admitted evalYoke truthOr isBoolean asTruth
+  free-is =
+      ap (λ (y : Yoke). evalYoke y (contents vs) x >>= λ w. require (sameBody (v .body) (x .body)) no-coherence >> (truthOr yoke-expected w >>= λ t. require (t && within (v .limit) (asWhole (x .value))) yoke-not-satisfied)) free
+      ∙ ap (λ (c : Bool). require c no-coherence >> require (within (v .limit) (asWhole (x .value))) yoke-not-satisfied) (sym same)
+
+  pub free-other-body : b ≡ false → Admits no-coherence (admitted vs v x)
+  free-other-body f = admits-error (λ e. omega arith) (free-is ∙ ap (λ (c : Bool). require c no-coherence >> require (within (v .limit) (asWhole (x .value))) yoke-not-satisfied) f)
+
+  module _ (f : b ≡ true) (c : Bool) (in-limit : c ≡ within (v .limit) (asWhole (x .value))) where
+    free-within : admitted vs v x ≡ require c yoke-not-satisfied
+    free-within =
+        free-is
+        ∙ ap (λ (d : Bool). require d no-coherence >> require (within (v .limit) (asWhole (x .value))) yoke-not-satisfied) f
+        ∙ ap (λ (t : Bool). require t yoke-not-satisfied) (sym in-limit)
+
+    pub free-out-of-limits : c ≡ false → Admits yoke-not-satisfied (admitted vs v x)
+    free-out-of-limits k = admits-error (λ j. omega arith) (free-within ∙ ap (λ (t : Bool). require t yoke-not-satisfied) k)
+
+    pub free-passes : c ≡ true → Admits 0 (admitted vs v x)
+    free-passes k = record { answer = λ j. free-within ∙ ap (λ (t : Bool). require t yoke-not-satisfied) k; error = λ j. absurd (j refl) }
 
 -- ---- the checks
 module _ (vs : List Variable) (v : Variable) (x : Composite) {y : Evaluated} {s : List ℤ} (g : Gives y s (evalYoke (v .current) (contents vs) x)) where

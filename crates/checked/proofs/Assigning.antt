@@ -2,12 +2,12 @@
 use mathlib.Core.Path.{_≡_, ap, _∙_}
 use mathlib.Core.List.{List, _++_}
 use Prim.Native.Nat.{ℕ, _+_, _*_, _<_}
+use native.Mathlib.Omega.{arith}
 use lib.IntN.{ℤ}
 use lib.ListN.{length, take, drop, set}
-use lib.Seq.{take-take, paste}
+use lib.Seq.{paste}
 use Rattle.lingua.specs.Numbers.{body-cells}
 use Rattle.lingua.specs.Outcome.{ok, fail, Result, _>>=_, _>>_}
-use Rattle.lingua.specs.Body.{size}
 use Rattle.lingua.specs.Value.{Composite}
 use Rattle.lingua.specs.Store.{Variable, variableAt, withContent, admitted, assigned, fillAt}
 use Rattle.safety.specs.Stored.{admitted-shows}
@@ -15,16 +15,21 @@ use Rattle.rules.specs.declared.tables.Table.{Table}
 use Rattle.checked.specs.declared.answer.Evaluated.{Evaluated}
 use Rattle.run.specs.Reached.{lent}
 use Rattle.run.specs.Memory.{Admits}
+use Rattle.cells.proofs.Operands.{lies-long}
+use Rattle.run.proofs.Copying.{copied-lies}
 use Rattle.run.proofs.Storing.{cells-stored, states-stored}
 use Rattle.run.proofs.Settling.{stores-as}
-use Rattle.checked.specs.Meaning.{Running, Current, Answers, Gives, Assigns}
+use Rattle.checked.specs.Meaning.{Bounds, Running, Current, Answers, Gives, Assigns}
 use Rattle.checked.proofs.Storing.{memory-of}
 use Rattle.checked.proofs.Keeping.{content-running}
 
--- the value by itself is a current value
-pub front-current : {x : Evaluated} {s : List ℤ} {o : Result Composite} (value : List ℤ) → value ≡ take body-cells s → (a : Answers x s o) → Current value (x .body) (a .value)
-front-current {x} {s} value e a = record {
-  lies = record { cells = ap (λ (l : List ℤ). take (size (a .value .body)) l) e ∙ take-take (size (a .value .body)) body-cells s (a .holds .few-cells) ∙ a .lies .cells; fit = a .lies .fit };
+-- the value, where it lies and by itself, is a current value
+pub here-current : {x : Evaluated} {s : List ℤ} {o : Result Composite} (a : Answers x s o) → Current s (x .body) (a .value)
+here-current a = record { lies = a .lies; holds = a .holds }
+
+pub copied-current : {x : Evaluated} {s : List ℤ} {o : Result Composite} (a : Answers x s o) (from value : List ℤ) → value ≡ paste from 0 (drop 0 s) (x .cells) → Current value (x .body) (a .value)
+copied-current {x} {s} a from value e = record {
+  lies = copied-lies from s 0 (x .cells) (a .value .body) (a .value .value) e (a .cells) (omega (arith, lies-long (a .lies), a .cells)) (a .lies .cells) (a .lies .fit);
   holds = a .holds;
 }
 
@@ -40,15 +45,18 @@ module _ {x : Evaluated} {s : List ℤ} {o : Result Composite} (vs : List Variab
   not-admitted f = assigned-is ∙ ap (λ (p : Result (Unit {0})). p >> ok (set vs n (withContent (variableAt vs n) (a .value)))) (admits .error f)
 
   pub stores : {rows : List ℕ} {t : Table} {variables : List ℕ} {limits cells : List ℤ} {states : List ℕ} → Running rows t variables limits (lent cells states) vs → n < length vs → e ≡ 0
-      → (value after : List ℤ) (words : List ℕ) → value ≡ take body-cells s
+      → (value after : List ℤ) (words : List ℕ) → Current value (x .body) (a .value)
       → after ≡ take (body-cells * n) cells ++ (paste (take body-cells (drop (body-cells * n) cells)) 0 value (x .cells) ++ drop (body-cells * n + body-cells) cells) → words ≡ fillAt states n
       → Assigns 0 rows t variables limits (lent cells states) (lent after words) (o >>= assigned vs n)
-  stores {rows} {t} {variables} {limits} {cells} {states} w lt z value after words v c q =
+  stores {rows} {t} {variables} {limits} {cells} {states} w lt z value after words cur c q =
       let g = admits .answer z in
       let b = admitted-shows vs (variableAt vs n) (a .value) g .coherent in
-      let cur = front-current value v a in
       stores-as (set vs n (withContent (variableAt vs n) (a .value)))
       (assigned-is ∙ ap (λ (p : Result (Unit {0})). p >> ok (set vs n (withContent (variableAt vs n) (a .value)))) g)
       (content-running w n lt (a .value) (a .lies .fit) b after words
       (c ∙ cells-stored (memory-of (w .world .stored)) n lt (a .value) (a .lies .fit) b value (x .cells) (a .cells) (ap (λ (k : ℕ). take k value) (a .cells) ∙ cur .lies .cells))
       (q ∙ states-stored vs n lt (a .value) (w .world .stored .states-are)))
+
+-- what the code keeps of a variable of the store
+pub bounds-of : {rows : List ℕ} {t : Table} {variables : List ℕ} {limits cells : List ℤ} {states : List ℕ} {vs : List Variable} → Running rows t variables limits (lent cells states) vs → (n : ℕ) → n < length vs → Bounds variables limits n (variableAt vs n)
+bounds-of w n lt = record { own = w .world .stored .bodies n lt; limited = w .limited n lt }

@@ -5,6 +5,7 @@ pub mod Storing
 pub mod Stacking
 pub mod Walking
 pub mod Cycle
+pub mod Simple
 pub mod Yokes
 pub mod Admitting
 pub mod Yoking

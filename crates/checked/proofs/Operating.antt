@@ -1,7 +1,7 @@
 -- An operation on evaluated operands, from its half on bodies and its half on values. Assumes nothing.
 use mathlib.Core.Path.{_≡_, refl, sym, ap, _∙_, subst}
 use mathlib.Core.List.{List}
-use Prim.Native.Nat.{ℕ}
+use Prim.Native.Nat.{ℕ, zero, suc}
 use native.Mathlib.Omega.{arith}
 use lib.ListN.{drop}
 use lib.IntN.{ℤ}
@@ -20,7 +20,7 @@ use Rattle.cells.proofs.Operands.{lies-above}
 use Rattle.cells.specs.Operands.{Operand, HasOperand, Operands, HasOperands}
 use Rattle.body.specs.Half.{Half, Half-passes}
 use Rattle.checked.specs.declared.answer.Evaluated.{Evaluated}
-use Rattle.checked.specs.Meaning.{Answers, Gives, Given}
+use Rattle.checked.specs.Meaning.{Answers, Gives, Given, simpleEvaluated, SimpleAnswer}
 use Rattle.checked.proofs.Giving.{gives-answer, gives-error}
 
 pub given-held : {x : Evaluated} {s : List ℤ} → Given x s → x .error ≡ 0 → Held (x .body)
@@ -179,3 +179,8 @@ module _ (o : Binary) (x y : Evaluated) (s : List ℤ) where
       gives-error (y .error) refl f
       (ap (λ (r : Result Composite). r >>= λ u. q >>= λ v. applyBinary o u v) (a .is)
       ∙ ap (λ (r : Result Composite). r >>= λ v. applyBinary o (a .value) v) (k .error f))
+
+-- ---- a simple value by its tag, or the values' half's error
+pub simple-ends : {r : Evaluated} {t : ℕ} {s : List ℤ} {o : Result Composite} (n : ℕ) → SimpleAnswer r t n → ((n ≡ 0 → ⊥) → o ≡ fail n) → (n ≡ 0 → Gives (simpleEvaluated t) s o) → Gives r s o
+simple-ends {s = s} {o} zero a f g = subst (λ (x : Evaluated). Gives x s o) (sym (a .answer refl)) (g refl)
+simple-ends (suc n) a f g = let k : suc n ≡ 0 → ⊥ = λ e. omega (arith, e) in gives-error (suc n) (a .failed k) k (f k)

@@ -1,7 +1,7 @@
 -- What the code of the checked run holds and gives. Assumes nothing: these are definitions.
 use mathlib.Core.Path.{_≡_}
 use mathlib.Core.Bool.{true}
-use mathlib.Core.List.{List}
+use mathlib.Core.List.{List, [], _∷_}
 use mathlib.Core.Option.{some}
 use Prim.Native.Nat.{ℕ, _+_, _*_, _≤_, _<_}
 use lib.IntN.{ℤ}
@@ -9,8 +9,8 @@ use lib.ListN.{length, take, drop}
 use Rattle.lingua.specs.Numbers.{body-cells, declaration-section, expression-section, most-variables, body-bytes, limit-cells}
 use Rattle.lingua.specs.Errors.{no-error}
 use Rattle.lingua.specs.Outcome.{ok, fail, Result, allAnswers}
-use Rattle.lingua.specs.Body.{size, isBoolean}
-use Rattle.lingua.specs.Value.{Composite, allOf, asTruth}
+use Rattle.lingua.specs.Body.{Body, size, isBoolean}
+use Rattle.lingua.specs.Value.{Composite, allOf, asTruth, pad}
 use Rattle.lingua.specs.Rows.{pairCount}
 use Rattle.lingua.specs.Store.{Variable, variableAt, cellsIn, statesIn}
 use Rattle.safety.specs.Accepted.{AcceptedRows}
@@ -23,6 +23,8 @@ use Rattle.body.specs.Encode.{Holds}
 use Rattle.cells.specs.Stack.{Lies, first-place}
 use Rattle.run.specs.Reached.{Lent, Settles}
 use Rattle.checked.specs.declared.answer.Evaluated.{Evaluated}
+use Rattle.checked.specs.declared.quick.Quick.{Quick}
+use Rattle.checked.specs.declared.quick.Quick.the-variants.{Simple, Failed, Deeper}
 use Rattle.checked.specs.declared.tally.Tally.{Tally}
 
 -- ---- what is given
@@ -93,6 +95,17 @@ pub record HasRunning (rows : List ℕ) (t : Table) (variables : List ℕ) (limi
   pub running : Running rows t variables limits l store
   pub there : n < length store
 
+-- a variable's body and its limit, where the code keeps those of variable n
+pub record Bounds (variables : List ℕ) (limits : List ℤ) (n : ℕ) (v : Variable) : Type 0 where
+  pub own : Holds (take body-bytes (drop (body-bytes * n) variables)) (v .body)
+  pub limited : LimitAt limits (limit-cells * n) (v .limit)
+
+-- room for both, and some value
+pub record HasBounds (variables : List ℕ) (limits : List ℤ) (n : ℕ) (value : List ℤ) (body : List ℕ) : Type 0 where
+  pub own-room : body-bytes * n + body-bytes ≤ length variables
+  pub limit-room : limit-cells * n + limit-cells ≤ length limits
+  pub has : HasCurrent value body
+
 -- some such store, and some value for variable n
 pub record Checkable (rows : List ℕ) (t : Table) (variables : List ℕ) (limits : List ℤ) (l : Lent) (n : ℕ) (value : List ℤ) (body : List ℕ) : Type 0 where
   pub store : List Variable
@@ -117,6 +130,29 @@ pub record Gives (r : Evaluated) (stack : List ℤ) (o : Result Composite) : Typ
 pub record Given (r : Evaluated) (stack : List ℤ) : Type 0 where
   pub outcome : Result Composite
   pub gives : Gives r stack outcome
+
+-- ---- simple values, whose body is told by its tag
+abbrev pub simpleEvaluated : ℕ → Evaluated
+simpleEvaluated tag = record { error = 0; body = pad body-bytes 0 (tag ∷ []); cells = 1 }
+
+-- a tag that is no 0 is that of a simple body, and stands for its bytes
+pub record IsSimple (tag : ℕ) (bytes : List ℕ) (b : Body) : Type 0 where
+  pub is : 1 ≤ tag → bytes ≡ pad body-bytes 0 (tag ∷ [])
+  pub one-cell : 1 ≤ tag → size b ≡ 1
+
+-- a tag that is no 0 stands for what evaluation gives; 0 says nothing
+pub record SimpleGives (tag : ℕ) (stack : List ℤ) (o : Result Composite) : Type 0 where
+  pub gives : 1 ≤ tag → Gives (simpleEvaluated tag) stack o
+
+unfoldable pub QuickGives : Quick → List ℤ → Result Composite → Type 0
+QuickGives (Simple tag) stack o = Gives (simpleEvaluated tag) stack o
+QuickGives (Failed e) stack o = (1 ≤ e) × (o ≡ fail e)
+QuickGives Deeper stack o = Unit {0}
+
+-- a simple value, or an error
+pub record SimpleAnswer (r : Evaluated) (tag error : ℕ) : Type 0 where
+  pub answer : error ≡ 0 → r ≡ simpleEvaluated tag
+  pub failed : (error ≡ 0 → ⊥) → r .error ≡ error
 
 -- ---- what an assignment gives
 -- a store of a run, and an evaluated value for its variable n

@@ -18,10 +18,11 @@ ghost use Prim.Native.Nat.{_+_, _*_, _<_, _≤_};
 ghost use lib.ListN.{length};
 ghost use Rattle.lingua.specs.Numbers.{body-cells};
 ghost use Rattle.lingua.specs.Value.{Composite, asWhole};
+ghost use Rattle.lingua.specs.Expression.{always};
 ghost use Rattle.lingua.specs.Store.{Variable, variableAt, admitted as checks};
 ghost use Rattle.run.specs.Reached.{lent};
 ghost use Rattle.run.specs.Memory.{Admits};
-ghost use Rattle.checked.specs.Meaning.{Current, HasCurrent, Running, Checkable};
+ghost use Rattle.checked.specs.Meaning.{Current, HasCurrent, Bounds, HasBounds, Running, Checkable};
 
 // A number's cell; for a value of another body 0 stands.
 fn whole(body: [u8; BODY_BYTES], value: &[i64]) -> i64
@@ -32,6 +33,29 @@ fn whole(body: [u8; BODY_BYTES], value: &[i64]) -> i64
         return value[0];
     }
     0
+}
+
+// Whether variable n, whose yoke is always true, may take a value of a body.
+pub fn unyoked(
+    variables: &[u8],
+    limits: &[i64],
+    n: usize,
+    value: &[i64],
+    body: [u8; BODY_BYTES],
+) -> u8
+    requires { ⌜ HasBounds (now variables) (now limits) n (now value) body ⌝ }
+    ensures { λ r. ⌜ ((vs : List Variable) (v : Variable) (x : Composite) → Bounds (now (variables .entry)) (now (limits .entry)) n v → v .current ≡ always → Current (now (value .entry)) body x
+        → Admits r (checks vs v x)) ⌝ }
+{
+    let own = declared(variables, n);
+    if !same(own, body) {
+        return NO_COHERENCE;
+    }
+    let z = whole(body, value);
+    if !in_limits(limits, n, z) {
+        return YOKE_NOT_SATISFIED;
+    }
+    NO_ERROR
 }
 
 // Whether variable n may take a value of a body, which lies outside the stack: its yoke is evaluated there.

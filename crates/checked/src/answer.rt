@@ -12,7 +12,7 @@ ghost use Rattle.lingua.specs.Outcome.{ok, Result, _>>=_ as bind};
 ghost use Rattle.lingua.specs.Value.{Composite};
 ghost use Rattle.lingua.specs.Evaluation.{booleanOf, truthOr};
 ghost use Rattle.run.specs.Reached.{Tells};
-ghost use Rattle.checked.specs.Meaning.{Gives};
+ghost use Rattle.checked.specs.Meaning.{Gives, simpleEvaluated};
 
 // An error, or a value on the stack with its body and the number of its cells.
 pub struct Evaluated {
@@ -28,6 +28,18 @@ pub fn failed(error: u8) -> Evaluated
         error: error,
         body: [0u8; BODY_BYTES],
         cells: 0,
+    }
+}
+
+// A simple value, which lies on the stack, by its tag.
+pub fn simple_value(tag: u8) -> Evaluated
+    ensures { λ r. ⌜ r ≡ simpleEvaluated tag ⌝ }
+{
+    let body = simple(tag);
+    Evaluated {
+        error: NO_ERROR,
+        body: body,
+        cells: 1,
     }
 }
 

@@ -1,10 +1,13 @@
 // Assignment: the new value's checks, and then the store.
 use crate::admit::admitted;
+use crate::admit::unyoked;
 use crate::answer::Evaluated;
 use lingua::errors::NO_ERROR;
+use lingua::sizes::BODY_CELLS;
 use rules::tables::Table;
-use run::copies::front;
+use run::copies::copy;
 use run::part::put;
+use run::words::yoke_of;
 ghost use mathlib.Core.List.{List};
 ghost use Prim.Native.Nat.{_+_, _*_, _<_, _≤_};
 ghost use lib.ListN.{length};
@@ -15,7 +18,8 @@ ghost use Rattle.lingua.specs.Store.{Variable, assigned};
 ghost use Rattle.run.specs.Reached.{lent};
 ghost use Rattle.checked.specs.Meaning.{Gives, Running, Assignable, Assigns};
 
-// Variable n takes an evaluated value, which lies on the stack, once it is admitted; an error leaves the store as it was.
+// Variable n takes an evaluated value, which lies on the stack, once it is admitted; an error leaves the store as it was. Only a yoke that is
+// run asks for a copy: it is evaluated on the stack.
 pub fn assign(
     rows: &[u8],
     t: Table,
@@ -35,8 +39,18 @@ pub fn assign(
     if x.error != NO_ERROR {
         return x.error;
     }
-    let value = front(stack);
     let body = x.body;
+    let width = x.cells;
+    if yoke_of(states, n) == 0 {
+        let wrong = unyoked(variables, limits, n, stack, body);
+        if wrong != NO_ERROR {
+            return wrong;
+        }
+        put(cells, states, n, stack, width);
+        return NO_ERROR;
+    }
+    let mut value = [0i64; BODY_CELLS];
+    copy(stack, 0, width, &mut value);
     let error = admitted(
         rows,
         t,
@@ -52,7 +66,6 @@ pub fn assign(
     if error != NO_ERROR {
         return error;
     }
-    let width = x.cells;
     put(cells, states, n, &value, width);
     NO_ERROR
 }

@@ -2,12 +2,15 @@
 // the second operand of two is evaluated 64 cells further up.
 use crate::answer::Evaluated;
 use crate::answer::failed;
+use crate::answer::simple_value;
 use crate::answer::truth_of;
 use crate::leaves::constant;
 use crate::leaves::copied;
 use crate::leaves::fetch;
 use crate::operate::binary;
 use crate::operate::unary;
+use crate::quick::Quick;
+use crate::quick::pair;
 use crate::tally::Tally;
 use crate::tally::concluded;
 use crate::tally::tallied;
@@ -68,8 +71,10 @@ pub fn eval(
             unary(o, x, stack)
         }
         ExpressionRow::Binary(o, a, b) => {
-            let x = eval(
+            let quick = pair(
+                o,
                 a,
+                b,
                 rows,
                 t,
                 variables,
@@ -79,18 +84,35 @@ pub fn eval(
                 body,
                 &mut *stack,
             );
-            let y = eval(
-                b,
-                rows,
-                t,
-                variables,
-                cells,
-                states,
-                current,
-                body,
-                &mut stack[BODY_CELLS..],
-            );
-            binary(o, x, y, stack)
+            match quick {
+                Quick::Simple(tag) => simple_value(tag),
+                Quick::Failed(error) => failed(error),
+                Quick::Deeper => {
+                    let x = eval(
+                        a,
+                        rows,
+                        t,
+                        variables,
+                        cells,
+                        states,
+                        current,
+                        body,
+                        &mut *stack,
+                    );
+                    let y = eval(
+                        b,
+                        rows,
+                        t,
+                        variables,
+                        cells,
+                        states,
+                        current,
+                        body,
+                        &mut stack[BODY_CELLS..],
+                    );
+                    binary(o, x, y, stack)
+                }
+            }
         }
         ExpressionRow::Lazy(settling, a, b) => {
             lazy(

@@ -5,6 +5,7 @@ pub mod answer; // answer.rt: what evaluation gives
 pub mod change; // change.rt: yoke change
 mod holds; // holds.rt: whether a value satisfies a new yoke
 mod leaves; // leaves.rt: constants, variables and the current value
+mod quick; // quick.rt: an operation on two leaves at once
 mod operate; // operate.rt: an operation on evaluated operands
 pub mod reading; // reading.rt: numbers from outside
 mod tally; // tally.rt: the results of an all-list yoke

@@ -1,7 +1,10 @@
 // An operation on evaluated operands: the first error, then the bodies' half, then the values' half.
 use crate::answer::Evaluated;
 use crate::answer::failed;
+use crate::answer::simple_value;
 use body::operation::binary_half;
+use body::operation::simple_binary;
+use body::operation::simple_unary;
 use body::operation::unary_half;
 use lingua::errors::NO_ERROR;
 use lingua::operations::BinaryOperation;
@@ -13,7 +16,17 @@ ghost use Rattle.lingua.specs.Outcome.{Result, _>>=_ as bind};
 ghost use Rattle.lingua.specs.Value.{Composite};
 ghost use Rattle.lingua.specs.Operations.{unaryMeaning, binaryMeaning};
 ghost use Rattle.lingua.specs.Evaluation.{applyUnary, applyBinary};
-ghost use Rattle.checked.specs.Meaning.{Given, Gives};
+ghost use Rattle.checked.specs.Meaning.{Given, Gives, SimpleAnswer};
+
+// A simple value by its tag, or the values' half's error.
+fn simple_answer(tag: u8, error: u8) -> Evaluated
+    ensures { λ r. ⌜ SimpleAnswer r tag error ⌝ }
+{
+    if error != NO_ERROR {
+        return failed(error);
+    }
+    simple_value(tag)
+}
 
 pub fn unary(o: UnaryOperation, x: Evaluated, stack: &mut [i64]) -> Evaluated
     requires { ⌜ Given x (now stack) ⌝ }
@@ -24,6 +37,11 @@ pub fn unary(o: UnaryOperation, x: Evaluated, stack: &mut [i64]) -> Evaluated
         return x;
     }
     let body = x.body;
+    let tag = simple_unary(o, body);
+    if tag != 0 {
+        let wrong = cells::apply::unary(o, stack, x.cells, 1, 0);
+        return simple_answer(tag, wrong);
+    }
     let half = unary_half(o, body);
     if half.error != NO_ERROR {
         return failed(half.error);
@@ -56,6 +74,11 @@ pub fn binary(o: BinaryOperation, x: Evaluated, y: Evaluated, stack: &mut [i64])
     }
     let body = x.body;
     let other = y.body;
+    let tag = simple_binary(o, body, other);
+    if tag != 0 {
+        let wrong = cells::apply::binary(o, stack, x.cells, y.cells, 0);
+        return simple_answer(tag, wrong);
+    }
     let half = binary_half(o, body, other);
     if half.error != NO_ERROR {
         return failed(half.error);

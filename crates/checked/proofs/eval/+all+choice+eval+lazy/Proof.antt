@@ -23,6 +23,7 @@ use Rattle.cells.proofs.Walking.{counted-elements, turn-room, next-place, eleme
 use Rattle.checked.proofs.Stacking.{first-stays, second-lies}
 use Rattle.checked.proofs.Seeing.{sees-none}
 use Rattle.checked.proofs.Walking.{no-list, current-list, element-held, list-cell, list-walks, element-current, sees-more, sees-all, all-is}
+use Rattle.checked.proofs.Simple.{quick-simple, quick-failed}
 use Rattle.checked.proofs.Cycle.{in-table, facts, by-row, lazy-error, lazy-settled, lazy-second-error, lazy-second-told, choice-error, choice-yes, choice-no}
 use Prim.Native.Nat.{ℕ, _<_}
 use borrow.Fn.Kinds.{In}
@@ -42,12 +43,14 @@ use Rattle.checked.proofs.eval.+all+choice+eval+lazy.Lts-lazy as lazy-l
 use Rattle.body.proofs.make.element.Reads as element-reads
 use Rattle.body.proofs.walk.measure_body.Reads as measure-body-reads
 use Rattle.checked.proofs.answer.failed.Reads as failed-reads
+use Rattle.checked.proofs.answer.simple_value.Reads as simple-value-reads
 use Rattle.checked.proofs.answer.truth_of.Reads as truth-of-reads
 use Rattle.checked.proofs.leaves.constant.Reads as constant-reads
 use Rattle.checked.proofs.leaves.copied.Reads as copied-reads
 use Rattle.checked.proofs.leaves.fetch.Reads as fetch-reads
 use Rattle.checked.proofs.operate.binary.Reads as binary-reads
 use Rattle.checked.proofs.operate.unary.Reads as unary-reads
+use Rattle.checked.proofs.quick.pair.Reads as pair-reads
 use Rattle.checked.proofs.tally.concluded.Reads as concluded-reads
 use Rattle.checked.proofs.tally.tallied.Reads as tallied-reads
 use Rattle.profile.proofs.row.expression_row.Reads as expression-row-reads
@@ -103,7 +106,7 @@ abbrev choice-calls : ℕ → choice-lts.Claims
 choice-calls t = (eval-below t, eval.Post, truth-of-reads.Asked, truth-of-reads.Learnt, failed-reads.Asked, failed-reads.Learnt)
 
 abbrev eval-calls : ℕ → eval-lts.Claims
-eval-calls t = (expression-row-reads.Asked, expression-row-reads.Learnt, constant-reads.Asked, constant-reads.Learnt, fetch-reads.Asked, fetch-reads.Learnt, copied-reads.Asked, copied-reads.Learnt, eval-below t, eval.Post, unary-reads.Asked, unary-reads.Learnt, binary-reads.Asked, binary-reads.Learnt, lazy-below t, lazy.Post, choice-below t, choice.Post, all-below t, all.Post)
+eval-calls t = (expression-row-reads.Asked, expression-row-reads.Learnt, constant-reads.Asked, constant-reads.Learnt, fetch-reads.Asked, fetch-reads.Learnt, copied-reads.Asked, copied-reads.Learnt, eval-below t, eval.Post, unary-reads.Asked, unary-reads.Learnt, pair-reads.Asked, pair-reads.Learnt, simple-value-reads.Asked, simple-value-reads.Learnt, failed-reads.Asked, failed-reads.Learnt, binary-reads.Asked, binary-reads.Learnt, lazy-below t, lazy.Post, choice-below t, choice.Post, all-below t, all.Post)
 
 abbrev lazy-calls : ℕ → lazy-lts.Claims
 lazy-calls t = (eval-below t, eval.Post, truth-of-reads.Asked, truth-of-reads.Learnt, failed-reads.Asked, failed-reads.Learnt)
@@ -287,17 +290,40 @@ eval-unary-requires t c κs =
 eval-enum-known-says-3 : (t : ℕ) → eval-lts.Need-enum-known-says-3 (eval-calls t) (eval-at t) eval.Post
 eval-enum-known-says-3 t c = search needs
 
+eval-pair-requires : (t : ℕ) → eval-lts.Need-pair-requires (eval-calls t) (eval-at t) eval.Post
+unfolding RowFacts
+eval-pair-requires t c κs =
+    let f = facts (c .before .before .before .before .before .before .before .before .pre .1 .ready .world) (c .before .before .before .before .before .before .before .before .pre .1 .here) (says-as (c .before .before .says3 .given .1) (c .before .before .before .before .expression-row .ensures)) in (
+      record { ready = c .before .before .before .before .before .before .before .before .pre .1 .ready; here = omega (arith, f .0, c .before .before .before .before .before .before .before .before .pre .1 .here); room = omega (arith, c .before .before .before .before .before .before .before .before .pre .1 .room, f .0) },
+      record { ready = c .before .before .before .before .before .before .before .before .pre .1 .ready; here = omega (arith, f .1, c .before .before .before .before .before .before .before .before .pre .1 .here); room = simp length-drop (omega (arith, c .before .before .before .before .before .before .before .before .pre .1 .room, f .1)) },
+    )
+
+eval-enum-known-quick : (t : ℕ) → eval-lts.Need-enum-known-quick (eval-calls t) (eval-at t) eval.Post
+eval-enum-known-quick t c = search needs
+
+eval-simple-value-requires : (t : ℕ) → eval-lts.Need-simple-value-requires (eval-calls t) (eval-at t) eval.Post
+eval-simple-value-requires t c κs = search needs
+
+eval-enum-known-quick-2 : (t : ℕ) → eval-lts.Need-enum-known-quick-2 (eval-calls t) (eval-at t) eval.Post
+eval-enum-known-quick-2 t c = search needs
+
+eval-failed-requires : (t : ℕ) → eval-lts.Need-failed-requires (eval-calls t) (eval-at t) eval.Post
+eval-failed-requires t c κs = search needs
+
+eval-enum-told-3 : (t : ℕ) → eval-lts.Need-enum-told-3 (eval-calls t) (eval-at t) eval.Post
+eval-enum-told-3 t c = search needs
+
 eval-eval-requires-2 : (t : ℕ) → eval-lts.Need-eval-requires-2 (eval-calls t) (eval-at t) eval.Post
 unfolding RowFacts
 eval-eval-requires-2 t c κs =
-    let f = facts (c .before .before .before .before .before .before .before .before .pre .1 .ready .world) (c .before .before .before .before .before .before .before .before .pre .1 .here) (says-as (c .before .before .says3 .given .1) (c .before .before .before .before .expression-row .ensures)) in
-    (omega (arith, c .before .before .before .before .before .before .before .before .pre .0, f .0), record { ready = c .before .before .before .before .before .before .before .before .pre .1 .ready; here = omega (arith, f .0, c .before .before .before .before .before .before .before .before .pre .1 .here); room = omega (arith, c .before .before .before .before .before .before .before .before .pre .1 .room, f .0) })
+    let f = facts (c .before .before .before .before .before .before .before .before .before .before .before .before .before .pre .1 .ready .world) (c .before .before .before .before .before .before .before .before .before .before .before .before .before .pre .1 .here) (says-as (c .before .before .before .before .before .before .before .says3 .given .1) (c .before .before .before .before .before .before .before .before .before .expression-row .ensures)) in
+    (omega (arith, c .before .before .before .before .before .before .before .before .before .before .before .before .before .pre .0, f .0), record { ready = c .before .before .before .before .before .before .before .before .before .before .before .before .before .pre .1 .ready; here = omega (arith, f .0, c .before .before .before .before .before .before .before .before .before .before .before .before .before .pre .1 .here); room = omega (arith, c .before .before .before .before .before .before .before .before .before .before .before .before .before .pre .1 .room, f .0, c .before .before .before .before .pair .kept .1 .1 .1 .1 .1 .1 .1 .1 .1 .1 .0) })
 
 eval-sub-eval : (t : ℕ) → eval-lts.Need-sub-eval (eval-calls t) (eval-at t) eval.Post
-eval-sub-eval t c = search needs
+eval-sub-eval t c = omega (arith, c .before .before .before .before .before .before .before .before .before .before .before .before .before .before .before .pre .1 .room, c .before .eval2 .kept .1 .1 .1 .1 .1 .1 .1 .1 .0, c .before .before .before .before .before .before .pair .kept .1 .1 .1 .1 .1 .1 .1 .1 .1 .1 .0)
 
 eval-part-eval-start : (t : ℕ) → eval-lts.Need-part-eval-start (eval-calls t) (eval-at t) eval.Post
-eval-part-eval-start t c = search needs
+eval-part-eval-start t c = omega (arith, c .before .before .before .before .before .before .before .before .before .before .before .before .before .before .before .pre .1 .room, c .before .eval2 .kept .1 .1 .1 .1 .1 .1 .1 .1 .0, c .before .before .before .before .before .before .pair .kept .1 .1 .1 .1 .1 .1 .1 .1 .1 .1 .0)
 
 eval-part-eval-end : (t : ℕ) → eval-lts.Need-part-eval-end (eval-calls t) (eval-at t) eval.Post
 eval-part-eval-end t c = search needs
@@ -305,17 +331,17 @@ eval-part-eval-end t c = search needs
 eval-eval-requires-3 : (t : ℕ) → eval-lts.Need-eval-requires-3 (eval-calls t) (eval-at t) eval.Post
 unfolding RowFacts
 eval-eval-requires-3 t c κs =
-    let f = facts (c .before .before .before .before .before .before .before .before .before .before .before .pre .1 .ready .world) (c .before .before .before .before .before .before .before .before .before .before .before .pre .1 .here) (says-as (c .before .before .before .before .before .says3 .given .1) (c .before .before .before .before .before .before .before .expression-row .ensures)) in
-    (omega (arith, c .before .before .before .before .before .before .before .before .before .before .before .pre .0, f .1), record { ready = c .before .before .before .before .before .before .before .before .before .before .before .pre .1 .ready; here = omega (arith, f .1, c .before .before .before .before .before .before .before .before .before .before .before .pre .1 .here); room = simp (length-take, length-drop) (omega (arith, c .before .before .before .before .before .before .before .before .before .before .before .pre .1 .room, f .1, c .before .before .eval2 .kept .1 .1 .1 .1 .1 .1 .1 .1 .0)) })
+    let f = facts (c .before .before .before .before .before .before .before .before .before .before .before .before .before .before .before .before .pre .1 .ready .world) (c .before .before .before .before .before .before .before .before .before .before .before .before .before .before .before .before .pre .1 .here) (says-as (c .before .before .before .before .before .before .before .before .before .before .says3 .given .1) (c .before .before .before .before .before .before .before .before .before .before .before .before .expression-row .ensures)) in
+    (omega (arith, c .before .before .before .before .before .before .before .before .before .before .before .before .before .before .before .before .pre .0, f .1), record { ready = c .before .before .before .before .before .before .before .before .before .before .before .before .before .before .before .before .pre .1 .ready; here = omega (arith, f .1, c .before .before .before .before .before .before .before .before .before .before .before .before .before .before .before .before .pre .1 .here); room = simp (length-take, length-drop) (omega (arith, c .before .before .before .before .before .before .before .before .before .before .before .before .before .before .before .before .pre .1 .room, f .1, c .before .before .eval2 .kept .1 .1 .1 .1 .1 .1 .1 .1 .0, c .before .before .before .before .before .before .before .pair .kept .1 .1 .1 .1 .1 .1 .1 .1 .1 .1 .0)) })
 
 eval-binary-requires : (t : ℕ) → eval-lts.Need-binary-requires (eval-calls t) (eval-at t) eval.Post
 eval-binary-requires t c κs =
-    let r = c .before .before .before .before .before .before .before .before .before .before .before .before .before .before .pre .1 .ready in
-    let long : 64 ≤ length (c .before .before .before .before .before .eval2 .last .1 .1 .1 .1 .1 .1 .1 .1 .0) = omega (arith, c .before .before .before .before .before .before .before .before .before .before .before .before .before .before .pre .1 .room, c .before .before .before .before .before .eval2 .kept .1 .1 .1 .1 .1 .1 .1 .1 .0) in (
+    let r = c .before .before .before .before .before .before .before .before .before .before .before .before .before .before .before .before .before .before .before .pre .1 .ready in
+    let long : 64 ≤ length (c .before .before .before .before .before .eval2 .last .1 .1 .1 .1 .1 .1 .1 .1 .0) = omega (arith, c .before .before .before .before .before .before .before .before .before .before .before .before .before .before .before .before .before .before .before .pre .1 .room, c .before .before .before .before .before .eval2 .kept .1 .1 .1 .1 .1 .1 .1 .1 .0, c .before .before .before .before .before .before .before .before .before .before .pair .kept .1 .1 .1 .1 .1 .1 .1 .1 .1 .1 .0) in (
       record { outcome = _; gives = first-stays (c .before .before .eval3 .last .1 .1 .1 .1 .1 .1 .1 .1 .0) _ long (c .before .before .before .before .before .eval2 .ensures (r .store) (r .has .value) (r .world) (r .has .is)) },
       (
         record { outcome = _; gives = second-lies (c .before .before .before .before .before .eval2 .last .1 .1 .1 .1 .1 .1 .1 .1 .0) (c .before .before .eval3 .last .1 .1 .1 .1 .1 .1 .1 .1 .0) _ long (c .before .before .eval3 .ensures (r .store) (r .has .value) (r .world) (r .has .is)) },
-        both-long (c .before .before .before .before .before .eval2 .last .1 .1 .1 .1 .1 .1 .1 .1 .0) (c .before .before .eval3 .last .1 .1 .1 .1 .1 .1 .1 .1 .0) _ long (omega (arith, c .before .before .before .before .before .before .before .before .before .before .before .before .before .before .pre .1 .room, c .before .before .before .before .before .eval2 .kept .1 .1 .1 .1 .1 .1 .1 .1 .0, simp (length-take, length-drop) at (c .before .before .eval3 .kept .1 .1 .1 .1 .1 .1 .1 .1 .0))),
+        both-long (c .before .before .before .before .before .eval2 .last .1 .1 .1 .1 .1 .1 .1 .1 .0) (c .before .before .eval3 .last .1 .1 .1 .1 .1 .1 .1 .1 .0) _ long (omega (arith, c .before .before .before .before .before .before .before .before .before .before .before .before .before .before .before .before .before .before .before .pre .1 .room, c .before .before .before .before .before .eval2 .kept .1 .1 .1 .1 .1 .1 .1 .1 .0, c .before .before .before .before .before .before .before .before .before .before .pair .kept .1 .1 .1 .1 .1 .1 .1 .1 .1 .1 .0, simp (length-take, length-drop) at (c .before .before .eval3 .kept .1 .1 .1 .1 .1 .1 .1 .1 .0))),
       ),
     )
 
@@ -382,31 +408,45 @@ eval-same-length-5 t c = search needs
 
 eval-returns-5 : (t : ℕ) → eval-lts.Need-returns-5 (eval-calls t) (eval-at t) eval.Post
 unfolding rowTree meaning
-eval-returns-5 t c = λ vs x w h.
-    let long : 64 ≤ length (c .before .before .before .before .before .before .before .eval2 .last .1 .1 .1 .1 .1 .1 .1 .1 .0) = omega (arith, c .before .before .before .before .before .before .before .before .before .before .before .before .before .before .before .before .pre .1 .room, c .before .before .before .before .before .before .before .eval2 .kept .1 .1 .1 .1 .1 .1 .1 .1 .0) in
-    by-row w (c .before .before .before .before .before .before .before .before .before .before .before .before .before .before .before .before .pre .1 .here) x (says-as (c .before .before .before .before .before .before .before .before .before .before .says3 .given .1) (c .before .before .before .before .before .before .before .before .before .before .before .before .expression-row .ensures))
-    (c .before .binary .ensures _ _ (first-stays (c .before .before .before .before .eval3 .last .1 .1 .1 .1 .1 .1 .1 .1 .0) _ long (c .before .before .before .before .before .before .before .eval2 .ensures vs x w h)) (second-lies (c .before .before .before .before .before .before .before .eval2 .last .1 .1 .1 .1 .1 .1 .1 .1 .0) (c .before .before .before .before .eval3 .last .1 .1 .1 .1 .1 .1 .1 .1 .0) _ long (c .before .before .before .before .eval3 .ensures vs x w h)))
+eval-returns-5 t c = λ vs x w h. by-row w (c .before .before .before .before .before .before .before .before .before .before .before .before .before .before .pre .1 .here) x (says-as (c .before .before .before .before .before .before .before .before .says3 .given .1) (c .before .before .before .before .before .before .before .before .before .before .expression-row .ensures)) (quick-simple (c .before .before .quick .given .1) (c .before .before .before .before .before .pair .ensures vs x w h) (c .simple-value .ensures))
 
 eval-same-length-6 : (t : ℕ) → eval-lts.Need-same-length-6 (eval-calls t) (eval-at t) eval.Post
 eval-same-length-6 t c = search needs
 
 eval-returns-6 : (t : ℕ) → eval-lts.Need-returns-6 (eval-calls t) (eval-at t) eval.Post
-unfolding rowTree
-eval-returns-6 t c = λ vs x w h. by-row w (c .before .before .before .before .before .before .before .before .before .before .pre .1 .here) x (says-as (c .before .before .before .before .says4 .given .1) (c .before .before .before .before .before .before .expression-row .ensures)) (c .before .lazy .ensures vs x w h)
+unfolding rowTree meaning
+eval-returns-6 t c = λ vs x w h. by-row w (c .before .before .before .before .before .before .before .before .before .before .before .before .before .before .pre .1 .here) x (says-as (c .before .before .before .before .before .before .before .before .says3 .given .1) (c .before .before .before .before .before .before .before .before .before .before .expression-row .ensures)) (quick-failed (c .before .before .quick2 .given .1) (c .before .before .before .before .before .pair .ensures vs x w h) (c .failed .ensures))
 
 eval-same-length-7 : (t : ℕ) → eval-lts.Need-same-length-7 (eval-calls t) (eval-at t) eval.Post
 eval-same-length-7 t c = search needs
 
 eval-returns-7 : (t : ℕ) → eval-lts.Need-returns-7 (eval-calls t) (eval-at t) eval.Post
-unfolding rowTree
-eval-returns-7 t c = λ vs x w h. by-row w (c .before .before .before .before .before .before .before .before .before .before .pre .1 .here) x (says-as (c .before .before .before .before .says5 .given .1) (c .before .before .before .before .before .before .expression-row .ensures)) (c .before .choice .ensures vs x w h)
+unfolding rowTree meaning
+eval-returns-7 t c = λ vs x w h.
+    let long : 64 ≤ length (c .before .before .before .before .before .before .before .eval2 .last .1 .1 .1 .1 .1 .1 .1 .1 .0) = omega (arith, c .before .before .before .before .before .before .before .before .before .before .before .before .before .before .before .before .before .before .before .before .before .pre .1 .room, c .before .before .before .before .before .before .before .eval2 .kept .1 .1 .1 .1 .1 .1 .1 .1 .0, c .before .before .before .before .before .before .before .before .before .before .before .before .pair .kept .1 .1 .1 .1 .1 .1 .1 .1 .1 .1 .0) in
+    by-row w (c .before .before .before .before .before .before .before .before .before .before .before .before .before .before .before .before .before .before .before .before .before .pre .1 .here) x (says-as (c .before .before .before .before .before .before .before .before .before .before .before .before .before .before .before .says3 .given .1) (c .before .before .before .before .before .before .before .before .before .before .before .before .before .before .before .before .before .expression-row .ensures))
+    (c .before .binary .ensures _ _ (first-stays (c .before .before .before .before .eval3 .last .1 .1 .1 .1 .1 .1 .1 .1 .0) _ long (c .before .before .before .before .before .before .before .eval2 .ensures vs x w h)) (second-lies (c .before .before .before .before .before .before .before .eval2 .last .1 .1 .1 .1 .1 .1 .1 .1 .0) (c .before .before .before .before .eval3 .last .1 .1 .1 .1 .1 .1 .1 .1 .0) _ long (c .before .before .before .before .eval3 .ensures vs x w h)))
 
 eval-same-length-8 : (t : ℕ) → eval-lts.Need-same-length-8 (eval-calls t) (eval-at t) eval.Post
 eval-same-length-8 t c = search needs
 
 eval-returns-8 : (t : ℕ) → eval-lts.Need-returns-8 (eval-calls t) (eval-at t) eval.Post
 unfolding rowTree
-eval-returns-8 t c = λ vs x w h. by-row w (c .before .before .before .before .before .before .before .before .before .before .pre .1 .here) x (says-as (c .before .before .before .before .says6 .given .1) (c .before .before .before .before .before .before .expression-row .ensures)) (c .before .all .ensures vs x w h)
+eval-returns-8 t c = λ vs x w h. by-row w (c .before .before .before .before .before .before .before .before .before .before .pre .1 .here) x (says-as (c .before .before .before .before .says4 .given .1) (c .before .before .before .before .before .before .expression-row .ensures)) (c .before .lazy .ensures vs x w h)
+
+eval-same-length-9 : (t : ℕ) → eval-lts.Need-same-length-9 (eval-calls t) (eval-at t) eval.Post
+eval-same-length-9 t c = search needs
+
+eval-returns-9 : (t : ℕ) → eval-lts.Need-returns-9 (eval-calls t) (eval-at t) eval.Post
+unfolding rowTree
+eval-returns-9 t c = λ vs x w h. by-row w (c .before .before .before .before .before .before .before .before .before .before .pre .1 .here) x (says-as (c .before .before .before .before .says5 .given .1) (c .before .before .before .before .before .before .expression-row .ensures)) (c .before .choice .ensures vs x w h)
+
+eval-same-length-10 : (t : ℕ) → eval-lts.Need-same-length-10 (eval-calls t) (eval-at t) eval.Post
+eval-same-length-10 t c = search needs
+
+eval-returns-10 : (t : ℕ) → eval-lts.Need-returns-10 (eval-calls t) (eval-at t) eval.Post
+unfolding rowTree
+eval-returns-10 t c = λ vs x w h. by-row w (c .before .before .before .before .before .before .before .before .before .before .pre .1 .here) x (says-as (c .before .before .before .before .says6 .given .1) (c .before .before .before .before .before .before .expression-row .ensures)) (c .before .all .ensures vs x w h)
 
 lazy-eval-requires : (t : ℕ) → lazy-lts.Need-eval-requires (lazy-calls t) (lazy-at t) lazy.Post
 lazy-eval-requires t c κs = (omega (arith, c .before .before .before .before .pre .0), record { ready = c .before .before .before .before .pre .1 .0 .ready; here = omega (arith, c .before .before .before .before .pre .1 .1 .0, c .before .before .before .before .pre .1 .0 .here); room = omega (arith, c .before .before .before .before .pre .1 .0 .room, c .before .before .before .before .pre .1 .1 .0) })
@@ -505,6 +545,12 @@ pub +all+choice+eval+lazy-spec : {M : Type 1} → statement M
     (eval-eval-requires t)
     (eval-unary-requires t)
     (eval-enum-known-says-3 t)
+    (eval-pair-requires t)
+    (eval-enum-known-quick t)
+    (eval-simple-value-requires t)
+    (eval-enum-known-quick-2 t)
+    (eval-failed-requires t)
+    (eval-enum-told-3 t)
     (eval-eval-requires-2 t)
     (eval-sub-eval t)
     (eval-part-eval-start t)
@@ -532,7 +578,11 @@ pub +all+choice+eval+lazy-spec : {M : Type 1} → statement M
     (eval-same-length-7 t)
     (eval-returns-7 t)
     (eval-same-length-8 t)
-    (eval-returns-8 t))
+    (eval-returns-8 t)
+    (eval-same-length-9 t)
+    (eval-returns-9 t)
+    (eval-same-length-10 t)
+    (eval-returns-10 t))
     λ t. lazy-lts.spec (lazy-calls t) (lazy-at t)
     lazy.Post
     (lazy-eval-requires t)
