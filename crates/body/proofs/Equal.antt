@@ -2,10 +2,13 @@
 use mathlib.Core.Path.{_≡_, refl, sym, ap, subst, _∙_}
 use mathlib.Core.Bool.{Bool, true, false, _&&_}
 use mathlib.Core.List.{List}
-use Prim.Native.Nat.{ℕ}
+use Prim.Native.Nat.{ℕ, _+_, _<_}
 use native.Mathlib.Omega.{arith}
 use lib.Dec.{eqb}
+use borrow.Author.Count.{below-none, below-more}
 use borrow.Author.Tests.{eqb-true, eq-eqb}
+use lib.ListN.{length, getD}
+use lib.Seq.{ext-getD}
 use Rattle.lingua.specs.Body.{Body, boolean, number, word, list-of, record-of, Attributes, end, attribute, isBoolean, isNumber, isWord, elementBody, attributesOf, sameBody, sameAttributes}
 use Rattle.body.specs.Encode.{encoded, Holds}
 use Rattle.body.proofs.Parser.{encoded-injective}
@@ -98,3 +101,24 @@ same-held x y e b c h k = same-body b c (encoded-injective b c (sym (h .is) ∙ 
 
 pub other-held : (x y : List ℕ) → (x ≡ y → ⊥) → (b c : Body) → Holds x b → Holds y c → false ≡ sameBody b c
 other-held x y n b c h k = other-body b c (λ e. n (h .is ∙ ap encoded e ∙ sym (k .is)))
+
+-- ---- a comparison that goes on after a difference
+pub record Compared (x y : List ℕ) (alike : Bool) (i : ℕ) : Type 0 where
+  pub like : alike ≡ true → (k : ℕ) → k < i → getD x k 0 ≡ getD y k 0
+  pub unlike : alike ≡ false → x ≡ y → ⊥
+
+pub none-compared : (x y : List ℕ) → Compared x y true 0
+none-compared x y = record { like = λ e. below-none _; unlike = λ e. clash e }
+
+pub differ : (x y : List ℕ) (a : Bool) (i n : ℕ) → a ≡ false → (getD x i 0 ≡ getD y i 0 → ⊥) → Compared x y a n
+differ x y a i n e f =
+    record { like = λ g. clash (sym g ∙ e); unlike = λ g p. f (ap (λ (l : List ℕ). getD l i 0) p) }
+
+pub agree : (x y : List ℕ) (a s : Bool) (i : ℕ) → Compared x y a i → s ≡ a → getD x i 0 ≡ getD y i 0 → Compared x y s (i + 1)
+agree x y a s i h e p =
+    record { like = λ g. below-more _ i (h .like (sym e ∙ g)) p; unlike = λ g. h .unlike (sym e ∙ g) }
+
+pub all-compared : (x y : List ℕ) (a : Bool) (n : ℕ) → Compared x y a n → length x ≡ n → length y ≡ n
+    → (b c : Body) → Holds x b → Holds y c → a ≡ sameBody b c
+all-compared x y true n h l m b c = same-held x y (ext-getD 0 x y (l ∙ sym m) (λ i k. h .like refl i (omega (arith, k, l)))) b c
+all-compared x y false n h l m b c = other-held x y (h .unlike refl) b c

@@ -1,20 +1,17 @@
 -- What the first bytes of simple operands decide: the tag of the result. Assumes nothing.
-use mathlib.Core.Path.{_≡_, refl, sym, ap, subst, _∙_}
-use mathlib.Core.Bool.{true}
+use mathlib.Core.Path.{_≡_, refl, sym, subst, _∙_}
 use mathlib.Core.List.{List}
 use Prim.Native.Nat.{ℕ, _≤_}
 use native.Mathlib.Omega.{arith}
 use lib.ListN.{getD}
 use Rattle.lingua.specs.Outcome.{ok, Result}
-use Rattle.lingua.specs.Body.{Body, boolean, number, word, list-of, record-of, sameBody}
-use Rattle.lingua.specs.Operation.{Unary, negation, Binary, equal, glue, numbersTo, unaryBody, binaryBody}
+use Rattle.lingua.specs.Body.{Body}
+use Rattle.lingua.specs.Operation.{negation, Binary, equal, glue, numbersTo, unaryBody, binaryBody}
 use Rattle.lingua.specs.Typing.{unarySecond, binarySecond}
 use Rattle.body.specs.Encode.{Holds}
 use Rattle.body.specs.Typed.{Types, simpleOf, unaryOffset, binaryOffset}
 use Rattle.body.specs.Half.{Half, simpleTyped, SimpleHalf}
-use Rattle.body.proofs.Bytes.{tag}
-use Rattle.body.proofs.Equal.{same-body}
-use Rattle.body.proofs.Tags.{held-tag, is-boolean, is-number, is-word, is-simple}
+use Rattle.body.proofs.Tags.{is-boolean, is-number, is-word, is-simple, same-simple}
 use Rattle.body.proofs.Answers.{likewise, scalar-is}
 use Rattle.body.proofs.Halves.{negation-boolean, numbers-both, equal-like, glue-both}
 use Rattle.body.proofs.Offsets.{unary-is, binary-is}
@@ -44,23 +41,6 @@ by-tag o t r b c h k z f =
           (binary-is (simpleTyped t) o b c
           (subst (λ (s : ℕ). Types (simpleTyped t) (binaryBody o b c) s) (sym z) (simple-types t h k (binaryBody o b c) (f p .1))));
     }
-
--- the tag of a simple body says which one it is
-pub by-first : (b : Body) → tag b ≤ 3 → b ≡ simpleOf (tag b)
-unfolding tag simpleOf
-by-first boolean h = refl
-by-first number h = refl
-by-first word h = refl
-by-first (list-of b) h = absurd (let z : ⊥ = omega (arith, h) in z)
-by-first (record-of fs) h = absurd (let z : ⊥ = omega (arith, h) in z)
-
-same-tag : (b c : Body) → tag b ≤ 3 → tag b ≡ tag c → b ≡ c
-same-tag b c h e = by-first b h ∙ ap simpleOf e ∙ sym (by-first c (omega (arith, h, e)))
-
-module _ (x y : List ℕ) (b c : Body) (h : Holds x b) (k : Holds y c) where
-  pub same-simple : getD x 0 0 ≤ 3 → getD x 0 0 ≡ getD y 0 0 → true ≡ sameBody b c
-  same-simple l e =
-      same-body b c (same-tag b c (omega (arith, l, held-tag x b h)) (sym (held-tag x b h) ∙ e ∙ held-tag y c k))
 
 -- what was found of two first bytes
 module _ (x y : List ℕ) (b c : Body) (h : Holds x b) (k : Holds y c) (r : ℕ) where

@@ -8,10 +8,12 @@ use native.Mathlib.Omega.{arith}
 use borrow.Author.Tests.{eq-eqb, ne-eqb, le-leb, lt-leb}
 use lib.Dec.{eqb, leb}
 use lib.ListN.{getD}
-use Rattle.lingua.specs.Body.{Body, boolean, number, word, list-of, record-of, Attributes, isBoolean, isNumber, isWord, isSimple, elementBody, attributesOf}
+use Rattle.lingua.specs.Body.{Body, boolean, number, word, list-of, record-of, Attributes, isBoolean, isNumber, isWord, isSimple, elementBody, attributesOf, sameBody}
 use Rattle.body.specs.Encode.{Holds, Held}
 use Rattle.body.specs.Find.{HeldRecord}
+use Rattle.body.specs.Typed.{simpleOf}
 use Rattle.body.proofs.Bytes.{tag}
+use Rattle.body.proofs.Equal.{same-body}
 use Rattle.body.proofs.Places.{at-tag, list-view, record-view}
 use Rattle.body.proofs.Making.{held-at}
 
@@ -96,6 +98,23 @@ module _ (x : List ℕ) (b : Body) (h : Holds x b) where
 
   pub not-record : (getD x 0 0 ≡ 5 → ⊥) → attributesOf b ≡ none
   not-record f = attributes-test b (λ e. f (held-tag ∙ e))
+
+-- the tag of a simple body says which one it is
+pub by-first : (b : Body) → tag b ≤ 3 → b ≡ simpleOf (tag b)
+unfolding tag simpleOf
+by-first boolean h = refl
+by-first number h = refl
+by-first word h = refl
+by-first (list-of b) h = absurd (let z : ⊥ = omega (arith, h) in z)
+by-first (record-of fs) h = absurd (let z : ⊥ = omega (arith, h) in z)
+
+same-tag : (b c : Body) → tag b ≤ 3 → tag b ≡ tag c → b ≡ c
+same-tag b c h e = by-first b h ∙ ap simpleOf e ∙ sym (by-first c (omega (arith, h, e)))
+
+module _ (x y : List ℕ) (b c : Body) (h : Holds x b) (k : Holds y c) where
+  pub same-simple : getD x 0 0 ≤ 3 → getD x 0 0 ≡ getD y 0 0 → true ≡ sameBody b c
+  same-simple l e =
+      same-body b c (same-tag b c (omega (arith, l, held-tag x b h)) (sym (held-tag x b h) ∙ e ∙ held-tag y c k))
 
 -- an array with a list's or a record's tag holds one
 pub record HoldsList (x : List ℕ) (b : Body) : Type 0 where

@@ -1,4 +1,5 @@
 // Copies of parts of a body's bytes, and the comparison of two bodies.
+use crate::walk::WORD;
 use lingua::sizes::BODY_BYTES;
 ghost use mathlib.Core.Path.{_≡_};
 ghost use Prim.Native.Nat.{_+_, _≤_};
@@ -38,16 +39,30 @@ pub fn part(body: [u8; BODY_BYTES], from: usize, n: usize) -> [u8; BODY_BYTES]
     pasted([0u8; BODY_BYTES], 0, body, from, n)
 }
 
-// Two bodies are equal where all their bytes are, since the encoding is injective.
+// A simple body is its first byte alone; of two others all bytes are compared, since the encoding is injective.
 pub fn same(x: [u8; BODY_BYTES], y: [u8; BODY_BYTES]) -> bool
     ensures { λ r. ⌜ ((b c : Body) → Holds x b → Holds y c → r ≡ sameBody b c) ⌝ }
 {
+    if x[0] != y[0] {
+        return false;
+    }
+    if x[0] <= WORD {
+        return true;
+    }
+    all_same(x, y)
+}
+
+// It goes on after a difference: without a way out of the loop the compiler takes many bytes at once.
+fn all_same(x: [u8; BODY_BYTES], y: [u8; BODY_BYTES]) -> bool
+    ensures { λ r. ⌜ ((b c : Body) → Holds x b → Holds y c → r ≡ sameBody b c) ⌝ }
+{
+    let mut alike = true;
     let mut i = 0;
     while i < BODY_BYTES {
         if x[i] != y[i] {
-            return false;
+            alike = false;
         }
         i += 1;
     }
-    true
+    alike
 }

@@ -1,67 +1,43 @@
--- `body::parts::same` meets its contract: equal arrays hold equal bodies, and others hold others. Assumes nothing.
-use mathlib.Core.Path.{_≡_, ap}
+-- `body::parts::same` meets its contract: the first bytes decide, unless both are that of a list or of a record. Assumes nothing.
+use mathlib.Core.Path.{ap}
 use mathlib.Core.List.{List}
-use Prim.Native.Nat.{ℕ, _-_, _≤_, _<_}
-use native.Mathlib.Omega.{arith}
-use borrow.Author.Count.{below-none, below-more}
-use lib.ListN.{length, getD}
-use lib.Seq.{ext-getD}
-use Rattle.body.proofs.Equal.{same-held, other-held}
+use Prim.Native.Nat.{ℕ}
+use lib.ListN.{getD}
+use Rattle.body.proofs.Equal.{other-held}
+use Rattle.body.proofs.Tags.{same-simple}
 use borrow.Author.Needs.{needs}
 use Rattle.body.proofs.parts.same.Statement.{statement}
 use Rattle.body.proofs.parts.same.Tie as tie
 
-abbrev Inv-loop : tie.InvT-loop
-Inv-loop x y i₀ i = (i ≤ 96) × ((k : ℕ) → k < i → getD x k 0 ≡ getD y k 0)
-
-abbrev μ-loop : tie.MeasureT-loop
-μ-loop x y i₀ i = 96 - i
-
-loop-holds : tie.Need-loop-holds Inv-loop μ-loop
-loop-holds c = (search needs, below-none _)
-
-array-read-if1 : tie.Need-array-read-if1 Inv-loop μ-loop
+array-read-if1 : tie.Need-array-read-if1
 array-read-if1 c = search needs
 
-array-read-if1-2 : tie.Need-array-read-if1-2 Inv-loop μ-loop
+array-read-if1-2 : tie.Need-array-read-if1-2
 array-read-if1-2 c = search needs
 
-returns : tie.Need-returns Inv-loop μ-loop
-returns c =
-    let args = c .before .before .before .args in
-    let loop = c .before .before .loop in
-    other-held (args .t1) (args .t2) (λ e. c .if1 .taken (ap (λ (l : List ℕ). getD l (loop .i) 0) e))
+returns : tie.Need-returns
+returns c = other-held (c .before .args .t1) (c .before .args .t2) (λ e. c .if1 .taken (ap (λ (l : List ℕ). getD l 0 0) e))
 
-add-i : tie.Need-add-i Inv-loop μ-loop
-add-i c = search needs
+array-read-if2 : tie.Need-array-read-if2
+array-read-if2 c = search needs
 
-loop-less : tie.Need-loop-less Inv-loop μ-loop
-loop-less c = search needs
+returns-2 : tie.Need-returns-2
+returns-2 c = λ b d h k. same-simple (c .before .before .args .t1) (c .before .before .args .t2) b d h k (c .if2 .taken) (c .before .if1 .left)
 
-loop-again : tie.Need-loop-again Inv-loop μ-loop
-loop-again c =
-    let loop = c .before .before .loop in
-    (search needs, below-more _ _ (loop .inv .1) (c .if1 .left))
+all-same-requires : tie.Need-all-same-requires
+all-same-requires c κs = search needs
 
-returns-2 : tie.Need-returns-2 Inv-loop μ-loop
-returns-2 c =
-    let args = c .before .before .args in
-    let lx : length (args .t1) ≡ 96 = search needs in
-    let ly : length (args .t2) ≡ 96 = search needs in
-    same-held (args .t1) (args .t2)
-    (ext-getD 0 (args .t1) (args .t2) (omega arith) (λ i h. c .before .loop .inv .1 i (omega arith)))
+returns-3 : tie.Need-returns-3
+returns-3 c = c .all-same .ensures
 
 pub same-spec : {M : Type 1} → statement M
 same-spec =
     tie.close
     (tie.spec
-    Inv-loop
-    μ-loop
-    loop-holds
     array-read-if1
     array-read-if1-2
     returns
-    add-i
-    loop-less
-    loop-again
-    returns-2)
+    array-read-if2
+    returns-2
+    all-same-requires
+    returns-3)
