@@ -9,7 +9,7 @@ use Rattle.body.specs.declared.walk.Measure.{Measure}
 use Rattle.body.specs.Encode.{bytes, attributeBytes}
 use Rattle.body.specs.Walk.{At, AttributesAt, SomeAt, SomeAttributesAt, Measured, AttributesMeasured}
 use Rattle.body.proofs.Bytes.{depth-below, attribute-depth-below}
-use Rattle.body.proofs.Places.{at-end, at-tag, list-part, record-count, record-below, record-part, attribute-part, attribute-rest, list-view, record-view, simple-view, more-view}
+use Rattle.body.proofs.Places.{at-end, at-below, at-tag, list-part, record-count, record-below, record-part, attribute-part, attribute-rest, list-view, record-view, simple-view, more-view}
 
 -- what a body or attributes with few cells and nodes measure is small
 pub record Few (m : Measure) (bs : List ℕ) : Type 0 where
@@ -116,6 +116,11 @@ module _ (bs : List ℕ) (at : ℕ) where
         is-next = omega (arith, v .one-byte);
       }
 
+  -- by the first byte
+  pub measured-first : getD bs at 0 ≤ 3 → (b : Body) → At bs at b → Measured (record { cells = 1; nodes = 1; depth = 1; next = at + 1 }) at b
+  measured-first l =
+      measured-simple (λ e. let z : ⊥ = omega (arith, l, e) in z) (λ e. let z : ⊥ = omega (arith, l, e) in z)
+
 -- ---- attributes
 module _ (bs : List ℕ) (at n : ℕ) (f : n ≡ 0 → ⊥) where
   pub first-at : SomeAttributesAt bs at n → SomeAt bs (at + 1)
@@ -129,51 +134,101 @@ module _ (bs : List ℕ) (at n : ℕ) (f : n ≡ 0 → ⊥) where
         few-nodes = omega (arith, h .few-nodes, ap attributeNodes (v .is));
       }
 
-  module _ (m : Measure) (g : (b : Body) → At bs (at + 1) b → Measured m (at + 1) b) where
-    pub others-at : SomeAttributesAt bs at n → SomeAttributesAt bs (m .next) (n - 1)
-    unfolding size nodes
-    others-at h =
-        let v = more-view n (h .attributes) f (h .counted) in
-        let a = subst (λ (fs : Attributes). AttributesAt bs at fs) (v .is) (h .here) in
-        let r = g (v .first-body) (attribute-part bs at (v .first-number) (v .first-body) (v .others) a) in
-        record {
-          attributes = v .others;
-          here = subst (λ (k : ℕ). AttributesAt bs k (v .others)) (sym (r .is-next)) (attribute-rest bs at (v .first-number) (v .first-body) (v .others) a);
-          counted = v .counted;
-          few-cells = omega (arith, h .few-cells, ap sizes (v .is));
-          few-nodes = omega (arith, h .few-nodes, ap attributeNodes (v .is));
-        }
-
-    pub moves : SomeAttributesAt bs at n → (at < m .next) × (m .next ≤ length bs)
-    moves h =
-        let b = first-at h in
-        let r = g (b .body) (b .here) in
-        (omega (arith, r .is-next), omega (arith, r .is-next, at-end bs (at + 1) (b .body) (b .here)))
-
-    pub measured-more : (k : Measure)
-        → ((fs : Attributes) → AttributesAt bs (m .next) fs → n - 1 ≡ countAttributes fs → AttributesMeasured k (m .next) fs)
-        → (d : ℕ) → d ≡ max (m .depth) (k .depth)
-        → (fs : Attributes) → AttributesAt bs at fs → n ≡ countAttributes fs
-        → AttributesMeasured (record { cells = m .cells + k .cells; nodes = m .nodes + k .nodes; depth = d; next = k .next }) at fs
-    unfolding size nodes depth bytes
-    measured-more k q d e fs h c =
-        let v = more-view n fs f c in
-        let a = subst (λ (gs : Attributes). AttributesAt bs at gs) (v .is) h in
-        let r = g (v .first-body) (attribute-part bs at (v .first-number) (v .first-body) (v .others) a) in
-        let s =
-        q (v .others)
-        (subst (λ (k : ℕ). AttributesAt bs k (v .others)) (sym (r .is-next)) (attribute-rest bs at (v .first-number) (v .first-body) (v .others) a))
-        (v .counted) in
-        record {
-          is-cells = omega (arith, r .is-cells, s .is-cells, ap sizes (v .is));
-          is-nodes = omega (arith, r .is-nodes, s .is-nodes, ap attributeNodes (v .is));
-          is-depth = omega (arith, e, r .is-depth, s .is-depth, ap attributeDepth (v .is));
-          is-next =
-              omega (arith, r .is-next, s .is-next, ap (λ (gs : Attributes). length (attributeBytes gs)) (v .is), length-append (bytes (v .first-body)) (attributeBytes (v .others)));
-        }
-
-pub measured-none : (at n : ℕ) (fs : Attributes) → n ≡ 0 → n ≡ countAttributes fs
+measured-none : (at n : ℕ) (fs : Attributes) → n ≡ 0 → n ≡ countAttributes fs
     → AttributesMeasured (record { cells = 0; nodes = 0; depth = 0; next = at }) at fs
 unfolding size nodes depth bytes countAttributes
 measured-none at n end z e = record { is-cells = refl; is-nodes = refl; is-depth = refl; is-next = omega arith }
 measured-none at n (attribute m b fs) z e = absurd (let k : ⊥ = omega (arith, z, e) in k)
+
+-- ---- attributes that a loop passes: what it has added up, with the attributes ahead, is what the whole measures
+pub record Passing (bs : List ℕ) (at left cells nodes-of depth-of next : ℕ) (fs : Attributes) : Type 0 where
+  pub ahead : Attributes
+  pub here : AttributesAt bs next ahead
+  pub counted : left ≡ countAttributes ahead
+  pub all-cells : cells + sizes ahead ≡ sizes fs
+  pub all-nodes : nodes-of + attributeNodes ahead ≡ attributeNodes fs
+  pub all-levels : max depth-of (attributeDepth ahead) ≡ attributeDepth fs
+  pub all-bytes : next + length (attributeBytes ahead) ≡ at + length (attributeBytes fs)
+  pub onward : at ≤ next
+
+-- so it is whichever n attributes stand there
+pub record Passed (bs : List ℕ) (at n left cells nodes-of depth-of next : ℕ) : Type 0 where
+  pub whole : (fs : Attributes) → AttributesAt bs at fs → n ≡ countAttributes fs → Passing bs at left cells nodes-of depth-of next fs
+
+pub none-passed : (bs : List ℕ) (at n : ℕ) → Passed bs at n n 0 0 0 at
+none-passed bs at n =
+    record {
+      whole = λ fs h e.
+          record {
+            ahead = fs;
+            here = h;
+            counted = e;
+            all-cells = omega arith;
+            all-nodes = omega arith;
+            all-levels = omega arith;
+            all-bytes = refl;
+            onward = omega arith;
+          };
+    }
+
+module _ {bs : List ℕ} {at n left cells nodes-of depth-of next : ℕ} (k : Passed bs at n left cells nodes-of depth-of next) where
+  pub all-passed : left ≡ 0 → (fs : Attributes) → AttributesAt bs at fs → n ≡ countAttributes fs
+      → AttributesMeasured (record { cells = cells; nodes = nodes-of; depth = depth-of; next = next }) at fs
+  all-passed z fs h e =
+      let p = k .whole fs h e in
+      let r = measured-none next left (p .ahead) z (p .counted) in
+      record {
+        is-cells = omega (arith, r .is-cells, p .all-cells);
+        is-nodes = omega (arith, r .is-nodes, p .all-nodes);
+        is-depth = omega (arith, r .is-depth, p .all-levels);
+        is-next = omega (arith, r .is-next, p .all-bytes);
+      }
+
+  -- what was added up is small
+  pub few-passed : SomeAttributesAt bs at n → (cells ≤ 64) × (nodes-of ≤ 32) × (at ≤ next)
+  few-passed s =
+      let p = k .whole (s .attributes) (s .here) (s .counted) in
+      (omega (arith, p .all-cells, s .few-cells), omega (arith, p .all-nodes, s .few-nodes), p .onward)
+
+  -- the next attribute
+  module _ (f : left ≡ 0 → ⊥) where
+    pub some-next : SomeAttributesAt bs at n → SomeAt bs (next + 1)
+    some-next s =
+        let p = k .whole (s .attributes) (s .here) (s .counted) in
+        first-at bs next left f
+        (record {
+          attributes = p .ahead;
+          here = p .here;
+          counted = p .counted;
+          few-cells = omega (arith, p .all-cells, s .few-cells);
+          few-nodes = omega (arith, p .all-nodes, s .few-nodes);
+        })
+
+    pub next-below : SomeAttributesAt bs at n → next + 1 < length bs
+    next-below s = at-below bs (next + 1) (some-next s .body) (some-next s .here)
+
+    pub one-passed : (m : Measure) → ((b : Body) → At bs (next + 1) b → Measured m (next + 1) b)
+        → {c' k' d' x' : ℕ} → c' ≡ cells + m .cells → k' ≡ nodes-of + m .nodes → d' ≡ max depth-of (m .depth) → x' ≡ m .next
+        → Passed bs at n (left - 1) c' k' d' x'
+    unfolding size nodes depth bytes
+    one-passed m g ec ek ed ex =
+        record {
+          whole = λ fs h e.
+              let p = k .whole fs h e in
+              let v = more-view left (p .ahead) f (p .counted) in
+              let a = subst (λ (gs : Attributes). AttributesAt bs next gs) (v .is) (p .here) in
+              let r = g (v .first-body) (attribute-part bs next (v .first-number) (v .first-body) (v .others) a) in
+              record {
+                ahead = v .others;
+                here =
+                    subst (λ (y : ℕ). AttributesAt bs y (v .others)) (sym (ex ∙ r .is-next))
+                    (attribute-rest bs next (v .first-number) (v .first-body) (v .others) a);
+                counted = v .counted;
+                all-cells = omega (arith, ec, r .is-cells, p .all-cells, ap sizes (v .is));
+                all-nodes = omega (arith, ek, r .is-nodes, p .all-nodes, ap attributeNodes (v .is));
+                all-levels = omega (arith, ed, r .is-depth, p .all-levels, ap attributeDepth (v .is));
+                all-bytes =
+                    omega (arith, ex, r .is-next, p .all-bytes, ap (λ (gs : Attributes). length (attributeBytes gs)) (v .is), length-append (bytes (v .first-body)) (attributeBytes (v .others)));
+                onward = omega (arith, ex, r .is-next, p .onward);
+              };
+        }

@@ -1,5 +1,5 @@
 // Where an attribute stands in a record, and where a new one goes.
-use crate::walk::measure_at;
+use crate::walk::measured;
 use lingua::sizes::BODY_BYTES;
 ghost use mathlib.Core.Path.{_≡_};
 ghost use Prim.Native.Nat.{_+_};
@@ -30,7 +30,7 @@ pub fn find(body: [u8; BODY_BYTES], n: u8) -> Found
                 offset: offset,
             };
         }
-        let m = measure_at(body, at + 1);
+        let m = measured(body, at + 1);
         at = m.next;
         offset = offset + m.cells;
         left = left - 1;
@@ -53,7 +53,7 @@ pub fn place(body: [u8; BODY_BYTES], n: u8) -> usize
         if n < body[at] {
             return at;
         }
-        let m = measure_at(body, at + 1);
+        let m = measured(body, at + 1);
         at = m.next;
         left = left - 1;
     }

@@ -67,33 +67,58 @@ pub fn measure_at(body: [u8; BODY_BYTES], at: usize) -> Measure
     }
 }
 
-// The n attributes at a place, taken together.
+// The n attributes at a place, taken together; one with a simple body is passed without a call.
 fn attributes_at(body: [u8; BODY_BYTES], at: usize, n: u8) -> Measure
     requires { ⌜ SomeAttributesAt body at n ⌝ }
     ensures { λ r. ⌜ ((fs : Attributes) → AttributesAt body at fs → n ≡ countAttributes fs → AttributesMeasured r at fs) ⌝ }
 {
-    if n == 0 {
+    let mut left = n;
+    let mut next = at;
+    let mut cells = 0;
+    let mut nodes = 0;
+    let mut depth = 0;
+    while left != 0 {
+        if body[next + 1] <= WORD {
+            cells = cells + 1;
+            nodes = nodes + 1;
+            depth = larger(depth, 1);
+            next = next + 2;
+        } else {
+            let m = measure_at(body, next + 1);
+            cells = cells + m.cells;
+            nodes = nodes + m.nodes;
+            depth = larger(depth, m.depth);
+            next = m.next;
+        }
+        left = left - 1;
+    }
+    Measure {
+        cells: cells,
+        nodes: nodes,
+        depth: depth,
+        next: next,
+    }
+}
+
+// The body at a place, where it may well be a simple one: most are.
+pub fn measured(body: [u8; BODY_BYTES], at: usize) -> Measure
+    requires { ⌜ SomeAt body at ⌝ }
+    ensures { λ r. ⌜ ((b : Body) → At body at b → Measured r at b) ⌝ }
+{
+    if body[at] <= WORD {
         return Measure {
-            cells: 0,
-            nodes: 0,
-            depth: 0,
-            next: at,
+            cells: 1,
+            nodes: 1,
+            depth: 1,
+            next: at + 1,
         };
     }
-    let first = measure_at(body, at + 1);
-    let next = first.next;
-    let rest = attributes_at(body, next, n - 1);
-    Measure {
-        cells: first.cells + rest.cells,
-        nodes: first.nodes + rest.nodes,
-        depth: larger(first.depth, rest.depth),
-        next: rest.next,
-    }
+    measure_at(body, at)
 }
 
 pub fn measure_body(body: [u8; BODY_BYTES]) -> Measure
     requires { ⌜ Held body ⌝ }
     ensures { λ r. ⌜ ((b : Body) → Holds body b → Measured r 0 b) ⌝ }
 {
-    measure_at(body, 0)
+    measured(body, 0)
 }

@@ -47,8 +47,8 @@ returns c =
     let l = loop in
     search-hit (args .t1) (args .n) (l .left) (l .at) (l .offset) (l .inv) (c .before .loop-test .taken) (c .if1 .taken)
 
-add-measure-at : tie.Need-add-measure-at Inv-loop μ-loop
-add-measure-at c =
+add-measured : tie.Need-add-measured Inv-loop μ-loop
+add-measured c =
     let loop = c .before .before .loop in
     let args = c .before .before .before .args in
     let l = loop in
@@ -56,8 +56,8 @@ add-measure-at c =
     let n : length (args .t1) ≡ 96 = search needs in
     omega (arith, n, at-below (args .t1) (l .at + 1) _ (next-body (args .t1) (l .left) (l .at) (c .before .loop-test .taken) s))
 
-measure-at-requires : tie.Need-measure-at-requires Inv-loop μ-loop
-measure-at-requires c κs =
+measured-requires : tie.Need-measured-requires Inv-loop μ-loop
+measured-requires c κs =
     let loop = c .before .before .loop in
     let args = c .before .before .before .args in
     let l = loop in
@@ -69,9 +69,9 @@ add-offset c =
     let args = c .before .before .before .before .before .args in
     let loop-test = c .before .before .before .loop-test in
     let if1 = c .before .before .if1 in
-    let measure-at = c .before .measure-at in
+    let measured = c .before .measured in
     let l = loop in
-    omega (arith, search-on (args .t1) (args .n) (l .left) (l .at) (l .offset) (l .inv) (loop-test .taken) (if1 .left) (measure-at .result) (measure-at .ensures) .few-cells)
+    omega (arith, search-on (args .t1) (args .n) (l .left) (l .at) (l .offset) (l .inv) (loop-test .taken) (if1 .left) (measured .result) (measured .ensures) .few-cells)
 
 sub-left : tie.Need-sub-left Inv-loop μ-loop
 sub-left c =
@@ -89,10 +89,10 @@ loop-again c =
     let args = c .before .before .before .before .before .args in
     let loop-test = c .before .before .before .loop-test in
     let if1 = c .before .before .if1 in
-    let measure-at = c .before .measure-at in
+    let measured = c .before .measured in
     let l = loop in
     search-on (args .t1) (args .n) (l .left) (l .at) (l .offset) (l .inv) (loop-test .taken) (if1 .left)
-    (measure-at .result) (measure-at .ensures)
+    (measured .result) (measured .ensures)
 
 returns-2 : tie.Need-returns-2 Inv-loop μ-loop
 returns-2 c =
@@ -111,8 +111,8 @@ find-spec =
     array-read-if1
     add-t15
     returns
-    add-measure-at
-    measure-at-requires
+    add-measured
+    measured-requires
     add-offset
     sub-left
     loop-less

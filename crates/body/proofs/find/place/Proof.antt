@@ -38,8 +38,8 @@ returns c =
     let l = loop in
     place-here (args .t1) (args .n) (l .left) (l .at) (l .inv) (c .before .loop-test .taken) (c .if1 .taken)
 
-add-measure-at : tie.Need-add-measure-at Inv-loop μ-loop
-add-measure-at c =
+add-measured : tie.Need-add-measured Inv-loop μ-loop
+add-measured c =
     let loop = c .before .before .loop in
     let args = c .before .before .before .args in
     let l = loop in
@@ -47,8 +47,8 @@ add-measure-at c =
     let n : length (args .t1) ≡ 96 = search needs in
     omega (arith, n, at-below (args .t1) (l .at + 1) _ (next-body (args .t1) (l .left) (l .at) (c .before .loop-test .taken) s))
 
-measure-at-requires : tie.Need-measure-at-requires Inv-loop μ-loop
-measure-at-requires c κs =
+measured-requires : tie.Need-measured-requires Inv-loop μ-loop
+measured-requires c κs =
     let loop = c .before .before .loop in
     let args = c .before .before .before .args in
     let l = loop in
@@ -71,7 +71,7 @@ loop-again c =
     let loop-test = c .before .before .loop-test in
     let l = loop in
     place-on (args .t1) (args .n) (l .left) (l .at) (l .inv) (loop-test .taken) (c .before .if1 .left)
-    (c .measure-at .result) (c .measure-at .ensures)
+    (c .measured .result) (c .measured .ensures)
 
 returns-2 : tie.Need-returns-2 Inv-loop μ-loop
 returns-2 c =
@@ -89,8 +89,8 @@ place-spec =
     loop-holds
     array-read-if1
     returns
-    add-measure-at
-    measure-at-requires
+    add-measured
+    measured-requires
     sub-left
     loop-less
     loop-again

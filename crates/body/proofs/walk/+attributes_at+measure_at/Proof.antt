@@ -1,12 +1,13 @@
--- `body::walk::measure_at` and `attributes_at` meet their contracts. Each call and each end has its law in `Measures`; the
--- place rises at each call. Assumes nothing.
+-- `body::walk::measure_at` and `attributes_at` meet their contracts. Each call, each turn and each end has its law in `Measures`;
+-- the place rises at each call. Assumes nothing.
 use mathlib.Core.Path.{_≡_}
+use mathlib.Core.Logic.{⊎-elim}
 use Prim.Native.Nat.{ℕ, _+_, _-_, _<_}
 use native.Mathlib.Omega.{arith}
 use lib.ListN.{length, getD}
 use borrow.Author.Needs.{needs}
 use Rattle.body.proofs.Places.{at-below}
-use Rattle.body.proofs.Measures.{few-measured, few-attributes, some-list, measured-list, some-record-below, some-record, measured-record, measured-simple, first-at, others-at, moves, measured-more, measured-none}
+use Rattle.body.proofs.Measures.{few-measured, few-attributes, some-list, measured-list, some-record-below, some-record, measured-record, measured-simple, measured-first, Passed, none-passed, all-passed, few-passed, some-next, next-below, one-passed}
 use borrow.Fn.Kinds.{In}
 use borrow.Fn.PlainCycle.{Measures, is, falls, and}
 use Rattle.body.proofs.walk.attributes_at.Reads as attributes-at
@@ -46,78 +47,90 @@ measure-at-below t =
     and 0 measure-at-kinds.ps (falls 0 measure-at-kinds.ps _<_ μ-measure-at t) measure-at.Pre
 
 abbrev attributes-at-calls : ℕ → attributes-at-lts.Claims
-attributes-at-calls t = (measure-at-below t, measure-at.Post, attributes-at-below t, attributes-at.Post, larger-reads.Asked, larger-reads.Learnt)
+attributes-at-calls t = (larger-reads.Asked, larger-reads.Learnt, measure-at-below t, measure-at.Post)
 
 abbrev measure-at-calls : ℕ → measure-at-lts.Claims
 measure-at-calls t = (measure-at-below t, measure-at.Post, attributes-at-below t, attributes-at.Post)
 
-attributes-at-returns : (t : ℕ) → attributes-at-lts.Need-returns (attributes-at-calls t) (attributes-at-at t) attributes-at.Post
-attributes-at-returns t c = λ fs h e.
-    let args = c .before .args in
-    measured-none (args .at) (args .n) fs (c .if1 .taken) e
+abbrev attributes-at-Inv-loop : attributes-at-lts.InvT-loop
+attributes-at-Inv-loop at n body left₀ next₀ cells₀ nodes₀ depth₀ left next cells nodes depth = Passed body at n left cells nodes depth next
 
-attributes-at-add-measure-at : (t : ℕ) → attributes-at-lts.Need-add-measure-at (attributes-at-calls t) (attributes-at-at t) attributes-at.Post
-attributes-at-add-measure-at t c =
-    let args = c .before .args in
-    let l : length (args .body) ≡ 96 = search needs in
-    let b = first-at (args .body) (args .at) (args .n) (c .if1 .left) (c .before .pre .1) in
-    omega (arith, l, at-below (args .body) (args .at + 1) (b .body) (b .here))
+abbrev attributes-at-μ-loop : attributes-at-lts.MeasureT-loop
+attributes-at-μ-loop at n body left₀ next₀ cells₀ nodes₀ depth₀ left next cells nodes depth = left
 
-attributes-at-measure-at-requires : (t : ℕ) → attributes-at-lts.Need-measure-at-requires (attributes-at-calls t) (attributes-at-at t) attributes-at.Post
-attributes-at-measure-at-requires t c κs =
-    let args = c .before .args in
-    let pre = c .before .pre in
-    let l : length (args .body) ≡ 96 = search needs in
-    let b = first-at (args .body) (args .at) (args .n) (c .if1 .left) (pre .1) in
-    (omega (arith, l, at-below (args .body) (args .at + 1) (b .body) (b .here), pre .0), b)
+attributes-at-loop-holds : (t : ℕ) → attributes-at-lts.Need-loop-holds (attributes-at-calls t) (attributes-at-at t) attributes-at.Post attributes-at-Inv-loop attributes-at-μ-loop
+attributes-at-loop-holds t c = none-passed _ _ _
 
-attributes-at-sub-attributes-at : (t : ℕ) → attributes-at-lts.Need-sub-attributes-at (attributes-at-calls t) (attributes-at-at t) attributes-at.Post
-attributes-at-sub-attributes-at t c = let f = c .before .if1 .left in omega (arith, f)
+attributes-at-add-if1 : (t : ℕ) → attributes-at-lts.Need-add-if1 (attributes-at-calls t) (attributes-at-at t) attributes-at.Post attributes-at-Inv-loop attributes-at-μ-loop
+attributes-at-add-if1 t c =
+    let l : length (c .before .before .args .t1) ≡ 96 = search needs in
+    omega (arith, l, next-below (c .before .loop .inv) (c .loop-test .taken) (c .before .before .pre .1))
 
-attributes-at-attributes-at-requires : (t : ℕ) → attributes-at-lts.Need-attributes-at-requires (attributes-at-calls t) (attributes-at-at t) attributes-at.Post
-attributes-at-attributes-at-requires t c κs =
-    let args = c .before .before .args in
-    let if1 = c .before .if1 in
-    let pre = c .before .before .pre in
-    let l : length (args .body) ≡ 96 = search needs in
-    let m = moves (args .body) (args .at) (args .n) (if1 .left) (c .measure-at .result) (c .measure-at .ensures) (pre .1) in (
-      omega (arith, l, m .0, m .1, pre .0),
-      others-at (args .body) (args .at) (args .n) (if1 .left) (c .measure-at .result) (c .measure-at .ensures) (pre .1),
-    )
+attributes-at-array-read-if1 : (t : ℕ) → attributes-at-lts.Need-array-read-if1 (attributes-at-calls t) (attributes-at-at t) attributes-at.Post attributes-at-Inv-loop attributes-at-μ-loop
+attributes-at-array-read-if1 t c =
+    let l : length (c .before .before .args .t1) ≡ 96 = search needs in
+    omega (arith, l, next-below (c .before .loop .inv) (c .loop-test .taken) (c .before .before .pre .1))
 
-attributes-at-add-t8 : (t : ℕ) → attributes-at-lts.Need-add-t8 (attributes-at-calls t) (attributes-at-at t) attributes-at.Post
-attributes-at-add-t8 t c =
-    let pre = c .before .before .before .before .before .pre in
-    let args = c .before .before .before .before .before .args in
-    let if1 = c .before .before .before .before .if1 in
-    let measure-at-call = c .before .before .before .measure-at in
-    let attributes-at-call = c .before .before .attributes-at in
-    let s = pre .1 in
-    let o = others-at (args .body) (args .at) (args .n) (if1 .left) (measure-at-call .result) (measure-at-call .ensures) s in
-    omega (arith, few-measured (args .body) (args .at + 1) (measure-at-call .result) (measure-at-call .ensures) (first-at (args .body) (args .at) (args .n) (if1 .left) s), few-attributes (args .body) _ _ (attributes-at-call .result) (attributes-at-call .ensures) o)
+attributes-at-add-cells : (t : ℕ) → attributes-at-lts.Need-add-cells (attributes-at-calls t) (attributes-at-at t) attributes-at.Post attributes-at-Inv-loop attributes-at-μ-loop
+attributes-at-add-cells t c = omega (arith, few-passed (c .before .before .loop .inv) (c .before .before .before .pre .1))
 
-attributes-at-add-t10 : (t : ℕ) → attributes-at-lts.Need-add-t10 (attributes-at-calls t) (attributes-at-at t) attributes-at.Post
-attributes-at-add-t10 t c =
-    let pre = c .before .before .before .before .before .before .before .pre in
-    let args = c .before .before .before .before .before .before .before .args in
-    let if1 = c .before .before .before .before .before .before .if1 in
-    let measure-at-call = c .before .before .before .before .before .measure-at in
-    let attributes-at-call = c .before .before .before .before .attributes-at in
-    let s = pre .1 in
-    let o = others-at (args .body) (args .at) (args .n) (if1 .left) (measure-at-call .result) (measure-at-call .ensures) s in
-    omega (arith, few-measured (args .body) (args .at + 1) (measure-at-call .result) (measure-at-call .ensures) (first-at (args .body) (args .at) (args .n) (if1 .left) s), few-attributes (args .body) _ _ (attributes-at-call .result) (attributes-at-call .ensures) o)
+attributes-at-add-nodes : (t : ℕ) → attributes-at-lts.Need-add-nodes (attributes-at-calls t) (attributes-at-at t) attributes-at.Post attributes-at-Inv-loop attributes-at-μ-loop
+attributes-at-add-nodes t c = omega (arith, few-passed (c .before .before .loop .inv) (c .before .before .before .pre .1))
 
-attributes-at-larger-requires : (t : ℕ) → attributes-at-lts.Need-larger-requires (attributes-at-calls t) (attributes-at-at t) attributes-at.Post
+attributes-at-larger-requires : (t : ℕ) → attributes-at-lts.Need-larger-requires (attributes-at-calls t) (attributes-at-at t) attributes-at.Post attributes-at-Inv-loop attributes-at-μ-loop
 attributes-at-larger-requires t c κs = search needs
 
-attributes-at-returns-2 : (t : ℕ) → attributes-at-lts.Need-returns-2 (attributes-at-calls t) (attributes-at-at t) attributes-at.Post
-attributes-at-returns-2 t c =
-    let args = c .before .before .before .before .before .before .before .before .args in
-    let if1 = c .before .before .before .before .before .before .before .if1 in
-    let measure-at-call = c .before .before .before .before .before .before .measure-at in
-    let attributes-at-call = c .before .before .before .before .before .attributes-at in
-    measured-more (args .body) (args .at) (args .n) (if1 .left) (measure-at-call .result) (measure-at-call .ensures)
-    (attributes-at-call .result) (attributes-at-call .ensures) (c .larger .result) (c .larger .ensures)
+attributes-at-add-next : (t : ℕ) → attributes-at-lts.Need-add-next (attributes-at-calls t) (attributes-at-at t) attributes-at.Post attributes-at-Inv-loop attributes-at-μ-loop
+attributes-at-add-next t c =
+    let l : length (c .before .before .before .before .args .t1) ≡ 96 = search needs in
+    omega (arith, l, next-below (c .before .before .before .loop .inv) (c .before .before .loop-test .taken) (c .before .before .before .before .pre .1))
+
+attributes-at-add-measure-at : (t : ℕ) → attributes-at-lts.Need-add-measure-at (attributes-at-calls t) (attributes-at-at t) attributes-at.Post attributes-at-Inv-loop attributes-at-μ-loop
+attributes-at-add-measure-at t c =
+    let l : length (c .before .before .before .args .t1) ≡ 96 = search needs in
+    omega (arith, l, next-below (c .before .before .loop .inv) (c .before .loop-test .taken) (c .before .before .before .pre .1))
+
+attributes-at-measure-at-requires : (t : ℕ) → attributes-at-lts.Need-measure-at-requires (attributes-at-calls t) (attributes-at-at t) attributes-at.Post attributes-at-Inv-loop attributes-at-μ-loop
+attributes-at-measure-at-requires t c κs =
+    let l : length (c .before .before .before .args .t1) ≡ 96 = search needs in (
+      omega (arith, l, c .before .before .before .pre .0, few-passed (c .before .before .loop .inv) (c .before .before .before .pre .1), next-below (c .before .before .loop .inv) (c .before .loop-test .taken) (c .before .before .before .pre .1)),
+      some-next (c .before .before .loop .inv) (c .before .loop-test .taken) (c .before .before .before .pre .1),
+    )
+
+attributes-at-add-cells-2 : (t : ℕ) → attributes-at-lts.Need-add-cells-2 (attributes-at-calls t) (attributes-at-at t) attributes-at.Post attributes-at-Inv-loop attributes-at-μ-loop
+attributes-at-add-cells-2 t c =
+    let b = some-next (c .before .before .before .before .loop .inv) (c .before .before .before .loop-test .taken) (c .before .before .before .before .before .pre .1) in
+    omega (arith, few-passed (c .before .before .before .before .loop .inv) (c .before .before .before .before .before .pre .1), few-measured (c .before .before .before .before .before .args .t1) (c .before .before .before .before .loop .next + 1) (c .before .measure-at .result) (c .before .measure-at .ensures) b)
+
+attributes-at-add-nodes-2 : (t : ℕ) → attributes-at-lts.Need-add-nodes-2 (attributes-at-calls t) (attributes-at-at t) attributes-at.Post attributes-at-Inv-loop attributes-at-μ-loop
+attributes-at-add-nodes-2 t c =
+    let b = some-next (c .before .before .before .before .before .loop .inv) (c .before .before .before .before .loop-test .taken) (c .before .before .before .before .before .before .pre .1) in
+    omega (arith, few-passed (c .before .before .before .before .before .loop .inv) (c .before .before .before .before .before .before .pre .1), few-measured (c .before .before .before .before .before .before .args .t1) (c .before .before .before .before .before .loop .next + 1) (c .before .before .measure-at .result) (c .before .before .measure-at .ensures) b)
+
+attributes-at-larger-requires-2 : (t : ℕ) → attributes-at-lts.Need-larger-requires-2 (attributes-at-calls t) (attributes-at-at t) attributes-at.Post attributes-at-Inv-loop attributes-at-μ-loop
+attributes-at-larger-requires-2 t c κs = search needs
+
+attributes-at-sub-left : (t : ℕ) → attributes-at-lts.Need-sub-left (attributes-at-calls t) (attributes-at-at t) attributes-at.Post attributes-at-Inv-loop attributes-at-μ-loop
+attributes-at-sub-left t c = let f = c .before .loop-test .taken in omega (arith, f)
+
+attributes-at-loop-less : (t : ℕ) → attributes-at-lts.Need-loop-less (attributes-at-calls t) (attributes-at-at t) attributes-at.Post attributes-at-Inv-loop attributes-at-μ-loop
+attributes-at-loop-less t c = let f = c .before .loop-test .taken in omega (arith, f)
+
+attributes-at-loop-again : (t : ℕ) → attributes-at-lts.Need-loop-again (attributes-at-calls t) (attributes-at-at t) attributes-at.Post attributes-at-Inv-loop attributes-at-μ-loop
+attributes-at-loop-again t c =
+    let l = c .before .before .loop in
+    let f = c .before .loop-test .taken in
+    ⊎-elim
+    (λ w. one-passed (l .inv) f
+    (record { cells = 1; nodes = 1; depth = 1; next = l .next + 1 + 1 }) (measured-first (c .before .before .before .args .t1) (l .next + 1) (w .0 .taken))
+    (w .3) (w .4) (omega (arith, w .5, w .1 .ensures)) (omega (arith, w .2)))
+    (λ w. one-passed (l .inv) f
+    (w .1 .result) (w .1 .ensures)
+    (w .6) (w .7) (omega (arith, w .8, w .4 .ensures)) (w .5))
+    (c .if1 .came)
+
+attributes-at-returns : (t : ℕ) → attributes-at-lts.Need-returns (attributes-at-calls t) (attributes-at-at t) attributes-at.Post attributes-at-Inv-loop attributes-at-μ-loop
+attributes-at-returns t c = all-passed (c .before .loop .inv) (c .loop-test .left)
 
 measure-at-array-read-tag : (t : ℕ) → measure-at-lts.Need-array-read-tag (measure-at-calls t) (measure-at-at t) measure-at.Post
 measure-at-array-read-tag t c =
@@ -247,15 +260,24 @@ measure-at-returns-3 t c =
 pub +attributes-at+measure-at-spec : {M : Type 1} → statement M
 +attributes-at+measure-at-spec = close μ-attributes-at μ-measure-at (λ t. attributes-at-lts.spec (attributes-at-calls t) (attributes-at-at t)
     attributes-at.Post
-    (attributes-at-returns t)
+    attributes-at-Inv-loop
+    attributes-at-μ-loop
+    (attributes-at-loop-holds t)
+    (attributes-at-add-if1 t)
+    (attributes-at-array-read-if1 t)
+    (attributes-at-add-cells t)
+    (attributes-at-add-nodes t)
+    (attributes-at-larger-requires t)
+    (attributes-at-add-next t)
     (attributes-at-add-measure-at t)
     (attributes-at-measure-at-requires t)
-    (attributes-at-sub-attributes-at t)
-    (attributes-at-attributes-at-requires t)
-    (attributes-at-add-t8 t)
-    (attributes-at-add-t10 t)
-    (attributes-at-larger-requires t)
-    (attributes-at-returns-2 t))
+    (attributes-at-add-cells-2 t)
+    (attributes-at-add-nodes-2 t)
+    (attributes-at-larger-requires-2 t)
+    (attributes-at-sub-left t)
+    (attributes-at-loop-less t)
+    (attributes-at-loop-again t)
+    (attributes-at-returns t))
     λ t. measure-at-lts.spec (measure-at-calls t) (measure-at-at t)
     measure-at.Post
     (measure-at-array-read-tag t)
