@@ -3,13 +3,14 @@ use mathlib.Core.Path.{_≡_, refl, sym, ap, _∙_}
 use mathlib.Core.List.{List, [], _∷_, _++_, append-assoc, append-nil}
 use Prim.Native.Nat.{ℕ, _+_, _-_, _≤_, _<_}
 use native.Mathlib.Omega.{arith}
-use lib.ListN.{length, take, drop, set, replicate, length-append}
+use lib.ListN.{length, take, drop, getD, set, replicate, length-append}
 use lib.Seq.{take-append-seam, paste}
-use Rattle.lingua.specs.Body.{Body, list-of, record-of, end, attribute, size, nodes, countAttributes}
+use Rattle.lingua.specs.Body.{Body, boolean, number, word, list-of, record-of, end, attribute, size, nodes, countAttributes}
 use Rattle.lingua.specs.Value.{pad}
 use Rattle.body.specs.Encode.{bytes, encoded, Holds, Held}
 use Rattle.body.specs.Walk.{At, SomeAt}
-use Rattle.body.proofs.Bytes.{bytes-below, length-encoded}
+use Rattle.body.proofs.Bytes.{tag, bytes-below, length-encoded}
+use Rattle.body.proofs.Places.{at-tag}
 use Rattle.body.proofs.Copies.{take-pad, pad-pad, cons-pad, paste-pad}
 
 pub held-at : (x : List ℕ) (b : Body) → Holds x b → At x 0 b
@@ -76,3 +77,18 @@ part-taken x at n b h e =
     ap (λ (k : ℕ). pad 96 0 (take k (drop at x))) e
     ∙ ap (λ (l : List ℕ). pad 96 0 (take (length (bytes b)) l)) (h .is)
     ∙ ap (λ (l : List ℕ). pad 96 0 l) (take-append-seam (bytes b) (h .rest))
+
+-- a simple body is its tag
+simple-bytes : (b : Body) → tag b ≤ 3 → tag b ∷ [] ≡ bytes b
+unfolding tag bytes
+simple-bytes boolean h = refl
+simple-bytes number h = refl
+simple-bytes word h = refl
+simple-bytes (list-of b) h = absurd (let z : ⊥ = omega (arith, h) in z)
+simple-bytes (record-of fs) h = absurd (let z : ⊥ = omega (arith, h) in z)
+
+pub simple-taken : (x : List ℕ) (at : ℕ) (b : Body) → At x at b → getD x at 0 ≤ 3 → pad 96 0 (getD x at 0 ∷ []) ≡ encoded b
+unfolding encoded
+simple-taken x at b h l =
+    let e = at-tag x at b h in
+    ap (λ (t : ℕ). pad 96 0 (t ∷ [])) e ∙ ap (λ (r : List ℕ). pad 96 0 r) (simple-bytes b (omega (arith, l, e)))

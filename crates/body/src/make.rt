@@ -4,6 +4,7 @@ use crate::parts::part;
 use crate::parts::pasted;
 use crate::walk::LIST;
 use crate::walk::RECORD;
+use crate::walk::WORD;
 use crate::walk::measure_at;
 use crate::walk::measure_body;
 use lingua::sizes::BODY_BYTES;
@@ -55,11 +56,15 @@ pub fn element(body: [u8; BODY_BYTES]) -> [u8; BODY_BYTES]
     part(body, 1, PAST_TAG)
 }
 
-// The body that stands at a place, by itself.
+// The body that stands at a place, by itself; a simple one is made by its tag.
 pub fn body_at(body: [u8; BODY_BYTES], at: usize) -> [u8; BODY_BYTES]
     requires { ⌜ SomeAt body at ⌝ }
     ensures { λ r. ⌜ ((b : Body) → At body at b → r ≡ encoded b) ⌝ }
 {
+    let tag = body[at];
+    if tag <= WORD {
+        return simple(tag);
+    }
     let m = measure_at(body, at);
     part(body, at, m.next - at)
 }
