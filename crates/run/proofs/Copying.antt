@@ -1,12 +1,12 @@
 -- A turn of each loop over cells, a variable's part that comes back, and a value that is copied. Assumes nothing.
 use mathlib.Core.Path.{_≡_, sym, ap, _∙_}
-use mathlib.Core.List.{List, [], _∷_, _++_}
+use mathlib.Core.List.{List, _++_}
 use Prim.Native.Nat.{ℕ, _+_, _-_, _*_, _≤_, _<_}
 use native.Mathlib.Numerals.{add-one}
 use native.Mathlib.Omega.{arith}
 use lib.IntN.{ℤ, pos}
 use lib.ListN.{length, take, drop, getD, set, length-drop}
-use lib.Seq.{drop-drop, getD-drop, take-suc, take-suc-set, paste, paste-zero, paste-suc}
+use lib.Seq.{drop-drop, getD-drop, paste, paste-zero, paste-suc}
 use Rattle.lingua.specs.Numbers.{body-cells}
 use Rattle.lingua.specs.Body.{Body, size}
 use Rattle.lingua.specs.Value.{Value, Fits, cellsOf}
@@ -28,14 +28,6 @@ one-cell s from at n z e f h k =
     ∙ ap (λ (x : List ℤ). set x 0 (getD from (at + 0) (pos 0))) (paste-zero s 0 (drop at from))
     ∙ cells-turn s from at 0 h (omega arith)
     ∙ ap (λ (m : ℕ). paste s 0 (drop at from) m) (let m : 0 + 1 ≡ n = omega (arith, f) in m)
-
-pub front-turn : (out from : List ℤ) (i : ℕ) → i < length out → i < length from → take i out ≡ take i from → take (i + 1) (set out i (getD from i (pos 0))) ≡ take (i + 1) from
-front-turn out from i h k e =
-    ap (λ (n : ℕ). take n (set out i (getD from i (pos 0)))) (add-one i)
-    ∙ take-suc-set out i (getD from i (pos 0)) h
-    ∙ ap (λ (x : List ℤ). x ++ (getD from i (pos 0) ∷ [])) e
-    ∙ sym (take-suc from i (pos 0) k)
-    ∙ ap (λ (n : ℕ). take n from) (sym (add-one i))
 
 -- the store's part comes back between what lies before it and what lies behind it
 pub put-is : (cells value part : List ℤ) (n width : ℕ) → part ≡ paste (take (body-cells * n + body-cells - body-cells * n) (drop (body-cells * n) cells)) 0 value width
