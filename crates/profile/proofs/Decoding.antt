@@ -9,12 +9,12 @@ use lib.Dec.{ltb}
 use borrow.Author.Tests.{ltb-true}
 use Rattle.lingua.specs.Numbers.{type-section, expression-section, instruction-section, attribute-numbers}
 use Rattle.lingua.specs.Value.{allOf}
-use Rattle.lingua.specs.Operation.{Unary, negation, make-record, select, make-list, top, pop, Binary, add, subtract, multiply, divide, less, equal, glue, expand, change, push}
+use Rattle.lingua.specs.Operation.{Unary, Binary}
 use Rattle.lingua.specs.Rows.{kindAt, rowIn, numbered, usedOf, TypeRow, typeAt, typeRow, ExpressionRow, constant-row, variable-row, current-row, unary-row, binary-row, lazy-row, choice-row, all-list-row, unknown-expression, expressionKinds, expressionAt, expressionRow, InstructionRow, instructionKinds, instructionAt, instructionRow}
-use Rattle.lingua.specs.Rules.{attributesFit, unaryAttribute, binaryAttribute, expressionAttributes}
+use Rattle.lingua.specs.Rules.{attributesFit, expressionAttributes}
 use Rattle.laws.specs.Outcomes.{and-left, false-is-true}
 use Rattle.rules.specs.Tables.{IsTable}
-use Rattle.rules.specs.Decoded.{byte, typeDecoded, TypeSays, expressionMeaning, expressionDecoded, expressionUses, unaryInBytes, binaryInBytes, inBytes, ExpressionSays, instructionMeaning, instructionDecoded, instructionUses, InstructionSays}
+use Rattle.rules.specs.Decoded.{byte, Naming, names-none, names-one, unaryNaming, binaryNaming, renamed, typeDecoded, TypeSays, expressionMeaning, expressionDecoded, expressionUses, unaryInBytes, binaryInBytes, inBytes, ExpressionSays, instructionMeaning, instructionDecoded, instructionUses, InstructionSays}
 use Rattle.rules.specs.declared.tables.Table.{Table}
 use Rattle.rules.specs.declared.decode.ExpressionRow.{ExpressionRow as CodeRow}
 use Rattle.rules.specs.declared.decode.InstructionRow.{InstructionRow as CodeInstruction}
@@ -31,35 +31,17 @@ use Rattle.profile.specs.Row.{KnownExpression, KnownInstruction, RowSays
 byte-same : (n : ℕ) → attributesFit (n ∷ []) ≡ true → byte n ≡ n
 byte-same n e = let l : n < attribute-numbers = one-fits n e in omega arith
 
-unary-same : (o : Unary) → attributesFit (unaryAttribute o) ≡ true → unaryInBytes o ≡ o
-unfolding unaryAttribute unaryInBytes
-unary-same negation e = refl
-unary-same (make-record n) e = ap make-record (byte-same n e)
-unary-same (select n) e = ap select (byte-same n e)
-unary-same make-list e = refl
-unary-same top e = refl
-unary-same pop e = refl
-
-binary-same : (o : Binary) → attributesFit (binaryAttribute o) ≡ true → binaryInBytes o ≡ o
-unfolding binaryAttribute binaryInBytes
-binary-same add e = refl
-binary-same subtract e = refl
-binary-same multiply e = refl
-binary-same divide e = refl
-binary-same less e = refl
-binary-same equal e = refl
-binary-same glue e = refl
-binary-same (expand n) e = ap expand (byte-same n e)
-binary-same (change n) e = ap change (byte-same n e)
-binary-same push e = refl
+renamed-same : {O : Type 0} {attributes : O → List ℕ} {o : O} (w : Naming attributes o) → attributesFit (attributes o) ≡ true → renamed w ≡ o
+renamed-same names-none h = refl
+renamed-same (names-one f n e) h = ap f (byte-same n (ap (λ (l : List ℕ). attributesFit l) (sym (e n)) ∙ h))
 
 row-same : (row : ExpressionRow) → attributesFit (expressionAttributes row) ≡ true → inBytes row ≡ row
-unfolding expressionAttributes inBytes
+unfolding expressionAttributes inBytes unaryInBytes binaryInBytes
 row-same (constant-row c) e = refl
 row-same (variable-row n) e = refl
 row-same current-row e = refl
-row-same (unary-row o a) e = ap (λ (p : Unary). unary-row p a) (unary-same o e)
-row-same (binary-row o a b) e = ap (λ (p : Binary). binary-row p a b) (binary-same o e)
+row-same (unary-row o a) e = ap (λ (p : Unary). unary-row p a) (renamed-same (unaryNaming o) e)
+row-same (binary-row o a b) e = ap (λ (p : Binary). binary-row p a b) (renamed-same (binaryNaming o) e)
 row-same (lazy-row k a b) e = refl
 row-same (choice-row a b c) e = refl
 row-same (all-list-row a) e = refl

@@ -12,13 +12,13 @@ use borrow.Author.Tests.{ne-eqb, lt-ltb, le-ltb}
 use Rattle.lingua.specs.Numbers.{attribute-numbers, type-section, expression-section, instruction-section}
 use Rattle.lingua.specs.Outcome.{if_then_else_}
 use Rattle.lingua.specs.Value.{allOf}
-use Rattle.lingua.specs.Operation.{Unary, negation, make-record, select, make-list, top, pop, Binary, add, subtract, multiply, divide, less, equal, glue, expand, change, push}
+use Rattle.lingua.specs.Operation.{Unary, Binary}
 use Rattle.lingua.specs.Rows.{kindAt, aAt, bAt, cAt, rowIn, RowKind, numbered, said, usedOf, TypeRow, unknown-type, typeKinds, typeAt, typeRow, ExpressionRow, constant-row, variable-row, current-row, unary-row, binary-row, lazy-row, choice-row, all-list-row, unknown-expression, expressionKinds, expressionAt, expressionRow, operands, InstructionRow, unknown-instruction, instructionKinds, instructionAt, instructionRow}
-use Rattle.lingua.specs.Rules.{rowConstantFits, attributesFit, unaryAttribute, binaryAttribute, expressionAttributes}
+use Rattle.lingua.specs.Rules.{rowConstantFits, attributesFit, expressionAttributes}
 use Rattle.lingua.specs.References.{expressionVariables}
 use Rattle.rules.specs.Tables.{IsTable}
 use Rattle.rules.specs.Reads.{readsRow}
-use Rattle.rules.specs.Decoded.{byte, typeMeaning, typeDecoded, typeUses, TypeSays, expressionMeaning, expressionDecoded, expressionUses, unaryInBytes, binaryInBytes, inBytes, ExpressionSays, instructionMeaning, instructionDecoded, instructionUses, InstructionSays}
+use Rattle.rules.specs.Decoded.{byte, Naming, names-none, names-one, unaryNaming, binaryNaming, renamed, typeMeaning, typeDecoded, typeUses, TypeSays, expressionMeaning, expressionDecoded, expressionUses, unaryInBytes, binaryInBytes, inBytes, ExpressionSays, instructionMeaning, instructionDecoded, instructionUses, InstructionSays}
 use Rattle.rules.specs.declared.tables.Table.{Table}
 use Rattle.rules.specs.declared.decode.TypeRow.{TypeRow as CodeType}
 use Rattle.rules.specs.declared.decode.ExpressionRow.{ExpressionRow as CodeRow}
@@ -32,15 +32,19 @@ use Rattle.rules.specs.declared.decode.DecodedInstruction.the-variants a
 use Rattle.rules.proofs.Counting.{order}
 
 -- ---- a table's kinds
--- a number that no kind of a table has
-abbrev pub Apart : {R : Type 0} → ℕ → List (RowKind R) → Type 0
-Apart k [] = Unit {0}
-Apart k (e ∷ es) = (k ≢ e .kind) × Apart k es
+-- a number that no kind of a table has, as a match tells it where no arm is taken: the last arm's outermost, and B before the first
+abbrev pub Apart : {R : Type 0} → Type 0 → ℕ → List (RowKind R) → Type 0
+Apart B k [] = B
+Apart B k (e ∷ es) = Apart (B × (k ≢ e .kind)) k es
 
-none-numbered : {R : Type 0} (k : ℕ) (kinds : List (RowKind R)) → Apart k kinds → numbered k kinds ≡ none
+apart-before : {R : Type 0} (B : Type 0) (k : ℕ) (kinds : List (RowKind R)) → Apart B k kinds → B
+apart-before B k [] h = h
+apart-before B k (e ∷ es) h = apart-before (B × (k ≢ e .kind)) k es h .0
+
+none-numbered : {R : Type 0} (B : Type 0) (k : ℕ) (kinds : List (RowKind R)) → Apart B k kinds → numbered k kinds ≡ none
 unfolding numbered
-none-numbered k [] h = refl
-none-numbered k (e ∷ es) h = rw (ne-eqb k (e .kind) (h .0)) (none-numbered k es (h .1))
+none-numbered B k [] h = refl
+none-numbered B k (e ∷ es) h = rw (ne-eqb k (e .kind) (apart-before (B × (k ≢ e .kind)) k es h .1)) (none-numbered (B × (k ≢ e .kind)) k es h)
 
 -- ---- an arm of the decoder: D is what it gives for the fields a, b, c
 module _ (rows : List ℕ) (i k a b c : ℕ) (ek : k ≡ kindAt rows i) (ea : a ≡ aAt rows i) (eb : b ≡ bAt rows i) (ec : c ≡ cAt rows i) where
@@ -54,20 +58,12 @@ module _ (rows : List ℕ) (i k a b c : ℕ) (ek : k ≡ kindAt rows i) (ea : a 
       let m : kindAt rows i ≡ n = sym ek ∙ e in
       by-fields (TypeSays rows i) d (record { says = rw (m, q) s; uses = rw (m, q) u })
 
-  pub type-unknown : Apart k typeKinds → TypeSays rows i decoded-type.Unknown
-  unfolding typeAt said usedOf typeDecoded typeUses
-  type-unknown h = let q : numbered (kindAt rows i) typeKinds ≡ none = rw (← ek) (none-numbered k typeKinds h) in record { says = rw q; uses = rw q }
-
   pub expression-arm : (n : ℕ) (x : RowKind ExpressionRow) (d : ℕ → ℕ → ℕ → DecodedExpression) → k ≡ n → numbered n expressionKinds ≡ some x
       → expressionDecoded rows i (d (aAt rows i) (bAt rows i) (cAt rows i)) ≡ inBytes (x .says rows i) → expressionUses (d (aAt rows i) (bAt rows i) (cAt rows i)) ≡ some (x .used) → ExpressionSays rows i (d a b c)
   unfolding expressionAt said usedOf
   expression-arm n x d e q s u =
       let m : kindAt rows i ≡ n = sym ek ∙ e in
       by-fields (ExpressionSays rows i) d (record { says = rw (m, q) s; uses = rw (m, q) u })
-
-  pub expression-unknown : Apart k expressionKinds → ExpressionSays rows i decoded.Unknown
-  unfolding expressionAt said usedOf expressionDecoded expressionUses inBytes
-  expression-unknown h = let q : numbered (kindAt rows i) expressionKinds ≡ none = rw (← ek) (none-numbered k expressionKinds h) in record { says = rw q; uses = rw q }
 
   pub instruction-arm : (n : ℕ) (x : RowKind InstructionRow) (d : ℕ → ℕ → ℕ → DecodedInstruction) → k ≡ n → numbered n instructionKinds ≡ some x
       → instructionDecoded (d (aAt rows i) (bAt rows i) (cAt rows i)) ≡ x .says rows i → instructionUses (d (aAt rows i) (bAt rows i) (cAt rows i)) ≡ some (x .used) → InstructionSays rows i (d a b c)
@@ -76,62 +72,54 @@ module _ (rows : List ℕ) (i k a b c : ℕ) (ek : k ≡ kindAt rows i) (ea : a 
       let m : kindAt rows i ≡ n = sym ek ∙ e in
       by-fields (InstructionSays rows i) d (record { says = rw (m, q) s; uses = rw (m, q) u })
 
-  pub instruction-unknown : Apart k instructionKinds → InstructionSays rows i decoded-instruction.Unknown
+-- ---- where no arm's kind is the row's
+module _ (rows : List ℕ) (i k : ℕ) (ek : k ≡ kindAt rows i) where
+  pub type-unknown : (B : Type 0) → Apart B k typeKinds → TypeSays rows i decoded-type.Unknown
+  unfolding typeAt said usedOf typeDecoded typeUses
+  type-unknown B h = let q : numbered (kindAt rows i) typeKinds ≡ none = rw (← ek) (none-numbered B k typeKinds h) in record { says = rw q; uses = rw q }
+
+  pub expression-unknown : (B : Type 0) → Apart B k expressionKinds → ExpressionSays rows i decoded.Unknown
+  unfolding expressionAt said usedOf expressionDecoded expressionUses inBytes
+  expression-unknown B h = let q : numbered (kindAt rows i) expressionKinds ≡ none = rw (← ek) (none-numbered B k expressionKinds h) in record { says = rw q; uses = rw q }
+
+  pub instruction-unknown : (B : Type 0) → Apart B k instructionKinds → InstructionSays rows i decoded-instruction.Unknown
   unfolding instructionAt said usedOf instructionDecoded instructionUses
-  instruction-unknown h = let q : numbered (kindAt rows i) instructionKinds ≡ none = rw (← ek) (none-numbered k instructionKinds h) in record { says = rw q; uses = rw q }
+  instruction-unknown B h = let q : numbered (kindAt rows i) instructionKinds ≡ none = rw (← ek) (none-numbered B k instructionKinds h) in record { says = rw q; uses = rw q }
 
 -- the same of an equal attribute
 pub attribute-as : {rows : List ℕ} {i m n : ℕ} (D : ℕ → DecodedExpression) → m ≡ n → ExpressionSays rows i (D n) → ExpressionSays rows i (D m)
 attribute-as {rows} {i} D e h = subst (λ (k : ℕ). ExpressionSays rows i (D k)) (sym e) h
 
--- ---- what a row names does not depend on how far its attributes go
+-- ---- what is said of a row that does not depend on how far its attributes go
+module _ {X : Type 0} (F : ExpressionRow → X) (unary : (o : Unary) (a : ℕ) → F (unary-row (unaryInBytes o) a) ≡ F (unary-row o a))
+    (binary : (o : Binary) (a b : ℕ) → F (binary-row (binaryInBytes o) a b) ≡ F (binary-row o a b)) where
+  in-bytes : (row : ExpressionRow) → F (inBytes row) ≡ F row
+  unfolding inBytes
+  in-bytes (constant-row c) = refl
+  in-bytes (variable-row n) = refl
+  in-bytes current-row = refl
+  in-bytes (unary-row o a) = unary o a
+  in-bytes (binary-row o a b) = binary o a b
+  in-bytes (lazy-row k a b) = refl
+  in-bytes (choice-row a b c) = refl
+  in-bytes (all-list-row a) = refl
+  in-bytes unknown-expression = refl
+
 pub operands-in-bytes : (row : ExpressionRow) → operands (inBytes row) ≡ operands row
-unfolding operands inBytes
-operands-in-bytes (constant-row c) = refl
-operands-in-bytes (variable-row n) = refl
-operands-in-bytes current-row = refl
-operands-in-bytes (unary-row o a) = refl
-operands-in-bytes (binary-row o a b) = refl
-operands-in-bytes (lazy-row k a b) = refl
-operands-in-bytes (choice-row a b c) = refl
-operands-in-bytes (all-list-row a) = refl
-operands-in-bytes unknown-expression = refl
+unfolding operands
+operands-in-bytes = in-bytes operands (λ o a. refl) (λ o a b. refl)
 
 pub variables-in-bytes : (row : ExpressionRow) → expressionVariables (inBytes row) ≡ expressionVariables row
-unfolding expressionVariables inBytes
-variables-in-bytes (constant-row c) = refl
-variables-in-bytes (variable-row n) = refl
-variables-in-bytes current-row = refl
-variables-in-bytes (unary-row o a) = refl
-variables-in-bytes (binary-row o a b) = refl
-variables-in-bytes (lazy-row k a b) = refl
-variables-in-bytes (choice-row a b c) = refl
-variables-in-bytes (all-list-row a) = refl
-variables-in-bytes unknown-expression = refl
+unfolding expressionVariables
+variables-in-bytes = in-bytes expressionVariables (λ o a. refl) (λ o a b. refl)
 
 pub constant-in-bytes : (row : ExpressionRow) → rowConstantFits (inBytes row) ≡ rowConstantFits row
-unfolding rowConstantFits inBytes
-constant-in-bytes (constant-row c) = refl
-constant-in-bytes (variable-row n) = refl
-constant-in-bytes current-row = refl
-constant-in-bytes (unary-row o a) = refl
-constant-in-bytes (binary-row o a b) = refl
-constant-in-bytes (lazy-row k a b) = refl
-constant-in-bytes (choice-row a b c) = refl
-constant-in-bytes (all-list-row a) = refl
-constant-in-bytes unknown-expression = refl
+unfolding rowConstantFits
+constant-in-bytes = in-bytes rowConstantFits (λ o a. refl) (λ o a b. refl)
 
 pub reads-in-bytes : (v : Bool) (row : ExpressionRow) → readsRow v (inBytes row) ≡ readsRow v row
-unfolding readsRow inBytes
-reads-in-bytes v (constant-row c) = refl
-reads-in-bytes v (variable-row n) = refl
-reads-in-bytes v current-row = refl
-reads-in-bytes v (unary-row o a) = refl
-reads-in-bytes v (binary-row o a b) = refl
-reads-in-bytes v (lazy-row k a b) = refl
-reads-in-bytes v (choice-row a b c) = refl
-reads-in-bytes v (all-list-row a) = refl
-reads-in-bytes v unknown-expression = refl
+unfolding readsRow
+reads-in-bytes v = in-bytes (readsRow v) (λ o a. refl) (λ o a b. refl)
 
 -- an attribute is below 64, or it is not and its byte is not either
 byte-fits : (n : ℕ) → attributesFit (byte n ∷ []) ≡ attributesFit (n ∷ [])
@@ -144,31 +132,15 @@ byte-fits n = ap (λ (b : Bool). b && true) (⊎-elim (λ l. below l) (λ q. abo
     above : 64 ≤ n → ltb (byte n) 64 ≡ ltb n 64
     above l = le-ltb (byte n) 64 (omega arith) ∙ sym (le-ltb n 64 l)
 
+-- so an operation's attribute fits exactly where its byte does
+renamed-fits : {O : Type 0} {attributes : O → List ℕ} {o : O} (w : Naming attributes o) → attributesFit (attributes (renamed w)) ≡ attributesFit (attributes o)
+renamed-fits names-none = refl
+renamed-fits (names-one f n e) = rw (e (byte n), e n) (byte-fits n)
+
 pub attributes-in-bytes : (row : ExpressionRow) → attributesFit (expressionAttributes (inBytes row)) ≡ attributesFit (expressionAttributes row)
-unfolding expressionAttributes unaryAttribute binaryAttribute inBytes unaryInBytes binaryInBytes
-attributes-in-bytes (constant-row c) = refl
-attributes-in-bytes (variable-row n) = refl
-attributes-in-bytes current-row = refl
-attributes-in-bytes (unary-row negation a) = refl
-attributes-in-bytes (unary-row (make-record n) a) = byte-fits n
-attributes-in-bytes (unary-row (select n) a) = byte-fits n
-attributes-in-bytes (unary-row make-list a) = refl
-attributes-in-bytes (unary-row top a) = refl
-attributes-in-bytes (unary-row pop a) = refl
-attributes-in-bytes (binary-row add a b) = refl
-attributes-in-bytes (binary-row subtract a b) = refl
-attributes-in-bytes (binary-row multiply a b) = refl
-attributes-in-bytes (binary-row divide a b) = refl
-attributes-in-bytes (binary-row less a b) = refl
-attributes-in-bytes (binary-row equal a b) = refl
-attributes-in-bytes (binary-row glue a b) = refl
-attributes-in-bytes (binary-row (expand n) a b) = byte-fits n
-attributes-in-bytes (binary-row (change n) a b) = byte-fits n
-attributes-in-bytes (binary-row push a b) = refl
-attributes-in-bytes (lazy-row k a b) = refl
-attributes-in-bytes (choice-row a b c) = refl
-attributes-in-bytes (all-list-row a) = refl
-attributes-in-bytes unknown-expression = refl
+unfolding expressionAttributes unaryInBytes binaryInBytes
+attributes-in-bytes =
+    in-bytes (λ row. attributesFit (expressionAttributes row)) (λ o a. renamed-fits (unaryNaming o)) (λ o a b. renamed-fits (binaryNaming o))
 
 -- ---- a row of a table: what F says of the decoded row, it says of the row
 module _ {X : Type 0} (F : TypeRow → X) (rows : List ℕ) (t : Table) (r : ℕ) (h : IsTable rows type-section t) (d : DecodedType) (s : TypeSays rows (t .start + r) d) where

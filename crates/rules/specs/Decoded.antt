@@ -1,7 +1,7 @@
 -- What the code's rows mean, and when they say what the definitions do. Assumes nothing: these are definitions.
-use mathlib.Core.Path.{_≡_}
+use mathlib.Core.Path.{_≡_, refl}
 use mathlib.Core.Bool.{Bool, true, false}
-use mathlib.Core.List.{List}
+use mathlib.Core.List.{List, [], _∷_}
 use mathlib.Core.Option.{Option, some, none}
 use Prim.Native.Nat.{ℕ, min}
 use Rattle.lingua.specs.Body.{Body, boolean, number, word}
@@ -9,6 +9,7 @@ use Rattle.lingua.specs.Operation.{Unary, negation, make-record, select, make-l
 use Rattle.lingua.specs.Operations.{unaryMeaning, binaryMeaning}
 use Rattle.lingua.specs.Expression.{Connective, conjunction, disjunction}
 use Rattle.lingua.specs.Rows.{kindAt, wideAt, numberAt, bytesAt, RowKind, numbered, usedOf, TypeRow, simple-type, list-type, record-type, expand-type, unknown-type, typeKinds, typeAt, Constant, boolean-constant, number-constant, word-constant, ExpressionRow, constant-row, variable-row, current-row, unary-row, binary-row, lazy-row, choice-row, all-list-row, unknown-expression, expressionKinds, expressionAt, InstructionRow, skip-row, assign-row, set-yoke-row, sequence-row, branch-row, loop-row, handle-row, unknown-instruction, instructionKinds, instructionAt}
+use Rattle.lingua.specs.Rules.{unaryAttribute, binaryAttribute}
 use Rattle.rules.specs.declared.decode.Simple.{Simple}
 use Rattle.rules.specs.declared.decode.Simple.the-variants as simple
 use Rattle.rules.specs.declared.decode.TypeRow.{TypeRow as CodeType}
@@ -82,25 +83,43 @@ expressionUses (decoded.Known n r) = some n
 abbrev pub byte : ℕ → ℕ
 byte n = min n 255
 
+-- how an operation names its attribute, if it has one: with any other in its place it names that one
+pub data Naming {O : Type 0} (attributes : O → List ℕ) : O → Type 0 where
+  names-none : {o : O} → Naming attributes o
+  names-one : (f : ℕ → O) (n : ℕ) → ((m : ℕ) → attributes (f m) ≡ m ∷ []) → Naming attributes (f n)
+
+unfoldable pub unaryNaming : (o : Unary) → Naming unaryAttribute o
+unfolding unaryAttribute
+unaryNaming negation = names-none
+unaryNaming (make-record n) = names-one make-record n (λ m. refl)
+unaryNaming (select n) = names-one select n (λ m. refl)
+unaryNaming make-list = names-none
+unaryNaming top = names-none
+unaryNaming pop = names-none
+
+unfoldable pub binaryNaming : (o : Binary) → Naming binaryAttribute o
+unfolding binaryAttribute
+binaryNaming add = names-none
+binaryNaming subtract = names-none
+binaryNaming multiply = names-none
+binaryNaming divide = names-none
+binaryNaming less = names-none
+binaryNaming equal = names-none
+binaryNaming glue = names-none
+binaryNaming (expand n) = names-one expand n (λ m. refl)
+binaryNaming (change n) = names-one change n (λ m. refl)
+binaryNaming push = names-none
+
+-- the operation with its attribute's byte
+abbrev pub renamed : {O : Type 0} {attributes : O → List ℕ} {o : O} → Naming attributes o → O
+renamed (names-none {o}) = o
+renamed (names-one f n e) = f (byte n)
+
 unfoldable pub unaryInBytes : Unary → Unary
-unaryInBytes negation = negation
-unaryInBytes (make-record n) = make-record (byte n)
-unaryInBytes (select n) = select (byte n)
-unaryInBytes make-list = make-list
-unaryInBytes top = top
-unaryInBytes pop = pop
+unaryInBytes o = renamed (unaryNaming o)
 
 unfoldable pub binaryInBytes : Binary → Binary
-binaryInBytes add = add
-binaryInBytes subtract = subtract
-binaryInBytes multiply = multiply
-binaryInBytes divide = divide
-binaryInBytes less = less
-binaryInBytes equal = equal
-binaryInBytes glue = glue
-binaryInBytes (expand n) = expand (byte n)
-binaryInBytes (change n) = change (byte n)
-binaryInBytes push = push
+binaryInBytes o = renamed (binaryNaming o)
 
 unfoldable pub inBytes : ExpressionRow → ExpressionRow
 inBytes (constant-row c) = constant-row c

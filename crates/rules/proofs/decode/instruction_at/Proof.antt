@@ -51,7 +51,7 @@ returns-7 c = instruction-arm (c .before .before .before .before .before .before
 
 returns-8 : tie.Need-returns-8
 unfolding instructionKinds
-returns-8 c = instruction-unknown (c .before .before .before .before .before .before .args .rows .now) (c .before .before .before .before .before .before .args .i) (c .before .before .before .before .kind-at .result) (c .before .before .before .a-at .result) (c .before .before .b-at .result) (c .before .c-at .result) (c .before .before .before .before .kind-at .ensures) (c .before .before .before .a-at .ensures .0) (c .before .before .b-at .ensures .0) (c .before .c-at .ensures .0) (c .match .rest .0 .0 .0 .0 .0 .0 .1, (c .match .rest .0 .0 .0 .0 .0 .1, (c .match .rest .0 .0 .0 .0 .1, (c .match .rest .0 .0 .0 .1, (c .match .rest .0 .0 .1, (c .match .rest .0 .1, (c .match .rest .1, tt)))))))
+returns-8 c = instruction-unknown (c .before .before .before .before .before .before .args .rows .now) (c .before .before .before .before .before .before .args .i) (c .before .before .before .before .kind-at .result) (c .before .before .before .before .kind-at .ensures) _ (c .match .rest)
 
 pub instruction-at-spec : {M : Type 1} → statement M
 instruction-at-spec =

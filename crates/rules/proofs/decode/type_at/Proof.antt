@@ -48,7 +48,7 @@ returns-6 c = type-arm (c .before .before .before .before .before .before .args 
 
 returns-7 : tie.Need-returns-7
 unfolding typeKinds
-returns-7 c = type-unknown (c .before .before .before .before .before .before .args .rows .now) (c .before .before .before .before .before .before .args .i) (c .before .before .before .before .kind-at .result) (c .before .before .before .a-at .result) (c .before .before .b-at .result) (c .before .c-at .result) (c .before .before .before .before .kind-at .ensures) (c .before .before .before .a-at .ensures .0) (c .before .before .b-at .ensures .0) (c .before .c-at .ensures .0) (c .match .rest .0 .0 .0 .0 .0 .1, (c .match .rest .0 .0 .0 .0 .1, (c .match .rest .0 .0 .0 .1, (c .match .rest .0 .0 .1, (c .match .rest .0 .1, (c .match .rest .1, tt))))))
+returns-7 c = type-unknown (c .before .before .before .before .before .before .args .rows .now) (c .before .before .before .before .before .before .args .i) (c .before .before .before .before .kind-at .result) (c .before .before .before .before .kind-at .ensures) _ (c .match .rest)
 
 pub type-at-spec : {M : Type 1} → statement M
 type-at-spec =
