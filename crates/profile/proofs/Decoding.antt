@@ -32,7 +32,7 @@ byte-same : (n : ℕ) → attributesFit (n ∷ []) ≡ true → byte n ≡ n
 byte-same n e = let l : n < attribute-numbers = one-fits n e in omega arith
 
 renamed-same : {O : Type 0} {attributes : O → List ℕ} {o : O} (w : Naming attributes o) → attributesFit (attributes o) ≡ true → renamed w ≡ o
-renamed-same names-none h = refl
+renamed-same (names-none e) h = refl
 renamed-same (names-one f n e) h = ap f (byte-same n (ap (λ (l : List ℕ). attributesFit l) (sym (e n)) ∙ h))
 
 row-same : (row : ExpressionRow) → attributesFit (expressionAttributes row) ≡ true → inBytes row ≡ row

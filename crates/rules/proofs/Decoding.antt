@@ -134,7 +134,7 @@ byte-fits n = ap (λ (b : Bool). b && true) (⊎-elim (λ l. below l) (λ q. abo
 
 -- so an operation's attribute fits exactly where its byte does
 renamed-fits : {O : Type 0} {attributes : O → List ℕ} {o : O} (w : Naming attributes o) → attributesFit (attributes (renamed w)) ≡ attributesFit (attributes o)
-renamed-fits names-none = refl
+renamed-fits (names-none e) = refl
 renamed-fits (names-one f n e) = rw (e (byte n), e n) (byte-fits n)
 
 pub attributes-in-bytes : (row : ExpressionRow) → attributesFit (expressionAttributes (inBytes row)) ≡ attributesFit (expressionAttributes row)

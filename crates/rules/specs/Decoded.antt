@@ -83,36 +83,36 @@ expressionUses (decoded.Known n r) = some n
 abbrev pub byte : ℕ → ℕ
 byte n = min n 255
 
--- how an operation names its attribute, if it has one: with any other in its place it names that one
+-- an operation names no attribute, or one: with any other in its place it names that other
 pub data Naming {O : Type 0} (attributes : O → List ℕ) : O → Type 0 where
-  names-none : {o : O} → Naming attributes o
+  names-none : {o : O} → attributes o ≡ [] → Naming attributes o
   names-one : (f : ℕ → O) (n : ℕ) → ((m : ℕ) → attributes (f m) ≡ m ∷ []) → Naming attributes (f n)
 
 unfoldable pub unaryNaming : (o : Unary) → Naming unaryAttribute o
 unfolding unaryAttribute
-unaryNaming negation = names-none
+unaryNaming negation = names-none refl
 unaryNaming (make-record n) = names-one make-record n (λ m. refl)
 unaryNaming (select n) = names-one select n (λ m. refl)
-unaryNaming make-list = names-none
-unaryNaming top = names-none
-unaryNaming pop = names-none
+unaryNaming make-list = names-none refl
+unaryNaming top = names-none refl
+unaryNaming pop = names-none refl
 
 unfoldable pub binaryNaming : (o : Binary) → Naming binaryAttribute o
 unfolding binaryAttribute
-binaryNaming add = names-none
-binaryNaming subtract = names-none
-binaryNaming multiply = names-none
-binaryNaming divide = names-none
-binaryNaming less = names-none
-binaryNaming equal = names-none
-binaryNaming glue = names-none
+binaryNaming add = names-none refl
+binaryNaming subtract = names-none refl
+binaryNaming multiply = names-none refl
+binaryNaming divide = names-none refl
+binaryNaming less = names-none refl
+binaryNaming equal = names-none refl
+binaryNaming glue = names-none refl
 binaryNaming (expand n) = names-one expand n (λ m. refl)
 binaryNaming (change n) = names-one change n (λ m. refl)
-binaryNaming push = names-none
+binaryNaming push = names-none refl
 
 -- the operation with its attribute's byte
 abbrev pub renamed : {O : Type 0} {attributes : O → List ℕ} {o : O} → Naming attributes o → O
-renamed (names-none {o}) = o
+renamed (names-none {o} e) = o
 renamed (names-one f n e) = f (byte n)
 
 unfoldable pub unaryInBytes : Unary → Unary
