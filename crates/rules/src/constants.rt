@@ -7,9 +7,12 @@ use crate::fields::bytes_at;
 use crate::fields::padded;
 use crate::fields::wide_at;
 use crate::picks::all_within;
-use crate::picks::attributes_of;
-use crate::picks::handled_of;
-use crate::picks::type_attributes_of;
+use crate::picks::attributes;
+use crate::picks::expression_in;
+use crate::picks::handled;
+use crate::picks::instruction_in;
+use crate::picks::type_attributes;
+use crate::picks::type_in;
 use crate::tables::Table;
 use crate::tables::Tables;
 use lingua::FileKind;
@@ -62,13 +65,7 @@ fn row_constant_fits(row: ExpressionRow, rows: &[u8], i: usize) -> bool
 {
     match row {
         ExpressionRow::Constant(s) => constant_fits(s, rows, i),
-        ExpressionRow::Variable(_) => true,
-        ExpressionRow::Current => true,
-        ExpressionRow::Unary(_, _) => true,
-        ExpressionRow::Binary(_, _, _) => true,
-        ExpressionRow::Lazy(_, _, _) => true,
-        ExpressionRow::Choice(_, _, _) => true,
-        ExpressionRow::AllList(_) => true,
+        _ => true,
     }
 }
 
@@ -92,7 +89,7 @@ fn types_fit(rows: &[u8], t: Table) -> bool
     let count = t.count;
     let mut r = 0;
     while r < count {
-        if !all_within(type_attributes_of(rows, t, r), 0, ATTRIBUTE_NUMBERS) {
+        if !all_within(type_attributes(type_in(rows, t, r)), 0, ATTRIBUTE_NUMBERS) {
             return false;
         }
         r += 1;
@@ -110,7 +107,7 @@ fn expressions_fit(rows: &[u8], t: Table) -> bool
         if !constant_fits_at(rows, t, r) {
             return false;
         }
-        if !all_within(attributes_of(rows, t, r), 0, ATTRIBUTE_NUMBERS) {
+        if !all_within(attributes(expression_in(rows, t, r)), 0, ATTRIBUTE_NUMBERS) {
             return false;
         }
         r += 1;
@@ -125,7 +122,7 @@ fn handlers_fit(rows: &[u8], t: Table) -> bool
     let count = t.count;
     let mut r = 0;
     while r < count {
-        if !all_within(handled_of(rows, t, r), 1, ERROR_NUMBERS) {
+        if !all_within(handled(instruction_in(rows, t, r)), 1, ERROR_NUMBERS) {
             return false;
         }
         r += 1;

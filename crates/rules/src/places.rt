@@ -1,14 +1,14 @@
 // Rule 12: variables are read outside yokes, the current value inside. Each expression row is marked once, from the lowest up, as
 // to whether anything in its tree reads; then the rows that yokes and instructions name are asked.
-use crate::decode::DecodedExpression;
 use crate::decode::ExpressionRow;
-use crate::decode::expression_at;
 use crate::fields::b_at;
 use crate::picks::UpToThree;
-use crate::picks::evaluated_of;
-use crate::picks::operands_of;
+use crate::picks::evaluated;
+use crate::picks::expression_in;
+use crate::picks::instruction_in;
+use crate::picks::operands;
 use crate::picks::yoke_root;
-use crate::picks::yoke_set_of;
+use crate::picks::yoke_set;
 use crate::tables::Table;
 use crate::tables::Tables;
 use lingua::sizes::MOST_EXPRESSIONS;
@@ -34,26 +34,10 @@ fn row_reads(row: ExpressionRow, variable: bool) -> bool
     ensures { λ b. ⌜ ((rows : List ℕ) (i : ℕ) → b ≡ readsRow variable (expressionMeaning rows i row)) ⌝ }
 {
     match row {
-        ExpressionRow::Constant(_) => false,
         ExpressionRow::Variable(_) => variable,
         ExpressionRow::Current => !variable,
-        ExpressionRow::Unary(_, _) => false,
-        ExpressionRow::Binary(_, _, _) => false,
-        ExpressionRow::Lazy(_, _, _) => false,
-        ExpressionRow::Choice(_, _, _) => false,
         ExpressionRow::AllList(_) => !variable,
-    }
-}
-
-fn reads_itself(rows: &[u8], t: Table, r: usize, variable: bool) -> bool
-    requires { ⌜ IsTable (now rows) expression-section t ⌝ }
-    requires { ⌜ r < t .count ⌝ }
-    ensures { λ b. ⌜ b ≡ readsRow variable (expressionRow (now (rows .entry)) r) ⌝ }
-{
-    let d = expression_at(rows, t.start + r);
-    match d {
-        DecodedExpression::Unknown => false,
-        DecodedExpression::Known(_, row) => row_reads(row, variable),
+        _ => false,
     }
 }
 
@@ -104,10 +88,11 @@ fn tree_reads(
     requires { ⌜ Marked (now rows) variable r (now marks) ⌝ }
     ensures { λ b. ⌜ b ≡ reads variable (expressionTree (now (rows .entry)) r) ⌝ }
 {
-    if reads_itself(rows, t, r, variable) {
+    let row = expression_in(rows, t, r);
+    if row_reads(row, variable) {
         return true;
     }
-    !none_marked(operands_of(rows, t, r), marks, r)
+    !none_marked(operands(row), marks, r)
 }
 
 fn readers(rows: &[u8], t: Table, variable: bool) -> [bool; MOST_EXPRESSIONS]
@@ -164,7 +149,11 @@ fn set_fit(rows: &[u8], t: Tables, marks: &[bool; MOST_EXPRESSIONS]) -> bool
     let expressions = t.expressions.count;
     let mut i = 0;
     while i < count {
-        if !none_marked(yoke_set_of(rows, instructions, i), marks, expressions) {
+        if !none_marked(
+            yoke_set(instruction_in(rows, instructions, i)),
+            marks,
+            expressions,
+        ) {
             return false;
         }
         i += 1;
@@ -185,7 +174,11 @@ fn evaluated_fit(rows: &[u8], t: Tables, marks: &[bool; MOST_EXPRESSIONS]) -> bo
     let expressions = t.expressions.count;
     let mut i = 0;
     while i < count {
-        if !none_marked(evaluated_of(rows, instructions, i), marks, expressions) {
+        if !none_marked(
+            evaluated(instruction_in(rows, instructions, i)),
+            marks,
+            expressions,
+        ) {
             return false;
         }
         i += 1;

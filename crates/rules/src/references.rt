@@ -2,14 +2,17 @@
 use crate::fields::a_at;
 use crate::fields::b_at;
 use crate::picks::all_within;
-use crate::picks::assigned_of;
-use crate::picks::evaluated_of;
-use crate::picks::operands_of;
-use crate::picks::parts_of;
-use crate::picks::type_parts_of;
-use crate::picks::variables_of;
+use crate::picks::assigned;
+use crate::picks::evaluated;
+use crate::picks::expression_in;
+use crate::picks::instruction_in;
+use crate::picks::operands;
+use crate::picks::parts;
+use crate::picks::type_in;
+use crate::picks::type_parts;
+use crate::picks::variables;
 use crate::picks::yoke_root;
-use crate::picks::yoke_set_of;
+use crate::picks::yoke_set;
 use crate::tables::Table;
 use crate::tables::Tables;
 ghost use mathlib.Core.Path.{_≡_};
@@ -39,14 +42,11 @@ fn expression_refers(rows: &[u8], t: Tables, r: usize) -> bool
     ensures { λ b. ⌜ b ≡ expressionRefers (now (rows .entry)) r ⌝ }
 {
     let expressions = t.expressions;
-    if !all_within(operands_of(rows, expressions, r), 0, r) {
+    let row = expression_in(rows, expressions, r);
+    if !all_within(operands(row), 0, r) {
         return false;
     }
-    all_within(
-        variables_of(rows, expressions, r),
-        0,
-        t.declarations.count / 2,
-    )
+    all_within(variables(row), 0, t.declarations.count / 2)
 }
 
 fn instruction_refers(rows: &[u8], t: Tables, r: usize) -> bool
@@ -55,20 +55,17 @@ fn instruction_refers(rows: &[u8], t: Tables, r: usize) -> bool
     ensures { λ b. ⌜ b ≡ instructionRefers (now (rows .entry)) r ⌝ }
 {
     let instructions = t.instructions;
-    if !all_within(parts_of(rows, instructions, r), 0, r) {
+    let row = instruction_in(rows, instructions, r);
+    if !all_within(parts(row), 0, r) {
         return false;
     }
-    if !all_within(
-        assigned_of(rows, instructions, r),
-        0,
-        t.declarations.count / 2,
-    ) {
+    if !all_within(assigned(row), 0, t.declarations.count / 2) {
         return false;
     }
-    if !all_within(evaluated_of(rows, instructions, r), 0, t.expressions.count) {
+    if !all_within(evaluated(row), 0, t.expressions.count) {
         return false;
     }
-    all_within(yoke_set_of(rows, instructions, r), 0, t.expressions.count)
+    all_within(yoke_set(row), 0, t.expressions.count)
 }
 
 fn declarations_refer(rows: &[u8], t: Tables) -> bool
@@ -93,7 +90,7 @@ fn types_refer(rows: &[u8], t: Table) -> bool
     let count = t.count;
     let mut r = 0;
     while r < count {
-        if !all_within(type_parts_of(rows, t, r), 0, r) {
+        if !all_within(type_parts(type_in(rows, t, r)), 0, r) {
             return false;
         }
         r += 1;

@@ -2,11 +2,13 @@
 // Uses are counted in one pass over the rows, up to 2: more makes no difference.
 use crate::fields::b_at;
 use crate::picks::UpToThree;
-use crate::picks::evaluated_of;
-use crate::picks::operands_of;
-use crate::picks::parts_of;
+use crate::picks::evaluated;
+use crate::picks::expression_in;
+use crate::picks::instruction_in;
+use crate::picks::operands;
+use crate::picks::parts;
 use crate::picks::yoke_root;
-use crate::picks::yoke_set_of;
+use crate::picks::yoke_set;
 use crate::tables::Table;
 use crate::tables::Tables;
 use lingua::sizes::MOST_EXPRESSIONS;
@@ -78,7 +80,7 @@ fn note_set(uses: &mut [u8; MOST_EXPRESSIONS], rows: &[u8], t: Table)
     let count = t.count;
     let mut r = 0;
     while r < count {
-        note_all(uses, yoke_set_of(rows, t, r));
+        note_all(uses, yoke_set(instruction_in(rows, t, r)));
         r += 1;
     }
 }
@@ -91,7 +93,7 @@ fn note_evaluated(uses: &mut [u8; MOST_EXPRESSIONS], rows: &[u8], t: Table)
     let count = t.count;
     let mut r = 0;
     while r < count {
-        note_all(uses, evaluated_of(rows, t, r));
+        note_all(uses, evaluated(instruction_in(rows, t, r)));
         r += 1;
     }
 }
@@ -103,7 +105,7 @@ fn note_operands(uses: &mut [u8; MOST_EXPRESSIONS], rows: &[u8], t: Table)
     let count = t.count;
     let mut r = 0;
     while r < count {
-        note_all(uses, operands_of(rows, t, r));
+        note_all(uses, operands(expression_in(rows, t, r)));
         r += 1;
     }
 }
@@ -115,7 +117,7 @@ fn note_parts(uses: &mut [u8; MOST_EXPRESSIONS], rows: &[u8], t: Table)
     let count = t.count;
     let mut r = 0;
     while r < count {
-        note_all(uses, parts_of(rows, t, r));
+        note_all(uses, parts(instruction_in(rows, t, r)));
         r += 1;
     }
 }

@@ -25,14 +25,17 @@ abbrev μ-loop : tie.MeasureT-loop
 loop-holds : tie.Need-loop-holds Inv-loop μ-loop
 loop-holds c = (omega arith, every-none (λ (k : ℕ). allOf isError (handledErrors (instructionRow (c .before .args .rows .now) k))))
 
-handled-of-requires : tie.Need-handled-of-requires Inv-loop μ-loop
-handled-of-requires c κs = (c .before .before .before .pre, c .loop-test .taken)
+instruction-in-requires : tie.Need-instruction-in-requires Inv-loop μ-loop
+instruction-in-requires c κs = (c .before .before .before .pre, c .loop-test .taken)
+
+handled-requires : tie.Need-handled-requires Inv-loop μ-loop
+handled-requires c κs = search needs
 
 all-within-requires : tie.Need-all-within-requires Inv-loop μ-loop
 all-within-requires c κs = search needs
 
 returns : tie.Need-returns Inv-loop μ-loop
-returns c = sym (every-fails (λ (k : ℕ). allOf isError (handledErrors (instructionRow (c .before .before .before .before .before .before .args .rows .now) k))) (tableCount (c .before .before .before .before .before .before .args .rows .now) instruction-section) (c .before .before .before .before .loop .r) (omega arith) (within-errors (c .before .before .handled-of .ensures) (c .before .all-within .ensures) ∙ not-true (c .before .all-within .result) (c .if1 .taken)))
+returns c = sym (every-fails (λ (k : ℕ). allOf isError (handledErrors (instructionRow (c .before .before .before .before .before .before .before .args .rows .now) k))) (tableCount (c .before .before .before .before .before .before .before .args .rows .now) instruction-section) (c .before .before .before .before .before .loop .r) (omega arith) (within-errors (c .before .before .handled .ensures ∙ c .before .before .before .instruction-in .ensures .handled) (c .before .all-within .ensures) ∙ not-true (c .before .all-within .result) (c .if1 .taken)))
 
 add-r : tie.Need-add-r Inv-loop μ-loop
 add-r c = omega arith
@@ -41,7 +44,7 @@ loop-less : tie.Need-loop-less Inv-loop μ-loop
 loop-less c = omega arith
 
 loop-again : tie.Need-loop-again Inv-loop μ-loop
-loop-again c = (omega arith, every-more (λ (k : ℕ). allOf isError (handledErrors (instructionRow (c .before .before .before .before .before .before .args .rows .now) k))) (c .before .before .before .before .loop .r) (c .before .before .before .before .loop .inv .1) (within-errors (c .before .before .handled-of .ensures) (c .before .all-within .ensures) ∙ not-false (c .before .all-within .result) (c .if1 .left)))
+loop-again c = (omega arith, every-more (λ (k : ℕ). allOf isError (handledErrors (instructionRow (c .before .before .before .before .before .before .before .args .rows .now) k))) (c .before .before .before .before .before .loop .r) (c .before .before .before .before .before .loop .inv .1) (within-errors (c .before .before .handled .ensures ∙ c .before .before .before .instruction-in .ensures .handled) (c .before .all-within .ensures) ∙ not-false (c .before .all-within .result) (c .if1 .left)))
 
 returns-2 : tie.Need-returns-2 Inv-loop μ-loop
 returns-2 c = every-all (λ (k : ℕ). allOf isError (handledErrors (instructionRow (c .before .before .before .args .rows .now) k))) (c .before .loop .r) (tableCount (c .before .before .before .args .rows .now) instruction-section) (c .before .loop .inv .1) (omega arith)
@@ -53,7 +56,8 @@ handlers-fit-spec =
     Inv-loop
     μ-loop
     loop-holds
-    handled-of-requires
+    instruction-in-requires
+    handled-requires
     all-within-requires
     returns
     add-r

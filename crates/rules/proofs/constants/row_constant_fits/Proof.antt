@@ -1,9 +1,30 @@
 -- `row_constant_fits` meets its contract, row by row. Assumes nothing.
+use mathlib.Core.Path.{_≡_, refl, sym}
+use mathlib.Core.Bool.{true}
+use mathlib.Core.List.{List, [], _∷_}
+use Prim.Native.Nat.{ℕ}
+use types.Run.{OneOf, miss}
+use denote.Enum.Declared.{tagOf}
 use Rattle.lingua.specs.Rules.{rowConstantFits}
 use Rattle.rules.specs.Decoded.{expressionMeaning}
+use Rattle.rules.specs.declared.decode.ExpressionRow.{ExpressionRow}
+use Rattle.rules.specs.declared.decode.ExpressionRow.the-variants as row
+use Rattle.rules.proofs.decode.ExpressionRow.{the-type}
 use borrow.Author.Needs.{needs}
 use Rattle.rules.proofs.constants.row_constant_fits.Statement.{statement}
 use Rattle.rules.proofs.constants.row_constant_fits.Tie as tie
+
+-- no other row has a constant
+others : (rows : List ℕ) (i : ℕ) (row : ExpressionRow) → OneOf (1 ∷ 2 ∷ 3 ∷ 4 ∷ 5 ∷ 6 ∷ 7 ∷ []) (tagOf the-type row) → rowConstantFits (expressionMeaning rows i row) ≡ true
+unfolding rowConstantFits expressionMeaning
+others rows i (row.Constant s) h = absurd (miss (1 ∷ 2 ∷ 3 ∷ 4 ∷ 5 ∷ 6 ∷ 7 ∷ []) 0 tt h)
+others rows i (row.Variable n) h = refl
+others rows i row.Current h = refl
+others rows i (row.Unary o a) h = refl
+others rows i (row.Binary o a b) h = refl
+others rows i (row.Lazy t a b) h = refl
+others rows i (row.Choice a b c) h = refl
+others rows i (row.AllList a) h = refl
 
 enum-known-row : tie.Need-enum-known-row
 enum-known-row c = search needs
@@ -11,77 +32,13 @@ enum-known-row c = search needs
 constant-fits-requires : tie.Need-constant-fits-requires
 constant-fits-requires c κs = search needs
 
-enum-told : tie.Need-enum-told
-enum-told c = search needs
-
-enum-told-2 : tie.Need-enum-told-2
-enum-told-2 c = search needs
-
-enum-told-3 : tie.Need-enum-told-3
-enum-told-3 c = search needs
-
-enum-told-4 : tie.Need-enum-told-4
-enum-told-4 c = search needs
-
-enum-told-5 : tie.Need-enum-told-5
-enum-told-5 c = search needs
-
-enum-told-6 : tie.Need-enum-told-6
-enum-told-6 c = search needs
-
-enum-told-7 : tie.Need-enum-told-7
-enum-told-7 c = search needs
-
 returns : tie.Need-returns
 unfolding rowConstantFits expressionMeaning
 returns c = rw (c .before .before .row .given .1) (c .constant-fits .ensures)
 
 returns-2 : tie.Need-returns-2
-unfolding rowConstantFits expressionMeaning
-returns-2 c = rw (c .enum-told .given .1)
-
-returns-3 : tie.Need-returns-3
-unfolding rowConstantFits expressionMeaning
-returns-3 c = rw (c .enum-told2 .given .1)
-
-returns-4 : tie.Need-returns-4
-unfolding rowConstantFits expressionMeaning
-returns-4 c = rw (c .enum-told3 .given .1)
-
-returns-5 : tie.Need-returns-5
-unfolding rowConstantFits expressionMeaning
-returns-5 c = rw (c .enum-told4 .given .1)
-
-returns-6 : tie.Need-returns-6
-unfolding rowConstantFits expressionMeaning
-returns-6 c = rw (c .enum-told5 .given .1)
-
-returns-7 : tie.Need-returns-7
-unfolding rowConstantFits expressionMeaning
-returns-7 c = rw (c .enum-told6 .given .1)
-
-returns-8 : tie.Need-returns-8
-unfolding rowConstantFits expressionMeaning
-returns-8 c = rw (c .enum-told7 .given .1)
+returns-2 c = sym (others (c .before .before .args .rows .now) (c .before .before .args .i) (c .before .before .args .row) (c .match .keys2))
 
 pub row-constant-fits-spec : {M : Type 1} → statement M
 row-constant-fits-spec =
-    tie.close
-    (tie.spec
-    enum-known-row
-    constant-fits-requires
-    enum-told
-    enum-told-2
-    enum-told-3
-    enum-told-4
-    enum-told-5
-    enum-told-6
-    enum-told-7
-    returns
-    returns-2
-    returns-3
-    returns-4
-    returns-5
-    returns-6
-    returns-7
-    returns-8)
+    tie.close (tie.spec enum-known-row constant-fits-requires returns returns-2)

@@ -23,14 +23,17 @@ abbrev μ-loop : tie.MeasureT-loop
 loop-holds : tie.Need-loop-holds Inv-loop μ-loop
 loop-holds c = (omega arith, every-none (λ (k : ℕ). attributesFit (typeAttributes (typeRow (c .before .args .rows .now) k))))
 
-type-attributes-of-requires : tie.Need-type-attributes-of-requires Inv-loop μ-loop
-type-attributes-of-requires c κs = (c .before .before .before .pre, c .loop-test .taken)
+type-in-requires : tie.Need-type-in-requires Inv-loop μ-loop
+type-in-requires c κs = (c .before .before .before .pre, c .loop-test .taken)
+
+type-attributes-requires : tie.Need-type-attributes-requires Inv-loop μ-loop
+type-attributes-requires c κs = search needs
 
 all-within-requires : tie.Need-all-within-requires Inv-loop μ-loop
 all-within-requires c κs = search needs
 
 returns : tie.Need-returns Inv-loop μ-loop
-returns c = sym (every-fails (λ (k : ℕ). attributesFit (typeAttributes (typeRow (c .before .before .before .before .before .before .args .rows .now) k))) (tableCount (c .before .before .before .before .before .before .args .rows .now) type-section) (c .before .before .before .before .loop .r) (omega arith) (within-below 64 (c .before .before .type-attributes-of .ensures) (c .before .all-within .ensures) ∙ not-true (c .before .all-within .result) (c .if1 .taken)))
+returns c = sym (every-fails (λ (k : ℕ). attributesFit (typeAttributes (typeRow (c .before .before .before .before .before .before .before .args .rows .now) k))) (tableCount (c .before .before .before .before .before .before .before .args .rows .now) type-section) (c .before .before .before .before .before .loop .r) (omega arith) (within-below 64 (c .before .before .type-attributes .ensures ∙ c .before .before .before .type-in .ensures .attributes) (c .before .all-within .ensures) ∙ not-true (c .before .all-within .result) (c .if1 .taken)))
 
 add-r : tie.Need-add-r Inv-loop μ-loop
 add-r c = omega arith
@@ -39,7 +42,7 @@ loop-less : tie.Need-loop-less Inv-loop μ-loop
 loop-less c = omega arith
 
 loop-again : tie.Need-loop-again Inv-loop μ-loop
-loop-again c = (omega arith, every-more (λ (k : ℕ). attributesFit (typeAttributes (typeRow (c .before .before .before .before .before .before .args .rows .now) k))) (c .before .before .before .before .loop .r) (c .before .before .before .before .loop .inv .1) (within-below 64 (c .before .before .type-attributes-of .ensures) (c .before .all-within .ensures) ∙ not-false (c .before .all-within .result) (c .if1 .left)))
+loop-again c = (omega arith, every-more (λ (k : ℕ). attributesFit (typeAttributes (typeRow (c .before .before .before .before .before .before .before .args .rows .now) k))) (c .before .before .before .before .before .loop .r) (c .before .before .before .before .before .loop .inv .1) (within-below 64 (c .before .before .type-attributes .ensures ∙ c .before .before .before .type-in .ensures .attributes) (c .before .all-within .ensures) ∙ not-false (c .before .all-within .result) (c .if1 .left)))
 
 returns-2 : tie.Need-returns-2 Inv-loop μ-loop
 returns-2 c = every-all (λ (k : ℕ). attributesFit (typeAttributes (typeRow (c .before .before .before .args .rows .now) k))) (c .before .loop .r) (tableCount (c .before .before .before .args .rows .now) type-section) (c .before .loop .inv .1) (omega arith)
@@ -51,7 +54,8 @@ types-fit-spec =
     Inv-loop
     μ-loop
     loop-holds
-    type-attributes-of-requires
+    type-in-requires
+    type-attributes-requires
     all-within-requires
     returns
     add-r

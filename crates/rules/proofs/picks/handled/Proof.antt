@@ -1,45 +1,27 @@
 -- `handled` meets its contract, row by row. Assumes nothing.
+use mathlib.Core.Path.{_≡_, refl}
+use mathlib.Core.List.{[], _∷_}
+use types.Run.{OneOf, miss}
+use denote.Enum.Declared.{tagOf}
 use Rattle.lingua.specs.Rules.{handledErrors}
 use Rattle.rules.specs.Decoded.{instructionMeaning}
+use Rattle.rules.specs.declared.decode.InstructionRow.{InstructionRow}
+use Rattle.rules.specs.declared.decode.InstructionRow.the-variants as row
+use Rattle.rules.proofs.decode.InstructionRow.{the-type}
 use borrow.Author.Needs.{needs}
 use Rattle.rules.proofs.picks.handled.Statement.{statement}
 use Rattle.rules.proofs.picks.handled.Tie as tie
 
-enum-told : tie.Need-enum-told
-enum-told c = search needs
-
-none-requires : tie.Need-none-requires
-none-requires c κs = search needs
-
-enum-told-2 : tie.Need-enum-told-2
-enum-told-2 c = search needs
-
-none-requires-2 : tie.Need-none-requires-2
-none-requires-2 c κs = search needs
-
-enum-told-3 : tie.Need-enum-told-3
-enum-told-3 c = search needs
-
-none-requires-3 : tie.Need-none-requires-3
-none-requires-3 c κs = search needs
-
-enum-told-4 : tie.Need-enum-told-4
-enum-told-4 c = search needs
-
-none-requires-4 : tie.Need-none-requires-4
-none-requires-4 c κs = search needs
-
-enum-told-5 : tie.Need-enum-told-5
-enum-told-5 c = search needs
-
-none-requires-5 : tie.Need-none-requires-5
-none-requires-5 c κs = search needs
-
-enum-told-6 : tie.Need-enum-told-6
-enum-told-6 c = search needs
-
-none-requires-6 : tie.Need-none-requires-6
-none-requires-6 c κs = search needs
+-- no other row names an error
+others : (row : InstructionRow) → OneOf (0 ∷ 1 ∷ 2 ∷ 3 ∷ 4 ∷ 5 ∷ []) (tagOf the-type row) → handledErrors (instructionMeaning row) ≡ []
+unfolding handledErrors instructionMeaning
+others row.Skip h = refl
+others (row.Assign n e) h = refl
+others (row.SetYoke n y) h = refl
+others (row.Sequence i j) h = refl
+others (row.Branch e i j) h = refl
+others (row.Loop e i) h = refl
+others (row.Handle n i) h = absurd (miss (0 ∷ 1 ∷ 2 ∷ 3 ∷ 4 ∷ 5 ∷ []) 6 tt h)
 
 enum-known-row : tie.Need-enum-known-row
 enum-known-row c = search needs
@@ -47,56 +29,15 @@ enum-known-row c = search needs
 one-requires : tie.Need-one-requires
 one-requires c κs = search needs
 
+none-requires : tie.Need-none-requires
+none-requires c κs = search needs
+
 returns : tie.Need-returns
 unfolding handledErrors instructionMeaning
-returns c = rw (c .before .enum-told .given .1) (c .none .ensures)
+returns c = rw (c .before .before .row .given .1) (c .one .ensures)
 
 returns-2 : tie.Need-returns-2
-unfolding handledErrors instructionMeaning
-returns-2 c = rw (c .before .enum-told2 .given .1) (c .none2 .ensures)
-
-returns-3 : tie.Need-returns-3
-unfolding handledErrors instructionMeaning
-returns-3 c = rw (c .before .enum-told3 .given .1) (c .none3 .ensures)
-
-returns-4 : tie.Need-returns-4
-unfolding handledErrors instructionMeaning
-returns-4 c = rw (c .before .enum-told4 .given .1) (c .none4 .ensures)
-
-returns-5 : tie.Need-returns-5
-unfolding handledErrors instructionMeaning
-returns-5 c = rw (c .before .enum-told5 .given .1) (c .none5 .ensures)
-
-returns-6 : tie.Need-returns-6
-unfolding handledErrors instructionMeaning
-returns-6 c = rw (c .before .enum-told6 .given .1) (c .none6 .ensures)
-
-returns-7 : tie.Need-returns-7
-unfolding handledErrors instructionMeaning
-returns-7 c = rw (c .before .before .row .given .1) (c .one .ensures)
+returns-2 c = rw (others (c .before .before .args .row) (c .before .match .keys2)) (c .none .ensures)
 
 pub handled-spec : {M : Type 1} → statement M
-handled-spec =
-    tie.close
-    (tie.spec
-    enum-told
-    none-requires
-    enum-told-2
-    none-requires-2
-    enum-told-3
-    none-requires-3
-    enum-told-4
-    none-requires-4
-    enum-told-5
-    none-requires-5
-    enum-told-6
-    none-requires-6
-    enum-known-row
-    one-requires
-    returns
-    returns-2
-    returns-3
-    returns-4
-    returns-5
-    returns-6
-    returns-7)
+handled-spec = tie.close (tie.spec enum-known-row one-requires none-requires returns returns-2)

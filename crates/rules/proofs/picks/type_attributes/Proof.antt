@@ -1,21 +1,24 @@
 -- `type_attributes` meets its contract, row by row. Assumes nothing.
+use mathlib.Core.Path.{_≡_, refl}
+use mathlib.Core.List.{[], _∷_}
+use types.Run.{OneOf, miss}
+use denote.Enum.Declared.{tagOf}
 use Rattle.lingua.specs.Rules.{typeAttributes}
 use Rattle.rules.specs.Decoded.{typeMeaning}
+use Rattle.rules.specs.declared.decode.TypeRow.{TypeRow}
+use Rattle.rules.specs.declared.decode.TypeRow.the-variants as row
+use Rattle.rules.proofs.decode.TypeRow.{the-type}
 use borrow.Author.Needs.{needs}
 use Rattle.rules.proofs.picks.type_attributes.Statement.{statement}
 use Rattle.rules.proofs.picks.type_attributes.Tie as tie
 
-enum-told : tie.Need-enum-told
-enum-told c = search needs
-
-none-requires : tie.Need-none-requires
-none-requires c κs = search needs
-
-enum-told-2 : tie.Need-enum-told-2
-enum-told-2 c = search needs
-
-none-requires-2 : tie.Need-none-requires-2
-none-requires-2 c κs = search needs
+-- no other type names an attribute
+others : (row : TypeRow) → OneOf (0 ∷ 1 ∷ []) (tagOf the-type row) → typeAttributes (typeMeaning row) ≡ []
+unfolding typeAttributes typeMeaning
+others (row.Simple s) h = refl
+others (row.List a) h = refl
+others (row.Record n a) h = absurd (miss (0 ∷ 1 ∷ []) 2 tt h)
+others (row.Expand a n b) h = absurd (miss (0 ∷ 1 ∷ []) 3 tt h)
 
 enum-known-row : tie.Need-enum-known-row
 enum-known-row c = search needs
@@ -29,35 +32,29 @@ enum-known-row-2 c = search needs
 one-requires-2 : tie.Need-one-requires-2
 one-requires-2 c κs = search needs
 
+none-requires : tie.Need-none-requires
+none-requires c κs = search needs
+
 returns : tie.Need-returns
 unfolding typeAttributes typeMeaning
-returns c = rw (c .before .enum-told .given .1) (c .none .ensures)
+returns c = rw (c .before .before .row .given .1) (c .one .ensures)
 
 returns-2 : tie.Need-returns-2
 unfolding typeAttributes typeMeaning
-returns-2 c = rw (c .before .enum-told2 .given .1) (c .none2 .ensures)
+returns-2 c = rw (c .before .before .row2 .given .1) (c .one2 .ensures)
 
 returns-3 : tie.Need-returns-3
-unfolding typeAttributes typeMeaning
-returns-3 c = rw (c .before .before .row .given .1) (c .one .ensures)
-
-returns-4 : tie.Need-returns-4
-unfolding typeAttributes typeMeaning
-returns-4 c = rw (c .before .before .row2 .given .1) (c .one2 .ensures)
+returns-3 c = rw (others (c .before .before .args .row) (c .before .match .keys3)) (c .none .ensures)
 
 pub type-attributes-spec : {M : Type 1} → statement M
 type-attributes-spec =
     tie.close
     (tie.spec
-    enum-told
-    none-requires
-    enum-told-2
-    none-requires-2
     enum-known-row
     one-requires
     enum-known-row-2
     one-requires-2
+    none-requires
     returns
     returns-2
-    returns-3
-    returns-4)
+    returns-3)

@@ -3,6 +3,7 @@ use mathlib.Core.Path.{_≡_, sym, _∙_}
 use mathlib.Core.Bool.{true, false, not}
 use Prim.Native.Nat.{ℕ, _-_, _≤_}
 use native.Mathlib.Omega.{arith}
+use borrow.Author.Needs.{needs}
 use borrow.Author.Tests.{not-true, not-false}
 use Rattle.lingua.specs.Numbers.{instruction-section}
 use Rattle.lingua.specs.Value.{allOf}
@@ -24,14 +25,17 @@ abbrev μ-loop : tie.MeasureT-loop
 loop-holds : tie.Need-loop-holds Inv-loop μ-loop
 loop-holds c = (omega arith, every-none (λ (k : ℕ). allOf (λ r. not (reads false (expressionTree (c .before .before .args .rows .now) r))) (evaluated (instructionRow (c .before .before .args .rows .now) k))))
 
-evaluated-of-requires : tie.Need-evaluated-of-requires Inv-loop μ-loop
-evaluated-of-requires c κs = (c .before .before .before .before .pre .0 .instructions, c .loop-test .taken)
+instruction-in-requires : tie.Need-instruction-in-requires Inv-loop μ-loop
+instruction-in-requires c κs = (c .before .before .before .before .pre .0 .instructions, c .loop-test .taken)
+
+evaluated-requires : tie.Need-evaluated-requires Inv-loop μ-loop
+evaluated-requires c κs = search needs
 
 none-marked-requires : tie.Need-none-marked-requires Inv-loop μ-loop
 none-marked-requires c κs = omega arith
 
 returns : tie.Need-returns Inv-loop μ-loop
-returns c = sym (every-fails (λ (k : ℕ). allOf (λ r. not (reads false (expressionTree (c .before .before .before .before .before .before .before .args .rows .now) r))) (evaluated (instructionRow (c .before .before .before .before .before .before .before .args .rows .now) k))) (tableCount (c .before .before .before .before .before .before .before .args .rows .now) instruction-section) (c .before .before .before .before .loop .i) (omega arith) (sym (roots-to (c .before .before .before .before .before .before .before .args .rows .now) false (c .before .before .before .before .before .before .before .args .marks .now) (c .before .before .before .before .before .before .before .pre .0 .expressions .count) (c .before .before .before .before .before .before .before .pre .1 .1 .1) (evaluated-below (c .before .before .before .before .before .before .before .args .rows .now) (c .before .before .before .before .before .before .before .pre .1 .1 .0) (c .before .before .before .before .loop .i) (omega arith)) (c .before .before .evaluated-of .ensures) (c .before .none-marked .ensures)) ∙ not-true (c .before .none-marked .result) (c .if1 .taken)))
+returns c = sym (every-fails (λ (k : ℕ). allOf (λ r. not (reads false (expressionTree (c .before .before .before .before .before .before .before .before .args .rows .now) r))) (evaluated (instructionRow (c .before .before .before .before .before .before .before .before .args .rows .now) k))) (tableCount (c .before .before .before .before .before .before .before .before .args .rows .now) instruction-section) (c .before .before .before .before .before .loop .i) (omega arith) (sym (roots-to (c .before .before .before .before .before .before .before .before .args .rows .now) false (c .before .before .before .before .before .before .before .before .args .marks .now) (c .before .before .before .before .before .before .before .before .pre .0 .expressions .count) (c .before .before .before .before .before .before .before .before .pre .1 .1 .1) (evaluated-below (c .before .before .before .before .before .before .before .before .args .rows .now) (c .before .before .before .before .before .before .before .before .pre .1 .1 .0) (c .before .before .before .before .before .loop .i) (omega arith)) (c .before .before .evaluated .ensures ∙ c .before .before .before .instruction-in .ensures .evaluated) (c .before .none-marked .ensures)) ∙ not-true (c .before .none-marked .result) (c .if1 .taken)))
 
 add-i : tie.Need-add-i Inv-loop μ-loop
 add-i c = omega arith
@@ -40,7 +44,7 @@ loop-less : tie.Need-loop-less Inv-loop μ-loop
 loop-less c = omega arith
 
 loop-again : tie.Need-loop-again Inv-loop μ-loop
-loop-again c = (omega arith, every-more (λ (k : ℕ). allOf (λ r. not (reads false (expressionTree (c .before .before .before .before .before .before .before .args .rows .now) r))) (evaluated (instructionRow (c .before .before .before .before .before .before .before .args .rows .now) k))) (c .before .before .before .before .loop .i) (c .before .before .before .before .loop .inv .1) (sym (roots-to (c .before .before .before .before .before .before .before .args .rows .now) false (c .before .before .before .before .before .before .before .args .marks .now) (c .before .before .before .before .before .before .before .pre .0 .expressions .count) (c .before .before .before .before .before .before .before .pre .1 .1 .1) (evaluated-below (c .before .before .before .before .before .before .before .args .rows .now) (c .before .before .before .before .before .before .before .pre .1 .1 .0) (c .before .before .before .before .loop .i) (omega arith)) (c .before .before .evaluated-of .ensures) (c .before .none-marked .ensures)) ∙ not-false (c .before .none-marked .result) (c .if1 .left)))
+loop-again c = (omega arith, every-more (λ (k : ℕ). allOf (λ r. not (reads false (expressionTree (c .before .before .before .before .before .before .before .before .args .rows .now) r))) (evaluated (instructionRow (c .before .before .before .before .before .before .before .before .args .rows .now) k))) (c .before .before .before .before .before .loop .i) (c .before .before .before .before .before .loop .inv .1) (sym (roots-to (c .before .before .before .before .before .before .before .before .args .rows .now) false (c .before .before .before .before .before .before .before .before .args .marks .now) (c .before .before .before .before .before .before .before .before .pre .0 .expressions .count) (c .before .before .before .before .before .before .before .before .pre .1 .1 .1) (evaluated-below (c .before .before .before .before .before .before .before .before .args .rows .now) (c .before .before .before .before .before .before .before .before .pre .1 .1 .0) (c .before .before .before .before .before .loop .i) (omega arith)) (c .before .before .evaluated .ensures ∙ c .before .before .before .instruction-in .ensures .evaluated) (c .before .none-marked .ensures)) ∙ not-false (c .before .none-marked .result) (c .if1 .left)))
 
 returns-2 : tie.Need-returns-2 Inv-loop μ-loop
 returns-2 c = every-all (λ (k : ℕ). allOf (λ r. not (reads false (expressionTree (c .before .before .before .before .args .rows .now) r))) (evaluated (instructionRow (c .before .before .before .before .args .rows .now) k))) (c .before .loop .i) (tableCount (c .before .before .before .before .args .rows .now) instruction-section) (c .before .loop .inv .1) (omega arith)
@@ -52,7 +56,8 @@ evaluated-fit-spec =
     Inv-loop
     μ-loop
     loop-holds
-    evaluated-of-requires
+    instruction-in-requires
+    evaluated-requires
     none-marked-requires
     returns
     add-i

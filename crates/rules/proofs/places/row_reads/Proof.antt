@@ -1,9 +1,30 @@
 -- `row_reads` meets its contract, row by row. Assumes nothing.
+use mathlib.Core.Path.{_≡_, refl, sym}
+use mathlib.Core.Bool.{Bool, false}
+use mathlib.Core.List.{List, [], _∷_}
+use Prim.Native.Nat.{ℕ}
+use types.Run.{OneOf, miss}
+use denote.Enum.Declared.{tagOf}
 use Rattle.rules.specs.Reads.{readsRow}
 use Rattle.rules.specs.Decoded.{expressionMeaning}
+use Rattle.rules.specs.declared.decode.ExpressionRow.{ExpressionRow}
+use Rattle.rules.specs.declared.decode.ExpressionRow.the-variants as row
+use Rattle.rules.proofs.decode.ExpressionRow.{the-type}
 use borrow.Author.Needs.{needs}
 use Rattle.rules.proofs.places.row_reads.Statement.{statement}
 use Rattle.rules.proofs.places.row_reads.Tie as tie
+
+-- no other row reads anything by itself
+others : (rows : List ℕ) (i : ℕ) (v : Bool) (row : ExpressionRow) → OneOf (0 ∷ 3 ∷ 4 ∷ 5 ∷ 6 ∷ []) (tagOf the-type row) → readsRow v (expressionMeaning rows i row) ≡ false
+unfolding readsRow expressionMeaning
+others rows i v (row.Constant s) h = refl
+others rows i v (row.Variable n) h = absurd (miss (0 ∷ 3 ∷ 4 ∷ 5 ∷ 6 ∷ []) 1 tt h)
+others rows i v row.Current h = absurd (miss (0 ∷ 3 ∷ 4 ∷ 5 ∷ 6 ∷ []) 2 tt h)
+others rows i v (row.Unary o a) h = refl
+others rows i v (row.Binary o a b) h = refl
+others rows i v (row.Lazy t a b) h = refl
+others rows i v (row.Choice a b c) h = refl
+others rows i v (row.AllList a) h = absurd (miss (0 ∷ 3 ∷ 4 ∷ 5 ∷ 6 ∷ []) 7 tt h)
 
 enum-told : tie.Need-enum-told
 enum-told c = search needs
@@ -13,21 +34,6 @@ enum-told-2 c = search needs
 
 enum-told-3 : tie.Need-enum-told-3
 enum-told-3 c = search needs
-
-enum-told-4 : tie.Need-enum-told-4
-enum-told-4 c = search needs
-
-enum-told-5 : tie.Need-enum-told-5
-enum-told-5 c = search needs
-
-enum-told-6 : tie.Need-enum-told-6
-enum-told-6 c = search needs
-
-enum-told-7 : tie.Need-enum-told-7
-enum-told-7 c = search needs
-
-enum-told-8 : tie.Need-enum-told-8
-enum-told-8 c = search needs
 
 returns : tie.Need-returns
 unfolding readsRow expressionMeaning
@@ -42,42 +48,8 @@ unfolding readsRow expressionMeaning
 returns-3 c = λ rows i. rw (c .enum-told3 .given .1)
 
 returns-4 : tie.Need-returns-4
-unfolding readsRow expressionMeaning
-returns-4 c = λ rows i. rw (c .enum-told4 .given .1)
-
-returns-5 : tie.Need-returns-5
-unfolding readsRow expressionMeaning
-returns-5 c = λ rows i. rw (c .enum-told5 .given .1)
-
-returns-6 : tie.Need-returns-6
-unfolding readsRow expressionMeaning
-returns-6 c = λ rows i. rw (c .enum-told6 .given .1)
-
-returns-7 : tie.Need-returns-7
-unfolding readsRow expressionMeaning
-returns-7 c = λ rows i. rw (c .enum-told7 .given .1)
-
-returns-8 : tie.Need-returns-8
-unfolding readsRow expressionMeaning
-returns-8 c = λ rows i. rw (c .enum-told8 .given .1)
+returns-4 c = λ rows i. sym (others rows i (c .before .args .variable) (c .before .args .row) (c .match .keys4))
 
 pub row-reads-spec : {M : Type 1} → statement M
 row-reads-spec =
-    tie.close
-    (tie.spec
-    enum-told
-    enum-told-2
-    enum-told-3
-    enum-told-4
-    enum-told-5
-    enum-told-6
-    enum-told-7
-    enum-told-8
-    returns
-    returns-2
-    returns-3
-    returns-4
-    returns-5
-    returns-6
-    returns-7
-    returns-8)
+    tie.close (tie.spec enum-told enum-told-2 enum-told-3 returns returns-2 returns-3 returns-4)

@@ -10,55 +10,59 @@ use borrow.Author.Needs.{needs}
 use Rattle.rules.proofs.references.instruction_refers.Statement.{statement}
 use Rattle.rules.proofs.references.instruction_refers.Tie as tie
 
-parts-of-requires : tie.Need-parts-of-requires
-parts-of-requires c κs = search needs
+instruction-in-requires : tie.Need-instruction-in-requires
+instruction-in-requires c κs = search needs
+
+parts-requires : tie.Need-parts-requires
+parts-requires c κs = search needs
 
 all-within-requires : tie.Need-all-within-requires
 all-within-requires c κs = search needs
 
 returns : tie.Need-returns
-returns c = refers-1 (allBelow (c .before .before .before .before .before .args .r) (parts (instructionRow (c .before .before .before .before .before .args .rows .now) (c .before .before .before .before .before .args .r)))) (allBelow (c .before .before .before .before .before .args .t .declarations .count / 2) (instructionVariables (instructionRow (c .before .before .before .before .before .args .rows .now) (c .before .before .before .before .before .args .r)))) (allBelow (c .before .before .before .before .before .args .t .expressions .count) (evaluated (instructionRow (c .before .before .before .before .before .args .rows .now) (c .before .before .before .before .before .args .r)))) (allBelow (c .before .before .before .before .before .args .t .expressions .count) (yokeSet (instructionRow (c .before .before .before .before .before .args .rows .now) (c .before .before .before .before .before .args .r)))) (within-below (c .before .before .before .before .before .args .r) (c .before .before .parts-of .ensures) (c .before .all-within .ensures) ∙ not-true (c .before .all-within .result) (c .if1 .taken)) ∙ sym (instruction-is (c .before .before .before .before .before .args .rows .now) (c .before .before .before .before .before .args .t) (c .before .before .before .before .before .pre .0) (c .before .before .before .before .before .args .r))
+returns c = refers-1 (allBelow (c .before .before .before .before .before .before .args .r) (parts (instructionRow (c .before .before .before .before .before .before .args .rows .now) (c .before .before .before .before .before .before .args .r)))) (allBelow (c .before .before .before .before .before .before .args .t .declarations .count / 2) (instructionVariables (instructionRow (c .before .before .before .before .before .before .args .rows .now) (c .before .before .before .before .before .before .args .r)))) (allBelow (c .before .before .before .before .before .before .args .t .expressions .count) (evaluated (instructionRow (c .before .before .before .before .before .before .args .rows .now) (c .before .before .before .before .before .before .args .r)))) (allBelow (c .before .before .before .before .before .before .args .t .expressions .count) (yokeSet (instructionRow (c .before .before .before .before .before .before .args .rows .now) (c .before .before .before .before .before .before .args .r)))) (within-below (c .before .before .before .before .before .before .args .r) (c .before .before .parts .ensures ∙ c .before .before .before .instruction-in .ensures .parts) (c .before .all-within .ensures) ∙ not-true (c .before .all-within .result) (c .if1 .taken)) ∙ sym (instruction-is (c .before .before .before .before .before .before .args .rows .now) (c .before .before .before .before .before .before .args .t) (c .before .before .before .before .before .before .pre .0) (c .before .before .before .before .before .before .args .r))
 
-assigned-of-requires : tie.Need-assigned-of-requires
-assigned-of-requires c κs = search needs
+assigned-requires : tie.Need-assigned-requires
+assigned-requires c κs = search needs
 
 all-within-requires-2 : tie.Need-all-within-requires-2
 all-within-requires-2 c κs = search needs
 
 returns-2 : tie.Need-returns-2
-returns-2 c = refers-2 (allBelow (c .before .before .before .before .before .before .before .before .before .args .r) (parts (instructionRow (c .before .before .before .before .before .before .before .before .before .args .rows .now) (c .before .before .before .before .before .before .before .before .before .args .r)))) (allBelow (c .before .before .before .before .before .before .before .before .before .args .t .declarations .count / 2) (instructionVariables (instructionRow (c .before .before .before .before .before .before .before .before .before .args .rows .now) (c .before .before .before .before .before .before .before .before .before .args .r)))) (allBelow (c .before .before .before .before .before .before .before .before .before .args .t .expressions .count) (evaluated (instructionRow (c .before .before .before .before .before .before .before .before .before .args .rows .now) (c .before .before .before .before .before .before .before .before .before .args .r)))) (allBelow (c .before .before .before .before .before .before .before .before .before .args .t .expressions .count) (yokeSet (instructionRow (c .before .before .before .before .before .before .before .before .before .args .rows .now) (c .before .before .before .before .before .before .before .before .before .args .r)))) (within-below (c .before .before .before .before .before .before .before .before .before .args .r) (c .before .before .before .before .before .before .parts-of .ensures) (c .before .before .before .before .before .all-within .ensures) ∙ not-false (c .before .before .before .before .before .all-within .result) (c .before .before .before .before .if1 .left)) (within-below (c .before .before .before .before .before .before .before .before .before .args .t .declarations .count / 2) (c .before .before .before .assigned-of .ensures) (c .before .all-within2 .ensures) ∙ not-true (c .before .all-within2 .result) (c .if2 .taken)) ∙ sym (instruction-is (c .before .before .before .before .before .before .before .before .before .args .rows .now) (c .before .before .before .before .before .before .before .before .before .args .t) (c .before .before .before .before .before .before .before .before .before .pre .0) (c .before .before .before .before .before .before .before .before .before .args .r))
+returns-2 c = refers-2 (allBelow (c .before .before .before .before .before .before .before .before .before .before .args .r) (parts (instructionRow (c .before .before .before .before .before .before .before .before .before .before .args .rows .now) (c .before .before .before .before .before .before .before .before .before .before .args .r)))) (allBelow (c .before .before .before .before .before .before .before .before .before .before .args .t .declarations .count / 2) (instructionVariables (instructionRow (c .before .before .before .before .before .before .before .before .before .before .args .rows .now) (c .before .before .before .before .before .before .before .before .before .before .args .r)))) (allBelow (c .before .before .before .before .before .before .before .before .before .before .args .t .expressions .count) (evaluated (instructionRow (c .before .before .before .before .before .before .before .before .before .before .args .rows .now) (c .before .before .before .before .before .before .before .before .before .before .args .r)))) (allBelow (c .before .before .before .before .before .before .before .before .before .before .args .t .expressions .count) (yokeSet (instructionRow (c .before .before .before .before .before .before .before .before .before .before .args .rows .now) (c .before .before .before .before .before .before .before .before .before .before .args .r)))) (within-below (c .before .before .before .before .before .before .before .before .before .before .args .r) (c .before .before .before .before .before .before .parts .ensures ∙ c .before .before .before .before .before .before .before .instruction-in .ensures .parts) (c .before .before .before .before .before .all-within .ensures) ∙ not-false (c .before .before .before .before .before .all-within .result) (c .before .before .before .before .if1 .left)) (within-below (c .before .before .before .before .before .before .before .before .before .before .args .t .declarations .count / 2) (c .before .before .before .assigned .ensures ∙ c .before .before .before .before .before .before .before .instruction-in .ensures .assigned) (c .before .all-within2 .ensures) ∙ not-true (c .before .all-within2 .result) (c .if2 .taken)) ∙ sym (instruction-is (c .before .before .before .before .before .before .before .before .before .before .args .rows .now) (c .before .before .before .before .before .before .before .before .before .before .args .t) (c .before .before .before .before .before .before .before .before .before .before .pre .0) (c .before .before .before .before .before .before .before .before .before .before .args .r))
 
-evaluated-of-requires : tie.Need-evaluated-of-requires
-evaluated-of-requires c κs = search needs
+evaluated-requires : tie.Need-evaluated-requires
+evaluated-requires c κs = search needs
 
 all-within-requires-3 : tie.Need-all-within-requires-3
 all-within-requires-3 c κs = search needs
 
 returns-3 : tie.Need-returns-3
-returns-3 c = refers-3 (allBelow (c .before .before .before .before .before .before .before .before .before .before .before .before .args .r) (parts (instructionRow (c .before .before .before .before .before .before .before .before .before .before .before .before .args .rows .now) (c .before .before .before .before .before .before .before .before .before .before .before .before .args .r)))) (allBelow (c .before .before .before .before .before .before .before .before .before .before .before .before .args .t .declarations .count / 2) (instructionVariables (instructionRow (c .before .before .before .before .before .before .before .before .before .before .before .before .args .rows .now) (c .before .before .before .before .before .before .before .before .before .before .before .before .args .r)))) (allBelow (c .before .before .before .before .before .before .before .before .before .before .before .before .args .t .expressions .count) (evaluated (instructionRow (c .before .before .before .before .before .before .before .before .before .before .before .before .args .rows .now) (c .before .before .before .before .before .before .before .before .before .before .before .before .args .r)))) (allBelow (c .before .before .before .before .before .before .before .before .before .before .before .before .args .t .expressions .count) (yokeSet (instructionRow (c .before .before .before .before .before .before .before .before .before .before .before .before .args .rows .now) (c .before .before .before .before .before .before .before .before .before .before .before .before .args .r)))) (within-below (c .before .before .before .before .before .before .before .before .before .before .before .before .args .r) (c .before .before .before .before .before .before .before .before .before .parts-of .ensures) (c .before .before .before .before .before .before .before .before .all-within .ensures) ∙ not-false (c .before .before .before .before .before .before .before .before .all-within .result) (c .before .before .before .before .before .before .before .if1 .left)) (within-below (c .before .before .before .before .before .before .before .before .before .before .before .before .args .t .declarations .count / 2) (c .before .before .before .before .before .before .assigned-of .ensures) (c .before .before .before .before .all-within2 .ensures) ∙ not-false (c .before .before .before .before .all-within2 .result) (c .before .before .before .if2 .left)) (within-below (c .before .before .before .before .before .before .before .before .before .before .before .before .args .t .expressions .count) (c .before .before .evaluated-of .ensures) (c .before .all-within3 .ensures) ∙ not-true (c .before .all-within3 .result) (c .if3 .taken)) ∙ sym (instruction-is (c .before .before .before .before .before .before .before .before .before .before .before .before .args .rows .now) (c .before .before .before .before .before .before .before .before .before .before .before .before .args .t) (c .before .before .before .before .before .before .before .before .before .before .before .before .pre .0) (c .before .before .before .before .before .before .before .before .before .before .before .before .args .r))
+returns-3 c = refers-3 (allBelow (c .before .before .before .before .before .before .before .before .before .before .before .before .before .args .r) (parts (instructionRow (c .before .before .before .before .before .before .before .before .before .before .before .before .before .args .rows .now) (c .before .before .before .before .before .before .before .before .before .before .before .before .before .args .r)))) (allBelow (c .before .before .before .before .before .before .before .before .before .before .before .before .before .args .t .declarations .count / 2) (instructionVariables (instructionRow (c .before .before .before .before .before .before .before .before .before .before .before .before .before .args .rows .now) (c .before .before .before .before .before .before .before .before .before .before .before .before .before .args .r)))) (allBelow (c .before .before .before .before .before .before .before .before .before .before .before .before .before .args .t .expressions .count) (evaluated (instructionRow (c .before .before .before .before .before .before .before .before .before .before .before .before .before .args .rows .now) (c .before .before .before .before .before .before .before .before .before .before .before .before .before .args .r)))) (allBelow (c .before .before .before .before .before .before .before .before .before .before .before .before .before .args .t .expressions .count) (yokeSet (instructionRow (c .before .before .before .before .before .before .before .before .before .before .before .before .before .args .rows .now) (c .before .before .before .before .before .before .before .before .before .before .before .before .before .args .r)))) (within-below (c .before .before .before .before .before .before .before .before .before .before .before .before .before .args .r) (c .before .before .before .before .before .before .before .before .before .parts .ensures ∙ c .before .before .before .before .before .before .before .before .before .before .instruction-in .ensures .parts) (c .before .before .before .before .before .before .before .before .all-within .ensures) ∙ not-false (c .before .before .before .before .before .before .before .before .all-within .result) (c .before .before .before .before .before .before .before .if1 .left)) (within-below (c .before .before .before .before .before .before .before .before .before .before .before .before .before .args .t .declarations .count / 2) (c .before .before .before .before .before .before .assigned .ensures ∙ c .before .before .before .before .before .before .before .before .before .before .instruction-in .ensures .assigned) (c .before .before .before .before .all-within2 .ensures) ∙ not-false (c .before .before .before .before .all-within2 .result) (c .before .before .before .if2 .left)) (within-below (c .before .before .before .before .before .before .before .before .before .before .before .before .before .args .t .expressions .count) (c .before .before .evaluated .ensures ∙ c .before .before .before .before .before .before .before .before .before .before .instruction-in .ensures .evaluated) (c .before .all-within3 .ensures) ∙ not-true (c .before .all-within3 .result) (c .if3 .taken)) ∙ sym (instruction-is (c .before .before .before .before .before .before .before .before .before .before .before .before .before .args .rows .now) (c .before .before .before .before .before .before .before .before .before .before .before .before .before .args .t) (c .before .before .before .before .before .before .before .before .before .before .before .before .before .pre .0) (c .before .before .before .before .before .before .before .before .before .before .before .before .before .args .r))
 
-yoke-set-of-requires : tie.Need-yoke-set-of-requires
-yoke-set-of-requires c κs = (c .before .before .before .before .before .before .before .before .before .before .before .before .pre .0 .instructions, c .before .before .before .before .before .before .before .before .before .before .before .before .pre .1)
+yoke-set-requires : tie.Need-yoke-set-requires
+yoke-set-requires c κs = search needs
 
 all-within-requires-4 : tie.Need-all-within-requires-4
 all-within-requires-4 c κs = search needs
 
 returns-4 : tie.Need-returns-4
-returns-4 c = sym (within-below (c .before .before .before .before .before .before .before .before .before .before .before .before .before .before .args .t .expressions .count) (c .before .yoke-set-of .ensures) (c .all-within4 .ensures)) ∙ refers-4 (allBelow (c .before .before .before .before .before .before .before .before .before .before .before .before .before .before .args .r) (parts (instructionRow (c .before .before .before .before .before .before .before .before .before .before .before .before .before .before .args .rows .now) (c .before .before .before .before .before .before .before .before .before .before .before .before .before .before .args .r)))) (allBelow (c .before .before .before .before .before .before .before .before .before .before .before .before .before .before .args .t .declarations .count / 2) (instructionVariables (instructionRow (c .before .before .before .before .before .before .before .before .before .before .before .before .before .before .args .rows .now) (c .before .before .before .before .before .before .before .before .before .before .before .before .before .before .args .r)))) (allBelow (c .before .before .before .before .before .before .before .before .before .before .before .before .before .before .args .t .expressions .count) (evaluated (instructionRow (c .before .before .before .before .before .before .before .before .before .before .before .before .before .before .args .rows .now) (c .before .before .before .before .before .before .before .before .before .before .before .before .before .before .args .r)))) (allBelow (c .before .before .before .before .before .before .before .before .before .before .before .before .before .before .args .t .expressions .count) (yokeSet (instructionRow (c .before .before .before .before .before .before .before .before .before .before .before .before .before .before .args .rows .now) (c .before .before .before .before .before .before .before .before .before .before .before .before .before .before .args .r)))) (within-below (c .before .before .before .before .before .before .before .before .before .before .before .before .before .before .args .r) (c .before .before .before .before .before .before .before .before .before .before .before .parts-of .ensures) (c .before .before .before .before .before .before .before .before .before .before .all-within .ensures) ∙ not-false (c .before .before .before .before .before .before .before .before .before .before .all-within .result) (c .before .before .before .before .before .before .before .before .before .if1 .left)) (within-below (c .before .before .before .before .before .before .before .before .before .before .before .before .before .before .args .t .declarations .count / 2) (c .before .before .before .before .before .before .before .before .assigned-of .ensures) (c .before .before .before .before .before .before .all-within2 .ensures) ∙ not-false (c .before .before .before .before .before .before .all-within2 .result) (c .before .before .before .before .before .if2 .left)) (within-below (c .before .before .before .before .before .before .before .before .before .before .before .before .before .before .args .t .expressions .count) (c .before .before .before .before .evaluated-of .ensures) (c .before .before .before .all-within3 .ensures) ∙ not-false (c .before .before .before .all-within3 .result) (c .before .before .if3 .left)) ∙ sym (instruction-is (c .before .before .before .before .before .before .before .before .before .before .before .before .before .before .args .rows .now) (c .before .before .before .before .before .before .before .before .before .before .before .before .before .before .args .t) (c .before .before .before .before .before .before .before .before .before .before .before .before .before .before .pre .0) (c .before .before .before .before .before .before .before .before .before .before .before .before .before .before .args .r))
+returns-4 c = sym (within-below (c .before .before .before .before .before .before .before .before .before .before .before .before .before .before .before .args .t .expressions .count) (c .before .yoke-set .ensures ∙ c .before .before .before .before .before .before .before .before .before .before .before .before .instruction-in .ensures .yoke) (c .all-within4 .ensures)) ∙ refers-4 (allBelow (c .before .before .before .before .before .before .before .before .before .before .before .before .before .before .before .args .r) (parts (instructionRow (c .before .before .before .before .before .before .before .before .before .before .before .before .before .before .before .args .rows .now) (c .before .before .before .before .before .before .before .before .before .before .before .before .before .before .before .args .r)))) (allBelow (c .before .before .before .before .before .before .before .before .before .before .before .before .before .before .before .args .t .declarations .count / 2) (instructionVariables (instructionRow (c .before .before .before .before .before .before .before .before .before .before .before .before .before .before .before .args .rows .now) (c .before .before .before .before .before .before .before .before .before .before .before .before .before .before .before .args .r)))) (allBelow (c .before .before .before .before .before .before .before .before .before .before .before .before .before .before .before .args .t .expressions .count) (evaluated (instructionRow (c .before .before .before .before .before .before .before .before .before .before .before .before .before .before .before .args .rows .now) (c .before .before .before .before .before .before .before .before .before .before .before .before .before .before .before .args .r)))) (allBelow (c .before .before .before .before .before .before .before .before .before .before .before .before .before .before .before .args .t .expressions .count) (yokeSet (instructionRow (c .before .before .before .before .before .before .before .before .before .before .before .before .before .before .before .args .rows .now) (c .before .before .before .before .before .before .before .before .before .before .before .before .before .before .before .args .r)))) (within-below (c .before .before .before .before .before .before .before .before .before .before .before .before .before .before .before .args .r) (c .before .before .before .before .before .before .before .before .before .before .before .parts .ensures ∙ c .before .before .before .before .before .before .before .before .before .before .before .before .instruction-in .ensures .parts) (c .before .before .before .before .before .before .before .before .before .before .all-within .ensures) ∙ not-false (c .before .before .before .before .before .before .before .before .before .before .all-within .result) (c .before .before .before .before .before .before .before .before .before .if1 .left)) (within-below (c .before .before .before .before .before .before .before .before .before .before .before .before .before .before .before .args .t .declarations .count / 2) (c .before .before .before .before .before .before .before .before .assigned .ensures ∙ c .before .before .before .before .before .before .before .before .before .before .before .before .instruction-in .ensures .assigned) (c .before .before .before .before .before .before .all-within2 .ensures) ∙ not-false (c .before .before .before .before .before .before .all-within2 .result) (c .before .before .before .before .before .if2 .left)) (within-below (c .before .before .before .before .before .before .before .before .before .before .before .before .before .before .before .args .t .expressions .count) (c .before .before .before .before .evaluated .ensures ∙ c .before .before .before .before .before .before .before .before .before .before .before .before .instruction-in .ensures .evaluated) (c .before .before .before .all-within3 .ensures) ∙ not-false (c .before .before .before .all-within3 .result) (c .before .before .if3 .left)) ∙ sym (instruction-is (c .before .before .before .before .before .before .before .before .before .before .before .before .before .before .before .args .rows .now) (c .before .before .before .before .before .before .before .before .before .before .before .before .before .before .before .args .t) (c .before .before .before .before .before .before .before .before .before .before .before .before .before .before .before .pre .0) (c .before .before .before .before .before .before .before .before .before .before .before .before .before .before .before .args .r))
 
 pub instruction-refers-spec : {M : Type 1} → statement M
 instruction-refers-spec =
     tie.close
     (tie.spec
-    parts-of-requires
+    instruction-in-requires
+    parts-requires
     all-within-requires
     returns
-    assigned-of-requires
+    assigned-requires
     all-within-requires-2
     returns-2
-    evaluated-of-requires
+    evaluated-requires
     all-within-requires-3
     returns-3
-    yoke-set-of-requires
+    yoke-set-requires
     all-within-requires-4
     returns-4)

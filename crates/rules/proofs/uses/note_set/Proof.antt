@@ -1,4 +1,5 @@
 -- `note_set` meets its contract: the uses of the rows that were passed are noted. Assumes nothing.
+use mathlib.Core.Path.{_∙_}
 use mathlib.Core.List.{List, _++_}
 use Prim.Native.Nat.{ℕ, _-_, _≤_}
 use native.Mathlib.Omega.{arith}
@@ -21,8 +22,11 @@ abbrev μ-loop : tie.MeasureT-loop
 loop-holds : tie.Need-loop-holds Inv-loop μ-loop
 loop-holds c = (omega arith, λ xs h. turn-none (λ (k : ℕ). yokeSet (instructionRow (c .before .args .rows .now) k)) (c .before .args .uses .now) xs h)
 
-yoke-set-of-requires : tie.Need-yoke-set-of-requires Inv-loop μ-loop
-yoke-set-of-requires c κs = (c .before .before .before .before .pre, c .before .loop-test .taken)
+instruction-in-requires : tie.Need-instruction-in-requires Inv-loop μ-loop
+instruction-in-requires c κs = (c .before .before .before .before .pre, c .before .loop-test .taken)
+
+yoke-set-requires : tie.Need-yoke-set-requires Inv-loop μ-loop
+yoke-set-requires c κs = search needs
 
 note-all-requires : tie.Need-note-all-requires Inv-loop μ-loop
 note-all-requires c κs = search needs
@@ -34,7 +38,7 @@ loop-less : tie.Need-loop-less Inv-loop μ-loop
 loop-less c = omega arith
 
 loop-again : tie.Need-loop-again Inv-loop μ-loop
-loop-again c = (omega arith, λ xs h. turn-more (λ (k : ℕ). yokeSet (instructionRow (c .before .before .before .before .before .before .args .rows .now) k)) (c .note-all .last .0) xs (c .before .before .before .before .loop .r) _ (c .before .yoke-set-of .ensures) (c .note-all .ensures (xs ++ joined (tabulate (c .before .before .before .before .loop .r) (λ (k : ℕ). yokeSet (instructionRow (c .before .before .before .before .before .before .args .rows .now) k)))) (c .before .before .before .before .loop .inv .1 xs h)))
+loop-again c = (omega arith, λ xs h. turn-more (λ (k : ℕ). yokeSet (instructionRow (c .before .before .before .before .before .before .before .args .rows .now) k)) (c .note-all .last .0) xs (c .before .before .before .before .before .loop .r) _ (c .before .yoke-set .ensures ∙ c .before .before .instruction-in .ensures .yoke) (c .note-all .ensures (xs ++ joined (tabulate (c .before .before .before .before .before .loop .r) (λ (k : ℕ). yokeSet (instructionRow (c .before .before .before .before .before .before .before .args .rows .now) k)))) (c .before .before .before .before .before .loop .inv .1 xs h)))
 
 returns : tie.Need-returns Inv-loop μ-loop
 returns c = λ xs h. turn-all (λ (k : ℕ). yokeSet (instructionRow (c .before .before .before .args .rows .now) k)) (c .before .loop .uses) xs (c .before .loop .r) (tableCount (c .before .before .before .args .rows .now) instruction-section) (omega arith) (c .before .loop .inv .1 xs h)
@@ -46,7 +50,8 @@ note-set-spec =
     Inv-loop
     μ-loop
     loop-holds
-    yoke-set-of-requires
+    instruction-in-requires
+    yoke-set-requires
     note-all-requires
     add-r
     loop-less
