@@ -4,7 +4,7 @@ use mathlib.Core.Bool.{false}
 use mathlib.Core.List.{List, [], _∷_}
 use Prim.Native.Nat.{ℕ}
 use lib.ListN.{length}
-use Rattle.lingua.specs.Numbers.{type-section}
+use Rattle.lingua.specs.Numbers.{type-bodies-length, type-section}
 use Rattle.lingua.specs.Errors.{no-error, bad-reference, bad-use, misplaced, bad-type}
 use Rattle.lingua.specs.Rows.{tableCount}
 use Rattle.lingua.specs.Format.{File, profile}
@@ -28,7 +28,7 @@ pub record Linkable (rows : List ℕ) (t : Tables) (bodies : List ℕ) : Type 0 
   pub tables : AreTables rows t
   pub counts : countWrong profile rows ≡ false
   pub constants : constantWrong profile rows ≡ false
-  pub room : length bodies ≡ 3072
+  pub room : length bodies ≡ type-bodies-length
 
 -- the lowest of them that applies; where none does, the array holds the bodies of all type rows
 pub record Linked (r : ℕ) (rows bodies : List ℕ) : Type 0 where

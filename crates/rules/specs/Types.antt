@@ -1,10 +1,10 @@
--- Type rows and the array of their bodies, 96 bytes for each. Assumes nothing.
+-- Type rows and the array of their bodies. Assumes nothing.
 use mathlib.Core.Path.{_≡_}
 use mathlib.Core.Bool.{true, false}
 use mathlib.Core.List.{List}
 use Prim.Native.Nat.{ℕ, _+_, _*_, _≤_, _<_}
 use lib.ListN.{length, take, drop}
-use Rattle.lingua.specs.Numbers.{most-types, type-section}
+use Rattle.lingua.specs.Numbers.{body-bytes, type-bodies-length, most-types, type-section}
 use Rattle.lingua.specs.Outcome.{ok, Result}
 use Rattle.lingua.specs.Body.{Body}
 use Rattle.lingua.specs.Rows.{tableCount, typeRow}
@@ -16,15 +16,17 @@ use Rattle.safety.specs.Every.{Every}
 use Rattle.body.specs.Encode.{Holds, Held}
 use Rattle.body.specs.Typed.{Types}
 use Rattle.body.specs.declared.typed.Typed.{Typed}
+use Rattle.rules.specs.Tables.{IsTable}
+use Rattle.rules.specs.declared.tables.Table.{Table}
 use Rattle.rules.specs.Accepted.{counts, type-attributes, type-parts}
 
 -- the bytes of row r's body
 unfoldable pub bodyAt : List ℕ → ℕ → List ℕ
-bodyAt bodies r = take 96 (drop (96 * r) bodies)
+bodyAt bodies r = take body-bytes (drop (body-bytes * r) bodies)
 
 -- some body stands at row p's place
 pub record HeldAt (bodies : List ℕ) (p : ℕ) : Type 0 where
-  pub within : 96 * p + 96 ≤ length bodies
+  pub within : body-bytes * p + body-bytes ≤ length bodies
   pub held : Held (bodyAt bodies p)
 
 -- the body that is looked up for row p stands at its place
@@ -50,5 +52,12 @@ types-ready rows c k r =
 
 -- the array holds the bodies of the first n type rows
 pub record BodiesBelow (rows bodies : List ℕ) (n : ℕ) : Type 0 where
-  pub long : length bodies ≡ 3072
+  pub long : length bodies ≡ type-bodies-length
   pub each : (r : ℕ) → r < n → LooksUp (λ a. typeBody rows a) bodies r
+
+-- what is known where row r's body is made: those of the rows below are
+pub record RowReady (rows : List ℕ) (t : Table) (r : ℕ) (bodies : List ℕ) : Type 0 where
+  pub table : IsTable rows type-section t
+  pub below : r < t .count
+  pub types : TypesReady rows
+  pub held : BodiesBelow rows bodies r

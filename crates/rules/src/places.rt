@@ -27,7 +27,7 @@ ghost use Rattle.lingua.specs.References.{declaredYoke, referenceWrong, placeWr
 ghost use Rattle.rules.specs.Tables.{IsTable, AreTables, Sized};
 ghost use Rattle.rules.specs.Picks.{listed};
 ghost use Rattle.rules.specs.Decoded.{expressionMeaning};
-ghost use Rattle.rules.specs.Reads.{reads, readsRow, Marked};
+ghost use Rattle.rules.specs.Reads.{reads, readsRow, Marked, PlacesMarked};
 
 // Whether a row by itself reads a variable, or else the current value.
 fn row_reads(row: ExpressionRow, variable: bool) -> bool
@@ -113,10 +113,7 @@ fn readers(rows: &[u8], t: Table, variable: bool) -> [bool; MOST_EXPRESSIONS]
 
 // No declared yoke reads a variable.
 fn declared_fit(rows: &[u8], t: Tables, marks: &[bool; MOST_EXPRESSIONS]) -> bool
-    requires { ⌜ AreTables (now rows) t ⌝ }
-    requires { ⌜ Sized t ⌝ }
-    requires { ⌜ referenceWrong (now rows) ≡ false ⌝ }
-    requires { ⌜ Marked (now rows) true (tableCount (now rows) expression-section) (now marks) ⌝ }
+    requires { ⌜ PlacesMarked (now rows) t true (now marks) ⌝ }
     ensures { λ b. ⌜ b ≡ everyBelow (pairCount (now (rows .entry)) declaration-section) (λ d. allOf (λ r. not (reads true (expressionTree (now (rows .entry)) r))) (yokeRoot (declaredYoke (now (rows .entry)) d))) ⌝ }
 {
     let start = t.declarations.start;
@@ -138,10 +135,7 @@ fn declared_fit(rows: &[u8], t: Tables, marks: &[bool; MOST_EXPRESSIONS]) -> boo
 
 // No yoke that is set reads a variable.
 fn set_fit(rows: &[u8], t: Tables, marks: &[bool; MOST_EXPRESSIONS]) -> bool
-    requires { ⌜ AreTables (now rows) t ⌝ }
-    requires { ⌜ Sized t ⌝ }
-    requires { ⌜ referenceWrong (now rows) ≡ false ⌝ }
-    requires { ⌜ Marked (now rows) true (tableCount (now rows) expression-section) (now marks) ⌝ }
+    requires { ⌜ PlacesMarked (now rows) t true (now marks) ⌝ }
     ensures { λ b. ⌜ b ≡ everyBelow (tableCount (now (rows .entry)) instruction-section) (λ i. allOf (λ r. not (reads true (expressionTree (now (rows .entry)) r))) (yokeSet (instructionRow (now (rows .entry)) i))) ⌝ }
 {
     let instructions = t.instructions;
@@ -163,10 +157,7 @@ fn set_fit(rows: &[u8], t: Tables, marks: &[bool; MOST_EXPRESSIONS]) -> bool
 
 // No expression that an instruction evaluates reads the current value.
 fn evaluated_fit(rows: &[u8], t: Tables, marks: &[bool; MOST_EXPRESSIONS]) -> bool
-    requires { ⌜ AreTables (now rows) t ⌝ }
-    requires { ⌜ Sized t ⌝ }
-    requires { ⌜ referenceWrong (now rows) ≡ false ⌝ }
-    requires { ⌜ Marked (now rows) false (tableCount (now rows) expression-section) (now marks) ⌝ }
+    requires { ⌜ PlacesMarked (now rows) t false (now marks) ⌝ }
     ensures { λ b. ⌜ b ≡ everyBelow (tableCount (now (rows .entry)) instruction-section) (λ i. allOf (λ r. not (reads false (expressionTree (now (rows .entry)) r))) (evaluated (instructionRow (now (rows .entry)) i))) ⌝ }
 {
     let instructions = t.instructions;

@@ -20,6 +20,7 @@ use lingua::errors::MISPLACED;
 use lingua::errors::NO_ERROR;
 ghost use mathlib.Core.Path.{_≡_};
 ghost use lib.ListN.{length};
+ghost use Rattle.lingua.specs.Numbers.{type-bodies-length};
 ghost use Rattle.lingua.specs.Answers.{fileMeaning};
 ghost use Rattle.rules.specs.Tables.{AreTables};
 ghost use Rattle.rules.specs.Refusals.{Linkable, Linked, Judged};
@@ -48,7 +49,7 @@ fn link_refusal(rows: &[u8], t: Tables, bodies: &mut [u8]) -> u8
 // 0 where no rule applies. Rule 13 makes the bodies of a profile's type rows, and leaves them in the array.
 pub fn rows_refusal(file: FileKind, rows: &[u8], t: Tables, bodies: &mut [u8]) -> u8
     requires { ⌜ AreTables (now rows) t ⌝ }
-    requires { ⌜ length (now bodies) ≡ 3072 ⌝ }
+    requires { ⌜ length (now bodies) ≡ type-bodies-length ⌝ }
     ensures { λ r. ⌜ Judged r (fileMeaning file) (now (rows .entry)) (now (bodies .exit)) ⌝ }
 {
     if form_wrong(file, rows, t) {

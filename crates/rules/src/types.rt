@@ -1,4 +1,4 @@
-// Rule 13 and the bodies of type rows, in a flat array of 96 bytes for each.
+// Rule 13 and the bodies of type rows, in a flat array that has BODY_BYTES for each.
 use crate::decode::DecodedType;
 use crate::decode::Simple;
 use crate::decode::TypeRow;
@@ -12,12 +12,13 @@ use body::unary::make_record;
 use body::walk::BOOLEAN;
 use body::walk::NUMBER;
 use body::walk::WORD;
+use lingua::sizes::BODY_BYTES;
 ghost use mathlib.Core.Path.{_≡_};
 ghost use mathlib.Core.Bool.{true, false};
 ghost use Prim.Native.Nat.{ℕ, _+_, _*_, _<_, _≤_};
 ghost use lib.ListN.{length};
 ghost use lib.Seq.{paste};
-ghost use Rattle.lingua.specs.Numbers.{type-section};
+ghost use Rattle.lingua.specs.Numbers.{body-bytes, type-bodies-length, type-section};
 ghost use Rattle.lingua.specs.Outcome.{ok, Result};
 ghost use Rattle.lingua.specs.Body.{Body};
 ghost use Rattle.lingua.specs.Rows.{tableCount};
@@ -28,17 +29,17 @@ ghost use Rattle.safety.specs.Every.{Every};
 ghost use Rattle.body.specs.Typed.{Types};
 ghost use Rattle.rules.specs.Tables.{IsTable};
 ghost use Rattle.rules.specs.Decoded.{simpleMeaning, typeMeaning};
-ghost use Rattle.rules.specs.Types.{bodyAt, HeldAt, LooksUp, Answers, TypesReady, BodiesBelow};
+ghost use Rattle.rules.specs.Types.{bodyAt, HeldAt, LooksUp, Answers, TypesReady, BodiesBelow, RowReady};
 
 // The body of type row r, by itself.
-pub fn type_body(bodies: &[u8], r: usize) -> [u8; 96]
-    requires { ⌜ 96 * r + 96 ≤ length (now bodies) ⌝ }
+pub fn type_body(bodies: &[u8], r: usize) -> [u8; BODY_BYTES]
+    requires { ⌜ body-bytes * r + body-bytes ≤ length (now bodies) ⌝ }
     ensures { λ x. ⌜ x ≡ bodyAt (now (bodies .entry)) r ⌝ }
 {
-    let from = 96 * r;
-    let mut out = [0u8; 96];
+    let from = BODY_BYTES * r;
+    let mut out = [0u8; BODY_BYTES];
     let mut i = 0;
-    while i < 96 {
+    while i < BODY_BYTES {
         out[i] = bodies[from + i];
         i += 1;
     }
@@ -46,13 +47,13 @@ pub fn type_body(bodies: &[u8], r: usize) -> [u8; 96]
 }
 
 // A body is kept in place r of an array of bodies: a type row's, or a variable's.
-pub fn keep_body(bodies: &mut [u8], r: usize, body: [u8; 96])
-    requires { ⌜ 96 * r + 96 ≤ length (now bodies) ⌝ }
-    ensures { λ u. ⌜ now (bodies .exit) ≡ paste (now (bodies .entry)) (96 * r) body 96 ⌝ }
+pub fn keep_body(bodies: &mut [u8], r: usize, body: [u8; BODY_BYTES])
+    requires { ⌜ body-bytes * r + body-bytes ≤ length (now bodies) ⌝ }
+    ensures { λ u. ⌜ now (bodies .exit) ≡ paste (now (bodies .entry)) (body-bytes * r) body body-bytes ⌝ }
 {
-    let at = 96 * r;
+    let at = BODY_BYTES * r;
     let mut i = 0;
-    while i < 96 {
+    while i < BODY_BYTES {
         bodies[at + i] = body[i];
         i += 1;
     }
@@ -84,10 +85,7 @@ fn made_body(row: TypeRow, bodies: &[u8]) -> Typed
 
 // The body of type row r, from those of lower rows.
 fn row_body(rows: &[u8], t: Table, r: usize, bodies: &[u8]) -> Typed
-    requires { ⌜ IsTable (now rows) type-section t ⌝ }
-    requires { ⌜ r < t .count ⌝ }
-    requires { ⌜ TypesReady (now rows) ⌝ }
-    requires { ⌜ BodiesBelow (now rows) (now bodies) r ⌝ }
+    requires { ⌜ RowReady (now rows) t r (now bodies) ⌝ }
     ensures { λ o. ⌜ Answers o (typeBody (now (rows .entry)) r) ⌝ }
 {
     let d = type_at(rows, t.start + r);
@@ -102,7 +100,7 @@ fn row_body(rows: &[u8], t: Table, r: usize, bodies: &[u8]) -> Typed
 pub fn type_wrong(rows: &[u8], t: Table, bodies: &mut [u8]) -> bool
     requires { ⌜ IsTable (now rows) type-section t ⌝ }
     requires { ⌜ TypesReady (now rows) ⌝ }
-    requires { ⌜ length (now bodies) ≡ 3072 ⌝ }
+    requires { ⌜ length (now bodies) ≡ type-bodies-length ⌝ }
     ensures { λ w. ⌜ w ≡ typeWrong (now (rows .entry)) ⌝ }
     ensures { λ w. ⌜ (w ≡ false → BodiesBelow (now (rows .entry)) (now (bodies .exit)) (tableCount (now (rows .entry)) type-section)) ⌝ }
 {

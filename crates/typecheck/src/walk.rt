@@ -34,7 +34,7 @@ pub fn check(
     rows: &[u8],
     tables: Tables,
     bodies: &[u8],
-    current: [u8; 96],
+    current: [u8; BODY_BYTES],
     layout: &mut [u16],
 ) -> Checked
     requires { ⌜ Asked row (now rows) tables (now bodies) current (now layout) ⌝ }

@@ -47,7 +47,7 @@ none-marked-requires c κs = omega arith
 
 returns : tie.Need-returns Inv-loop μ-loop
 unfolding pairCount
-returns c = sym (every-fails (λ (k : ℕ). allOf (λ r. not (reads true (expressionTree (c .before .before .before .before .before .before .before .before .args .rows .now) r))) (yokeRoot (declaredYoke (c .before .before .before .before .before .before .before .before .args .rows .now) k))) (pairCount (c .before .before .before .before .before .before .before .before .args .rows .now) declaration-section) (c .before .before .before .before .before .loop .d) (omega arith) (sym (roots-to (c .before .before .before .before .before .before .before .before .args .rows .now) true (c .before .before .before .before .before .before .before .before .args .marks .now) (c .before .before .before .before .before .before .before .before .pre .0 .expressions .count) (c .before .before .before .before .before .before .before .before .pre .1 .1 .1) (declared-below (c .before .before .before .before .before .before .before .before .args .rows .now) (c .before .before .before .before .before .before .before .before .pre .1 .1 .0) (c .before .before .before .before .before .loop .d) (omega arith)) (c .before .before .yoke-root .ensures ∙ ap yokeRoot (c .before .before .before .b-at .ensures .0 ∙ sym (yoke-in (c .before .before .before .before .before .before .before .before .args .rows .now) (c .before .before .before .before .before .before .before .before .args .t .declarations) (c .before .before .before .before .before .loop .d) (c .before .before .before .before .before .before .before .before .pre .0 .declarations)))) (c .before .none-marked .ensures)) ∙ not-true (c .before .none-marked .result) (c .if1 .taken)))
+returns c = sym (every-fails (λ (k : ℕ). allOf (λ r. not (reads true (expressionTree (c .before .before .before .before .before .before .before .before .args .rows .now) r))) (yokeRoot (declaredYoke (c .before .before .before .before .before .before .before .before .args .rows .now) k))) (pairCount (c .before .before .before .before .before .before .before .before .args .rows .now) declaration-section) (c .before .before .before .before .before .loop .d) (omega arith) (sym (roots-to (c .before .before .before .before .before .before .before .before .args .rows .now) true (c .before .before .before .before .before .before .before .before .args .marks .now) (c .before .before .before .before .before .before .before .before .pre .tables .expressions .count) (c .before .before .before .before .before .before .before .before .pre .marked) (declared-below (c .before .before .before .before .before .before .before .before .args .rows .now) (c .before .before .before .before .before .before .before .before .pre .references) (c .before .before .before .before .before .loop .d) (omega arith)) (c .before .before .yoke-root .ensures ∙ ap yokeRoot (c .before .before .before .b-at .ensures .0 ∙ sym (yoke-in (c .before .before .before .before .before .before .before .before .args .rows .now) (c .before .before .before .before .before .before .before .before .args .t .declarations) (c .before .before .before .before .before .loop .d) (c .before .before .before .before .before .before .before .before .pre .tables .declarations)))) (c .before .none-marked .ensures)) ∙ not-true (c .before .none-marked .result) (c .if1 .taken)))
 
 add-d : tie.Need-add-d Inv-loop μ-loop
 add-d c = omega arith
@@ -57,7 +57,7 @@ loop-less c = omega arith
 
 loop-again : tie.Need-loop-again Inv-loop μ-loop
 unfolding pairCount
-loop-again c = (omega arith, every-more (λ (k : ℕ). allOf (λ r. not (reads true (expressionTree (c .before .before .before .before .before .before .before .before .args .rows .now) r))) (yokeRoot (declaredYoke (c .before .before .before .before .before .before .before .before .args .rows .now) k))) (c .before .before .before .before .before .loop .d) (c .before .before .before .before .before .loop .inv .1) (sym (roots-to (c .before .before .before .before .before .before .before .before .args .rows .now) true (c .before .before .before .before .before .before .before .before .args .marks .now) (c .before .before .before .before .before .before .before .before .pre .0 .expressions .count) (c .before .before .before .before .before .before .before .before .pre .1 .1 .1) (declared-below (c .before .before .before .before .before .before .before .before .args .rows .now) (c .before .before .before .before .before .before .before .before .pre .1 .1 .0) (c .before .before .before .before .before .loop .d) (omega arith)) (c .before .before .yoke-root .ensures ∙ ap yokeRoot (c .before .before .before .b-at .ensures .0 ∙ sym (yoke-in (c .before .before .before .before .before .before .before .before .args .rows .now) (c .before .before .before .before .before .before .before .before .args .t .declarations) (c .before .before .before .before .before .loop .d) (c .before .before .before .before .before .before .before .before .pre .0 .declarations)))) (c .before .none-marked .ensures)) ∙ not-false (c .before .none-marked .result) (c .if1 .left)))
+loop-again c = (omega arith, every-more (λ (k : ℕ). allOf (λ r. not (reads true (expressionTree (c .before .before .before .before .before .before .before .before .args .rows .now) r))) (yokeRoot (declaredYoke (c .before .before .before .before .before .before .before .before .args .rows .now) k))) (c .before .before .before .before .before .loop .d) (c .before .before .before .before .before .loop .inv .1) (sym (roots-to (c .before .before .before .before .before .before .before .before .args .rows .now) true (c .before .before .before .before .before .before .before .before .args .marks .now) (c .before .before .before .before .before .before .before .before .pre .tables .expressions .count) (c .before .before .before .before .before .before .before .before .pre .marked) (declared-below (c .before .before .before .before .before .before .before .before .args .rows .now) (c .before .before .before .before .before .before .before .before .pre .references) (c .before .before .before .before .before .loop .d) (omega arith)) (c .before .before .yoke-root .ensures ∙ ap yokeRoot (c .before .before .before .b-at .ensures .0 ∙ sym (yoke-in (c .before .before .before .before .before .before .before .before .args .rows .now) (c .before .before .before .before .before .before .before .before .args .t .declarations) (c .before .before .before .before .before .loop .d) (c .before .before .before .before .before .before .before .before .pre .tables .declarations)))) (c .before .none-marked .ensures)) ∙ not-false (c .before .none-marked .result) (c .if1 .left)))
 
 returns-2 : tie.Need-returns-2 Inv-loop μ-loop
 unfolding pairCount

@@ -19,13 +19,13 @@ readers-requires : tie.Need-readers-requires
 readers-requires c κs = search needs
 
 declared-fit-requires : tie.Need-declared-fit-requires
-declared-fit-requires c κs = search needs
+declared-fit-requires c κs = record { tables = c .before .before .before .before .pre .0; sized = c .before .before .before .before .pre .1 .0; references = c .before .before .before .before .pre .1 .1; marked = c .before .readers .ensures }
 
 returns : tie.Need-returns
 returns c = third-1 (everyBelow (pairCount (c .before .before .before .before .before .before .args .rows .now) declaration-section) (λ d. allOf (λ r. not (reads true (expressionTree (c .before .before .before .before .before .before .args .rows .now) r))) (yokeRoot (declaredYoke (c .before .before .before .before .before .before .args .rows .now) d)))) (everyBelow (tableCount (c .before .before .before .before .before .before .args .rows .now) instruction-section) (λ i. allOf (λ r. not (reads true (expressionTree (c .before .before .before .before .before .before .args .rows .now) r))) (yokeSet (instructionRow (c .before .before .before .before .before .before .args .rows .now) i)))) (everyBelow (tableCount (c .before .before .before .before .before .before .args .rows .now) instruction-section) (λ i. allOf (λ r. not (reads false (expressionTree (c .before .before .before .before .before .before .args .rows .now) r))) (evaluated (instructionRow (c .before .before .before .before .before .before .args .rows .now) i)))) (sym (c .before .declared-fit .ensures) ∙ not-true (c .before .declared-fit .result) (c .if1 .taken)) ∙ sym (places-are (c .before .before .before .before .before .before .args .rows .now))
 
 set-fit-requires : tie.Need-set-fit-requires
-set-fit-requires c κs = search needs
+set-fit-requires c κs = record { tables = c .before .before .before .before .before .before .before .pre .0; sized = c .before .before .before .before .before .before .before .pre .1 .0; references = c .before .before .before .before .before .before .before .pre .1 .1; marked = c .before .before .before .before .readers .ensures }
 
 returns-2 : tie.Need-returns-2
 returns-2 c = third-2 (everyBelow (pairCount (c .before .before .before .before .before .before .before .before .before .args .rows .now) declaration-section) (λ d. allOf (λ r. not (reads true (expressionTree (c .before .before .before .before .before .before .before .before .before .args .rows .now) r))) (yokeRoot (declaredYoke (c .before .before .before .before .before .before .before .before .before .args .rows .now) d)))) (everyBelow (tableCount (c .before .before .before .before .before .before .before .before .before .args .rows .now) instruction-section) (λ i. allOf (λ r. not (reads true (expressionTree (c .before .before .before .before .before .before .before .before .before .args .rows .now) r))) (yokeSet (instructionRow (c .before .before .before .before .before .before .before .before .before .args .rows .now) i)))) (everyBelow (tableCount (c .before .before .before .before .before .before .before .before .before .args .rows .now) instruction-section) (λ i. allOf (λ r. not (reads false (expressionTree (c .before .before .before .before .before .before .before .before .before .args .rows .now) r))) (evaluated (instructionRow (c .before .before .before .before .before .before .before .before .before .args .rows .now) i)))) (sym (c .before .before .before .before .declared-fit .ensures) ∙ not-false (c .before .before .before .before .declared-fit .result) (c .before .before .before .if1 .left)) (sym (c .before .set-fit .ensures) ∙ not-true (c .before .set-fit .result) (c .if2 .taken)) ∙ sym (places-are (c .before .before .before .before .before .before .before .before .before .args .rows .now))
@@ -34,7 +34,7 @@ readers-requires-2 : tie.Need-readers-requires-2
 readers-requires-2 c κs = search needs
 
 evaluated-fit-requires : tie.Need-evaluated-fit-requires
-evaluated-fit-requires c κs = search needs
+evaluated-fit-requires c κs = record { tables = c .before .before .before .before .before .before .before .before .before .before .before .pre .0; sized = c .before .before .before .before .before .before .before .before .before .before .before .pre .1 .0; references = c .before .before .before .before .before .before .before .before .before .before .before .pre .1 .1; marked = c .before .readers2 .ensures }
 
 returns-3 : tie.Need-returns-3
 returns-3 c = ap not (c .evaluated-fit .ensures) ∙ third-3 (everyBelow (pairCount (c .before .before .before .before .before .before .before .before .before .before .before .before .args .rows .now) declaration-section) (λ d. allOf (λ r. not (reads true (expressionTree (c .before .before .before .before .before .before .before .before .before .before .before .before .args .rows .now) r))) (yokeRoot (declaredYoke (c .before .before .before .before .before .before .before .before .before .before .before .before .args .rows .now) d)))) (everyBelow (tableCount (c .before .before .before .before .before .before .before .before .before .before .before .before .args .rows .now) instruction-section) (λ i. allOf (λ r. not (reads true (expressionTree (c .before .before .before .before .before .before .before .before .before .before .before .before .args .rows .now) r))) (yokeSet (instructionRow (c .before .before .before .before .before .before .before .before .before .before .before .before .args .rows .now) i)))) (everyBelow (tableCount (c .before .before .before .before .before .before .before .before .before .before .before .before .args .rows .now) instruction-section) (λ i. allOf (λ r. not (reads false (expressionTree (c .before .before .before .before .before .before .before .before .before .before .before .before .args .rows .now) r))) (evaluated (instructionRow (c .before .before .before .before .before .before .before .before .before .before .before .before .args .rows .now) i)))) (sym (c .before .before .before .before .before .before .before .declared-fit .ensures) ∙ not-false (c .before .before .before .before .before .before .before .declared-fit .result) (c .before .before .before .before .before .before .if1 .left)) (sym (c .before .before .before .before .set-fit .ensures) ∙ not-false (c .before .before .before .before .set-fit .result) (c .before .before .before .if2 .left)) ∙ sym (places-are (c .before .before .before .before .before .before .before .before .before .before .before .before .args .rows .now))

@@ -26,15 +26,15 @@ enum-known-d c = search needs
 
 made-body-requires : tie.Need-made-body-requires
 unfolding typeDecoded
-made-body-requires c κs = (row-attributes (c .before .before .before .before .before .before .before .args .rows .now) (c .before .before .before .before .before .before .before .args .bodies .now) (c .before .before .before .before .before .before .before .args .t) (c .before .before .before .before .before .before .before .args .r) (c .before .before .before .before .before .before .before .pre .0) (omega (arith, c .before .before .before .before .before .before .before .pre .1 .0, c .before .before .before .before .before .before .before .pre .0 .count)) (c .before .before .before .before .before .before .before .pre .1 .1 .0) (c .before .before .before .before .before .before .before .pre .1 .1 .1) _ (ap typeDecoded (sym (c .before .d .given .1)) ∙ (type-decoded (c .before .before .before .before .before .before .before .args .rows .now) (c .before .before .before .before .before .before .before .args .t) (c .before .before .before .before .before .before .before .args .r) (c .before .before .before .before .before .before .before .pre .0) (c .before .before .before .type-at .result) (c .before .before .before .type-at .ensures))), row-parts (c .before .before .before .before .before .before .before .args .rows .now) (c .before .before .before .before .before .before .before .args .bodies .now) (c .before .before .before .before .before .before .before .args .t) (c .before .before .before .before .before .before .before .args .r) (c .before .before .before .before .before .before .before .pre .0) (omega (arith, c .before .before .before .before .before .before .before .pre .1 .0, c .before .before .before .before .before .before .before .pre .0 .count)) (c .before .before .before .before .before .before .before .pre .1 .1 .0) (c .before .before .before .before .before .before .before .pre .1 .1 .1) _ (ap typeDecoded (sym (c .before .d .given .1)) ∙ (type-decoded (c .before .before .before .before .before .before .before .args .rows .now) (c .before .before .before .before .before .before .before .args .t) (c .before .before .before .before .before .before .before .args .r) (c .before .before .before .before .before .before .before .pre .0) (c .before .before .before .type-at .result) (c .before .before .before .type-at .ensures))))
+made-body-requires c κs = (row-attributes (c .before .before .before .before .before .before .before .args .rows .now) (c .before .before .before .before .before .before .before .args .bodies .now) (c .before .before .before .before .before .before .before .args .t) (c .before .before .before .before .before .before .before .args .r) (c .before .before .before .before .before .before .before .pre .table) (omega (arith, c .before .before .before .before .before .before .before .pre .below, c .before .before .before .before .before .before .before .pre .table .count)) (c .before .before .before .before .before .before .before .pre .types) (c .before .before .before .before .before .before .before .pre .held) _ (ap typeDecoded (sym (c .before .d .given .1)) ∙ (type-decoded (c .before .before .before .before .before .before .before .args .rows .now) (c .before .before .before .before .before .before .before .args .t) (c .before .before .before .before .before .before .before .args .r) (c .before .before .before .before .before .before .before .pre .table) (c .before .before .before .type-at .result) (c .before .before .before .type-at .ensures))), row-parts (c .before .before .before .before .before .before .before .args .rows .now) (c .before .before .before .before .before .before .before .args .bodies .now) (c .before .before .before .before .before .before .before .args .t) (c .before .before .before .before .before .before .before .args .r) (c .before .before .before .before .before .before .before .pre .table) (omega (arith, c .before .before .before .before .before .before .before .pre .below, c .before .before .before .before .before .before .before .pre .table .count)) (c .before .before .before .before .before .before .before .pre .types) (c .before .before .before .before .before .before .before .pre .held) _ (ap typeDecoded (sym (c .before .d .given .1)) ∙ (type-decoded (c .before .before .before .before .before .before .before .args .rows .now) (c .before .before .before .before .before .before .before .args .t) (c .before .before .before .before .before .before .before .args .r) (c .before .before .before .before .before .before .before .pre .table) (c .before .before .before .type-at .result) (c .before .before .before .type-at .ensures))))
 
 returns : tie.Need-returns
 unfolding simpleOf typeDecoded
-returns c = unknown-answers (c .before .before .before .before .before .before .before .args .rows .now) (c .before .before .before .before .before .before .before .args .bodies .now) (c .before .before .before .before .before .before .before .args .t) (c .before .before .before .before .before .before .before .args .r) (c .before .before .before .before .before .before .before .pre .0) (omega (arith, c .before .before .before .before .before .before .before .pre .1 .0, c .before .before .before .before .before .before .before .pre .0 .count)) (c .before .before .before .before .before .before .before .pre .1 .1 .0) (c .before .before .before .before .before .before .before .pre .1 .1 .1) (typeDecoded (c .before .before .before .type-at .result)) (type-decoded (c .before .before .before .before .before .before .before .args .rows .now) (c .before .before .before .before .before .before .before .args .t) (c .before .before .before .before .before .before .before .args .r) (c .before .before .before .before .before .before .before .pre .0) (c .before .before .before .type-at .result) (c .before .before .before .type-at .ensures)) (c .scalar .result) (ap typeDecoded (sym (c .before .enum-told .given .1))) (c .scalar .ensures)
+returns c = unknown-answers (c .before .before .before .before .before .before .before .args .rows .now) (c .before .before .before .before .before .before .before .args .bodies .now) (c .before .before .before .before .before .before .before .args .t) (c .before .before .before .before .before .before .before .args .r) (c .before .before .before .before .before .before .before .pre .table) (omega (arith, c .before .before .before .before .before .before .before .pre .below, c .before .before .before .before .before .before .before .pre .table .count)) (c .before .before .before .before .before .before .before .pre .types) (c .before .before .before .before .before .before .before .pre .held) (typeDecoded (c .before .before .before .type-at .result)) (type-decoded (c .before .before .before .before .before .before .before .args .rows .now) (c .before .before .before .before .before .before .before .args .t) (c .before .before .before .before .before .before .before .args .r) (c .before .before .before .before .before .before .before .pre .table) (c .before .before .before .type-at .result) (c .before .before .before .type-at .ensures)) (c .scalar .result) (ap typeDecoded (sym (c .before .enum-told .given .1))) (c .scalar .ensures)
 
 returns-2 : tie.Need-returns-2
 unfolding typeDecoded
-returns-2 c = row-answers (c .before .before .before .before .before .before .before .before .args .rows .now) (c .before .before .before .before .before .before .before .before .args .bodies .now) (c .before .before .before .before .before .before .before .before .args .t) (c .before .before .before .before .before .before .before .before .args .r) (c .before .before .before .before .before .before .before .before .pre .0) (omega (arith, c .before .before .before .before .before .before .before .before .pre .1 .0, c .before .before .before .before .before .before .before .before .pre .0 .count)) (c .before .before .before .before .before .before .before .before .pre .1 .1 .0) (c .before .before .before .before .before .before .before .before .pre .1 .1 .1) _ (ap typeDecoded (sym (c .before .before .d .given .1)) ∙ (type-decoded (c .before .before .before .before .before .before .before .before .args .rows .now) (c .before .before .before .before .before .before .before .before .args .t) (c .before .before .before .before .before .before .before .before .args .r) (c .before .before .before .before .before .before .before .before .pre .0) (c .before .before .before .before .type-at .result) (c .before .before .before .before .type-at .ensures))) (c .made-body .result) (c .made-body .ensures)
+returns-2 c = row-answers (c .before .before .before .before .before .before .before .before .args .rows .now) (c .before .before .before .before .before .before .before .before .args .bodies .now) (c .before .before .before .before .before .before .before .before .args .t) (c .before .before .before .before .before .before .before .before .args .r) (c .before .before .before .before .before .before .before .before .pre .table) (omega (arith, c .before .before .before .before .before .before .before .before .pre .below, c .before .before .before .before .before .before .before .before .pre .table .count)) (c .before .before .before .before .before .before .before .before .pre .types) (c .before .before .before .before .before .before .before .before .pre .held) _ (ap typeDecoded (sym (c .before .before .d .given .1)) ∙ (type-decoded (c .before .before .before .before .before .before .before .before .args .rows .now) (c .before .before .before .before .before .before .before .before .args .t) (c .before .before .before .before .before .before .before .before .args .r) (c .before .before .before .before .before .before .before .before .pre .table) (c .before .before .before .before .type-at .result) (c .before .before .before .before .type-at .ensures))) (c .made-body .result) (c .made-body .ensures)
 
 pub row-body-spec : {M : Type 1} → statement M
 row-body-spec =

@@ -22,7 +22,7 @@ loop-holds : tie.Need-loop-holds Inv-loop μ-loop
 loop-holds c = (omega arith, none-yet (c .before .before .args .rows .now) (c .before .before .args .bodies .now) (c .before .before .pre .1 .1))
 
 row-body-requires : tie.Need-row-body-requires Inv-loop μ-loop
-row-body-requires c κs = (c .before .before .before .before .before .pre .0, (omega arith, (c .before .before .before .before .before .pre .1 .0, c .before .before .loop .inv .1)))
+row-body-requires c κs = record { table = c .before .before .before .before .before .pre .0; below = omega arith; types = c .before .before .before .before .before .pre .1 .0; held = c .before .before .loop .inv .1 }
 
 same-length : tie.Need-same-length Inv-loop μ-loop
 same-length c = c .before .before .before .before .before .loop .inv .1 .long ∙ sym (c .before .before .before .before .before .before .before .before .pre .1 .1)
