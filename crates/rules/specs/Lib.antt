@@ -1,7 +1,7 @@
 pub mod Tables
 pub mod Decoded
 pub mod Form
-pub mod Picks
+pub mod Mentions
 pub mod Uses
 pub mod Reads
 pub mod Unrolled

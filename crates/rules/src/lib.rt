@@ -5,8 +5,8 @@ pub mod counts; // counts.rt: rule 7
 pub mod decode; // decode.rt: what a row says, by its kind
 pub mod fields; // fields.rt: a row's fields
 pub mod form; // form.rt: rule 6
+pub mod mentions; // mentions.rt: what a row mentions by number
 pub mod names; // names.rt: rule 8
-pub mod picks; // picks.rt: the numbers that a row names
 pub mod places; // places.rt: rule 12
 pub mod references; // references.rt: rule 10
 pub mod refusal; // refusal.rt: the lowest rule that applies

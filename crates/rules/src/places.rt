@@ -2,13 +2,13 @@
 // to whether anything in its tree reads; then the rows that yokes and instructions name are asked.
 use crate::decode::ExpressionRow;
 use crate::fields::b_at;
-use crate::picks::UpToThree;
-use crate::picks::evaluated;
-use crate::picks::expression_in;
-use crate::picks::instruction_in;
-use crate::picks::operands;
-use crate::picks::yoke_root;
-use crate::picks::yoke_set;
+use crate::mentions::UpToThree;
+use crate::mentions::evaluated;
+use crate::mentions::expression_in;
+use crate::mentions::instruction_in;
+use crate::mentions::operands;
+use crate::mentions::yoke_root;
+use crate::mentions::yoke_set;
 use crate::tables::Table;
 use crate::tables::Tables;
 use lingua::sizes::MOST_EXPRESSIONS;
@@ -25,7 +25,7 @@ ghost use Rattle.lingua.specs.Trees.{expressionTree};
 ghost use Rattle.lingua.specs.Format.{everyBelow};
 ghost use Rattle.lingua.specs.References.{declaredYoke, referenceWrong, placeWrong};
 ghost use Rattle.rules.specs.Tables.{IsTable, AreTables, Sized};
-ghost use Rattle.rules.specs.Picks.{listed};
+ghost use Rattle.rules.specs.Mentions.{listed};
 ghost use Rattle.rules.specs.Decoded.{expressionMeaning};
 ghost use Rattle.rules.specs.Reads.{reads, readsRow, Marked, PlacesMarked};
 

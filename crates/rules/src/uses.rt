@@ -1,14 +1,14 @@
 // Rule 11: each expression row and each instruction row but the last is used once.
 // Uses are counted in one pass over the rows, up to 2: more makes no difference.
 use crate::fields::b_at;
-use crate::picks::UpToThree;
-use crate::picks::evaluated;
-use crate::picks::expression_in;
-use crate::picks::instruction_in;
-use crate::picks::operands;
-use crate::picks::parts;
-use crate::picks::yoke_root;
-use crate::picks::yoke_set;
+use crate::mentions::UpToThree;
+use crate::mentions::evaluated;
+use crate::mentions::expression_in;
+use crate::mentions::instruction_in;
+use crate::mentions::operands;
+use crate::mentions::parts;
+use crate::mentions::yoke_root;
+use crate::mentions::yoke_set;
 use crate::tables::Table;
 use crate::tables::Tables;
 use lingua::sizes::MOST_EXPRESSIONS;
@@ -23,7 +23,7 @@ ghost use Rattle.lingua.specs.Typing.{joined};
 ghost use Rattle.lingua.specs.Format.{everyBelow};
 ghost use Rattle.lingua.specs.References.{declaredYoke, occurrences, expressionUses, instructionUses, useWrong};
 ghost use Rattle.rules.specs.Tables.{IsTable, AreTables, Sized};
-ghost use Rattle.rules.specs.Picks.{listed};
+ghost use Rattle.rules.specs.Mentions.{listed};
 ghost use Rattle.rules.specs.Uses.{Counted};
 
 // One use of row x.

@@ -43,7 +43,7 @@ pub fn variable_body(rows: &[u8], tables: Tables, bodies: &[u8], n: usize) -> [u
 }
 
 // A row's result has so many cells; beside them stands the row's second number.
-pub fn noted(row: usize, body: [u8; BODY_BYTES], second: usize, layout: &mut [u16]) -> Checked
+pub fn note_row(row: usize, body: [u8; BODY_BYTES], second: usize, layout: &mut [u16]) -> Checked
     requires { ⌜ Held body ⌝ }
     requires { ⌜ second ≤ 64 ⌝ }
     requires { ⌜ 2 * row + 1 < length (now layout) ⌝ }

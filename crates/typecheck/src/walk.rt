@@ -2,7 +2,7 @@
 // the layout table after its operands.
 use crate::leaves::Checked;
 use crate::leaves::fault;
-use crate::leaves::noted;
+use crate::leaves::note_row;
 use crate::leaves::variable_body;
 use body::operation::binary_half;
 use body::operation::unary_half;
@@ -45,13 +45,13 @@ pub fn check(
     match e {
         Row::Constant(_) => {
             let body = constant_body(rows, table, row);
-            noted(row, body, 0, layout)
+            note_row(row, body, 0, layout)
         }
         Row::Variable(n) => {
             let body = variable_body(rows, tables, bodies, n);
-            noted(row, body, 0, layout)
+            note_row(row, body, 0, layout)
         }
-        Row::Current => noted(row, current, 0, layout),
+        Row::Current => note_row(row, current, 0, layout),
         Row::Unary(o, a) => unary(row, rows, tables, bodies, o, a, current, layout),
         Row::Binary(o, a, b) => binary(row, rows, tables, bodies, o, a, b, current, layout),
         Row::Lazy(_, a, b) => lazy(row, rows, tables, bodies, a, b, current, layout),
@@ -85,7 +85,7 @@ fn unary(
         return fault(h.error, row);
     }
     let body = h.body;
-    noted(row, body, h.offset, layout)
+    note_row(row, body, h.offset, layout)
 }
 
 // Both operands, then the row's own half on bodies.
@@ -119,7 +119,7 @@ fn binary(
         return fault(h.error, row);
     }
     let body = h.body;
-    noted(row, body, h.offset, layout)
+    note_row(row, body, h.offset, layout)
 }
 
 // And and or: each operand, and then that it is Boolean.
@@ -153,7 +153,7 @@ fn lazy(
     if !is_boolean(right) {
         return fault(BOOLEAN_EXPECTED, row);
     }
-    noted(row, right, 0, layout)
+    note_row(row, right, 0, layout)
 }
 
 // The test, that it is Boolean, both branches, and then that their bodies are equal.
@@ -193,7 +193,7 @@ fn choice(
     if !same(chosen, other) {
         return fault(NO_COHERENCE, row);
     }
-    noted(row, chosen, 0, layout)
+    note_row(row, chosen, 0, layout)
 }
 
 // That the current value is a list, then the inner yoke on an element's body, and that it is Boolean.
@@ -224,5 +224,5 @@ fn all_list(
         return fault(YOKE_EXPECTED, row);
     }
     let m = measure_body(element);
-    noted(row, result, m.cells, layout)
+    note_row(row, result, m.cells, layout)
 }

@@ -39,7 +39,7 @@ use Rattle.profile.proofs.row.expression_row.Reads as expression-row-reads
 use Rattle.profile.proofs.constants.constant_body.Reads as constant-body-reads
 use Rattle.typecheck.proofs.leaves.fault.Reads as fault-reads
 use Rattle.body.proofs.unary.is_boolean.Reads as is-boolean-reads
-use Rattle.typecheck.proofs.leaves.noted.Reads as noted-reads
+use Rattle.typecheck.proofs.leaves.note_row.Reads as note-row-reads
 use Rattle.body.proofs.operation.binary_half.Reads as binary-half-reads
 use Rattle.body.proofs.operation.unary_half.Reads as unary-half-reads
 use Rattle.typecheck.proofs.leaves.variable_body.Reads as variable-body-reads
@@ -102,22 +102,22 @@ abbrev unary-below : ℕ → In 3 unary-kinds.ps
 unary-below t = and 3 unary-kinds.ps (falls 3 unary-kinds.ps _<_ μ-unary t) unary.Pre
 
 abbrev all-list-calls : ℕ → all-list-lts.Claims
-all-list-calls t = (unary-half-reads.Asked, unary-half-reads.Learnt, fault-reads.Asked, fault-reads.Learnt, check-below t, check.Post, is-boolean-reads.Asked, is-boolean-reads.Learnt, measure-body-reads.Asked, measure-body-reads.Learnt, noted-reads.Asked, noted-reads.Learnt)
+all-list-calls t = (unary-half-reads.Asked, unary-half-reads.Learnt, fault-reads.Asked, fault-reads.Learnt, check-below t, check.Post, is-boolean-reads.Asked, is-boolean-reads.Learnt, measure-body-reads.Asked, measure-body-reads.Learnt, note-row-reads.Asked, note-row-reads.Learnt)
 
 abbrev binary-calls : ℕ → binary-lts.Claims
-binary-calls t = (check-below t, check.Post, binary-half-reads.Asked, binary-half-reads.Learnt, fault-reads.Asked, fault-reads.Learnt, noted-reads.Asked, noted-reads.Learnt)
+binary-calls t = (check-below t, check.Post, binary-half-reads.Asked, binary-half-reads.Learnt, fault-reads.Asked, fault-reads.Learnt, note-row-reads.Asked, note-row-reads.Learnt)
 
 abbrev check-calls : ℕ → check-lts.Claims
-check-calls t = (expression-row-reads.Asked, expression-row-reads.Learnt, constant-body-reads.Asked, constant-body-reads.Learnt, noted-reads.Asked, noted-reads.Learnt, variable-body-reads.Asked, variable-body-reads.Learnt, unary-below t, unary.Post, binary-below t, binary.Post, lazy-below t, lazy.Post, choice-below t, choice.Post, all-list-below t, all-list.Post)
+check-calls t = (expression-row-reads.Asked, expression-row-reads.Learnt, constant-body-reads.Asked, constant-body-reads.Learnt, note-row-reads.Asked, note-row-reads.Learnt, variable-body-reads.Asked, variable-body-reads.Learnt, unary-below t, unary.Post, binary-below t, binary.Post, lazy-below t, lazy.Post, choice-below t, choice.Post, all-list-below t, all-list.Post)
 
 abbrev choice-calls : ℕ → choice-lts.Claims
-choice-calls t = (check-below t, check.Post, is-boolean-reads.Asked, is-boolean-reads.Learnt, fault-reads.Asked, fault-reads.Learnt, same-reads.Asked, same-reads.Learnt, noted-reads.Asked, noted-reads.Learnt)
+choice-calls t = (check-below t, check.Post, is-boolean-reads.Asked, is-boolean-reads.Learnt, fault-reads.Asked, fault-reads.Learnt, same-reads.Asked, same-reads.Learnt, note-row-reads.Asked, note-row-reads.Learnt)
 
 abbrev lazy-calls : ℕ → lazy-lts.Claims
-lazy-calls t = (check-below t, check.Post, is-boolean-reads.Asked, is-boolean-reads.Learnt, fault-reads.Asked, fault-reads.Learnt, noted-reads.Asked, noted-reads.Learnt)
+lazy-calls t = (check-below t, check.Post, is-boolean-reads.Asked, is-boolean-reads.Learnt, fault-reads.Asked, fault-reads.Learnt, note-row-reads.Asked, note-row-reads.Learnt)
 
 abbrev unary-calls : ℕ → unary-lts.Claims
-unary-calls t = (check-below t, check.Post, unary-half-reads.Asked, unary-half-reads.Learnt, fault-reads.Asked, fault-reads.Learnt, noted-reads.Asked, noted-reads.Learnt)
+unary-calls t = (check-below t, check.Post, unary-half-reads.Asked, unary-half-reads.Learnt, fault-reads.Asked, fault-reads.Learnt, note-row-reads.Asked, note-row-reads.Learnt)
 
 all-list-unary-half-requires : (t : ℕ) → all-list-lts.Need-unary-half-requires (all-list-calls t) (all-list-at t) all-list.Post
 all-list-unary-half-requires t c κs = c .before .before .before .pre .1 .0 .held
@@ -164,9 +164,9 @@ all-list-returns-3 t c = λ b h.
 all-list-measure-body-requires : (t : ℕ) → all-list-lts.Need-measure-body-requires (all-list-calls t) (all-list-at t) all-list.Post
 all-list-measure-body-requires t c κs = half-held _ _ _ (c .before .before .before .before .before .before .before .before .before .before .before .before .unary-half .ensures _ (c .before .before .before .before .before .before .before .before .before .before .before .before .before .before .before .before .pre .1 .0 .held .holds)) (c .before .before .before .before .before .before .before .before .before .before .if1 .left)
 
-all-list-noted-requires : (t : ℕ) → all-list-lts.Need-noted-requires (all-list-calls t) (all-list-at t) all-list.Post
+all-list-note-row-requires : (t : ℕ) → all-list-lts.Need-note-row-requires (all-list-calls t) (all-list-at t) all-list.Post
 unfolding unaryMeaning
-all-list-noted-requires t c κs =
+all-list-note-row-requires t c κs =
     let k = c .before .before .before .before .before .before .before .before .before .before .before .before .before .before .unary-half .ensures _ (c .before .before .before .before .before .before .before .before .before .before .before .before .before .before .before .before .before .before .pre .1 .0 .held .holds) in
     let w = element-of _ _ k (c .before .before .before .before .before .before .before .before .before .before .before .before .if1 .left) in
     (result-held _ _ _ _ (c .before .before .before .before .before .before .before .before .before .check .ensures _ (w .passes .holds)) (c .before .before .before .before .before .if2 .left), (omega (arith, c .before .measure-body .ensures _ (w .passes .holds) .is-cells, w .passes .holds .few-cells), asked-room (c .before .before .before .before .before .before .before .before .before .before .before .before .before .before .before .before .before .before .pre .1 .0) (c .before .before .before .before .before .before .before .before .before .check .last .1 .1 .1 .1 .1 .0) (c .before .before .before .before .before .before .before .before .before .check .kept .1 .1 .1 .1 .1 .0)))
@@ -180,7 +180,7 @@ all-list-returns-4 t c = λ b h.
     let k = c .before .before .before .before .before .before .before .before .before .before .before .before .before .before .before .before .before .unary-half .ensures b h in
     let w = element-of b _ k (c .before .before .before .before .before .before .before .before .before .before .before .before .before .before .before .if1 .left) in
     let p = passed _ _ _ _ (c .before .before .before .before .before .before .before .before .before .before .before .before .check .ensures _ (w .passes .holds)) (c .before .before .before .before .before .before .before .before .if2 .left) in
-    all-list-passes _ _ _ b (c .before .before .before .before .before .before .before .before .before .before .before .before .before .before .before .before .before .unary-half .result) k (c .before .before .before .before .before .before .before .before .before .before .before .before .before .before .before .if1 .left) _ _ _ p (c .before .before .noted .result) _ _ (sym (c .before .before .before .before .before .before .is-boolean .ensures _ (p .passes .holds)) ∙ not-false _ (c .before .before .before .before .before .if3 .left)) (c .before .before .before .before .measure-body .ensures _ (w .passes .holds) .is-cells) (c .before .before .noted .ensures)
+    all-list-passes _ _ _ b (c .before .before .before .before .before .before .before .before .before .before .before .before .before .before .before .before .before .unary-half .result) k (c .before .before .before .before .before .before .before .before .before .before .before .before .before .before .before .if1 .left) _ _ _ p (c .before .before .note-row .result) _ _ (sym (c .before .before .before .before .before .before .is-boolean .ensures _ (p .passes .holds)) ∙ not-false _ (c .before .before .before .before .before .if3 .left)) (c .before .before .before .before .measure-body .ensures _ (w .passes .holds) .is-cells) (c .before .before .note-row .ensures)
 
 binary-check-requires : (t : ℕ) → binary-lts.Need-check-requires (binary-calls t) (binary-at t) binary.Post
 binary-check-requires t c κs = (omega (arith, c .before .before .before .before .pre .0, c .before .before .before .before .pre .1 .1 .0), asked-below (c .before .before .before .before .pre .1 .0) _ (c .before .before .before .before .pre .1 .1 .0) (c .before .before .before .before .pre .1 .0 .held) refl)
@@ -217,8 +217,8 @@ binary-returns-3 t c = λ d h.
     let q = passed _ _ _ _ (c .before .before .before .before .before .before .before .before .before .before .check2 .ensures d h) (c .before .before .before .before .before .before .if2 .left) in
     binary-own _ _ _ _ _ _ _ _ _ p _ _ q (c .before .before .before .binary-half .result) (c .before .before .before .binary-half .ensures _ _ (p .passes .holds) (q .passes .holds)) (c .fault .result) _ _ (c .before .if3 .taken) (c .fault .ensures)
 
-binary-noted-requires : (t : ℕ) → binary-lts.Need-noted-requires (binary-calls t) (binary-at t) binary.Post
-binary-noted-requires t c κs =
+binary-note-row-requires : (t : ℕ) → binary-lts.Need-note-row-requires (binary-calls t) (binary-at t) binary.Post
+binary-note-row-requires t c κs =
     let p = passed _ _ _ _ (c .before .before .before .before .before .before .before .before .before .before .before .before .before .before .before .before .before .check .ensures _ (c .before .before .before .before .before .before .before .before .before .before .before .before .before .before .before .before .before .before .before .before .before .before .pre .1 .0 .held .holds)) (c .before .before .before .before .before .before .before .before .before .before .before .before .before .if1 .left) in
     let q = passed _ _ _ _ (c .before .before .before .before .before .before .before .before .before .before .before .check2 .ensures _ (c .before .before .before .before .before .before .before .before .before .before .before .before .before .before .before .before .before .before .before .before .before .before .pre .1 .0 .held .holds)) (c .before .before .before .before .before .before .before .if2 .left) in
     let k = (c .before .before .before .before .binary-half .ensures _ _ (p .passes .holds) (q .passes .holds)) in
@@ -231,7 +231,7 @@ binary-returns-4 : (t : ℕ) → binary-lts.Need-returns-4 (binary-calls t) (bin
 binary-returns-4 t c = λ d h.
     let p = passed _ _ _ _ (c .before .before .before .before .before .before .before .before .before .before .before .before .before .before .before .before .before .before .before .before .check .ensures d h) (c .before .before .before .before .before .before .before .before .before .before .before .before .before .before .before .before .if1 .left) in
     let q = passed _ _ _ _ (c .before .before .before .before .before .before .before .before .before .before .before .before .before .before .check2 .ensures d h) (c .before .before .before .before .before .before .before .before .before .before .if2 .left) in
-    binary-passes _ _ _ _ _ _ _ _ _ p _ _ q (c .before .before .before .before .before .before .before .binary-half .result) (c .before .before .before .before .before .before .before .binary-half .ensures _ _ (p .passes .holds) (q .passes .holds)) (c .before .before .noted .result) _ (c .before .before .before .before .before .if3 .left) (c .before .before .noted .ensures)
+    binary-passes _ _ _ _ _ _ _ _ _ p _ _ q (c .before .before .before .before .before .before .before .binary-half .result) (c .before .before .before .before .before .before .before .binary-half .ensures _ _ (p .passes .holds) (q .passes .holds)) (c .before .before .note-row .result) _ (c .before .before .before .before .before .if3 .left) (c .before .before .note-row .ensures)
 
 check-expression-row-requires : (t : ℕ) → check-lts.Need-expression-row-requires (check-calls t) (check-at t) check.Post
 check-expression-row-requires t c κs = (c .before .before .before .before .pre .1 .ready .tables .expressions, (omega (arith, c .before .before .before .before .pre .1 .here, c .before .before .before .before .pre .1 .ready .tables .expressions .count), row-known _ (c .before .before .before .before .pre .1 .ready .accepted) _ (c .before .before .before .before .pre .1 .here)))
@@ -242,8 +242,8 @@ check-enum-told t c = search needs
 check-constant-body-requires : (t : ℕ) → check-lts.Need-constant-body-requires (check-calls t) (check-at t) check.Post
 check-constant-body-requires t c κs = (c .before .before .before .before .before .before .before .pre .1 .ready .tables .expressions, omega (arith, c .before .before .before .before .before .before .before .pre .1 .here, c .before .before .before .before .before .before .before .pre .1 .ready .tables .expressions .count))
 
-check-noted-requires : (t : ℕ) → check-lts.Need-noted-requires (check-calls t) (check-at t) check.Post
-check-noted-requires t c κs = (record { body = _; holds = c .before .constant-body .ensures }, (omega arith, asked-room (c .before .before .before .before .before .before .before .before .before .pre .1) (now (c .before .before .before .before .before .before .before .before .before .args .layout)) refl))
+check-note-row-requires : (t : ℕ) → check-lts.Need-note-row-requires (check-calls t) (check-at t) check.Post
+check-note-row-requires t c κs = (record { body = _; holds = c .before .constant-body .ensures }, (omega arith, asked-room (c .before .before .before .before .before .before .before .before .before .pre .1) (now (c .before .before .before .before .before .before .before .before .before .args .layout)) refl))
 
 check-enum-known-e : (t : ℕ) → check-lts.Need-enum-known-e (check-calls t) (check-at t) check.Post
 check-enum-known-e t c = search needs
@@ -252,14 +252,14 @@ check-variable-body-requires : (t : ℕ) → check-lts.Need-variable-body-requir
 unfolding RowFacts
 check-variable-body-requires t c κs = (c .before .before .before .before .before .before .before .before .pre .1 .ready, facts-at (now (c .before .before .before .before .before .before .before .before .args .rows)) (c .before .before .before .before .before .before .before .before .pre .1 .ready .accepted) (c .before .before .before .before .before .before .before .before .args .row) (c .before .before .before .before .before .before .before .before .pre .1 .here) _ _ (c .before .before .before .expression-row .ensures) (c .before .e .given .1))
 
-check-noted-requires-2 : (t : ℕ) → check-lts.Need-noted-requires-2 (check-calls t) (check-at t) check.Post
-check-noted-requires-2 t c κs = (record { body = _; holds = c .before .variable-body .ensures }, (omega arith, asked-room (c .before .before .before .before .before .before .before .before .before .before .pre .1) (now (c .before .before .before .before .before .before .before .before .before .before .args .layout)) refl))
+check-note-row-requires-2 : (t : ℕ) → check-lts.Need-note-row-requires-2 (check-calls t) (check-at t) check.Post
+check-note-row-requires-2 t c κs = (record { body = _; holds = c .before .variable-body .ensures }, (omega arith, asked-room (c .before .before .before .before .before .before .before .before .before .before .pre .1) (now (c .before .before .before .before .before .before .before .before .before .before .args .layout)) refl))
 
 check-enum-told-2 : (t : ℕ) → check-lts.Need-enum-told-2 (check-calls t) (check-at t) check.Post
 check-enum-told-2 t c = search needs
 
-check-noted-requires-3 : (t : ℕ) → check-lts.Need-noted-requires-3 (check-calls t) (check-at t) check.Post
-check-noted-requires-3 t c κs = (c .before .before .before .before .before .before .before .before .pre .1 .held, (omega arith, asked-room (c .before .before .before .before .before .before .before .before .pre .1) (now (c .before .before .before .before .before .before .before .before .args .layout)) refl))
+check-note-row-requires-3 : (t : ℕ) → check-lts.Need-note-row-requires-3 (check-calls t) (check-at t) check.Post
+check-note-row-requires-3 t c κs = (c .before .before .before .before .before .before .before .before .pre .1 .held, (omega arith, asked-room (c .before .before .before .before .before .before .before .before .pre .1) (now (c .before .before .before .before .before .before .before .before .args .layout)) refl))
 
 check-enum-known-e-2 : (t : ℕ) → check-lts.Need-enum-known-e-2 (check-calls t) (check-at t) check.Post
 check-enum-known-e-2 t c = search needs
@@ -307,21 +307,21 @@ check-same-length t c = search needs
 
 check-returns : (t : ℕ) → check-lts.Need-returns (check-calls t) (check-at t) check.Post
 unfolding rowTree
-check-returns t c = λ b h. rw (tree-at (now (c .before .before .before .before .before .before .before .before .before .before .before .before .args .rows)) (c .before .before .before .before .before .before .before .before .before .before .before .before .pre .1 .ready .accepted) (c .before .before .before .before .before .before .before .before .before .before .before .before .args .row) (c .before .before .before .before .before .before .before .before .before .before .before .before .pre .1 .here) _ _ (c .before .before .before .before .before .before .before .expression-row .ensures) (c .before .before .before .before .before .enum-told .given .1)) (constant-passes (c .before .before .noted .result) _ _ _ _ (c .before .before .noted .ensures) _ b _ (c .before .before .before .before .constant-body .ensures))
+check-returns t c = λ b h. rw (tree-at (now (c .before .before .before .before .before .before .before .before .before .before .before .before .args .rows)) (c .before .before .before .before .before .before .before .before .before .before .before .before .pre .1 .ready .accepted) (c .before .before .before .before .before .before .before .before .before .before .before .before .args .row) (c .before .before .before .before .before .before .before .before .before .before .before .before .pre .1 .here) _ _ (c .before .before .before .before .before .before .before .expression-row .ensures) (c .before .before .before .before .before .enum-told .given .1)) (constant-passes (c .before .before .note-row .result) _ _ _ _ (c .before .before .note-row .ensures) _ b _ (c .before .before .before .before .constant-body .ensures))
 
 check-same-length-2 : (t : ℕ) → check-lts.Need-same-length-2 (check-calls t) (check-at t) check.Post
 check-same-length-2 t c = search needs
 
 check-returns-2 : (t : ℕ) → check-lts.Need-returns-2 (check-calls t) (check-at t) check.Post
 unfolding rowTree
-check-returns-2 t c = λ b h. rw (tree-at (now (c .before .before .before .before .before .before .before .before .before .before .before .before .before .args .rows)) (c .before .before .before .before .before .before .before .before .before .before .before .before .before .pre .1 .ready .accepted) (c .before .before .before .before .before .before .before .before .before .before .before .before .before .args .row) (c .before .before .before .before .before .before .before .before .before .before .before .before .before .pre .1 .here) _ _ (c .before .before .before .before .before .before .before .before .expression-row .ensures) (c .before .before .before .before .before .before .e .given .1)) (variable-passes (c .before .before .noted2 .result) _ _ _ _ (c .before .before .noted2 .ensures) _ b _ (c .before .before .before .before .variable-body .ensures))
+check-returns-2 t c = λ b h. rw (tree-at (now (c .before .before .before .before .before .before .before .before .before .before .before .before .before .args .rows)) (c .before .before .before .before .before .before .before .before .before .before .before .before .before .pre .1 .ready .accepted) (c .before .before .before .before .before .before .before .before .before .before .before .before .before .args .row) (c .before .before .before .before .before .before .before .before .before .before .before .before .before .pre .1 .here) _ _ (c .before .before .before .before .before .before .before .before .expression-row .ensures) (c .before .before .before .before .before .before .e .given .1)) (variable-passes (c .before .before .note-row2 .result) _ _ _ _ (c .before .before .note-row2 .ensures) _ b _ (c .before .before .before .before .variable-body .ensures))
 
 check-same-length-3 : (t : ℕ) → check-lts.Need-same-length-3 (check-calls t) (check-at t) check.Post
 check-same-length-3 t c = search needs
 
 check-returns-3 : (t : ℕ) → check-lts.Need-returns-3 (check-calls t) (check-at t) check.Post
 unfolding rowTree
-check-returns-3 t c = λ b h. rw (tree-at (now (c .before .before .before .before .before .before .before .before .before .before .before .args .rows)) (c .before .before .before .before .before .before .before .before .before .before .before .pre .1 .ready .accepted) (c .before .before .before .before .before .before .before .before .before .before .before .args .row) (c .before .before .before .before .before .before .before .before .before .before .before .pre .1 .here) _ _ (c .before .before .before .before .before .before .expression-row .ensures) (c .before .before .before .before .enum-told2 .given .1)) (current-passes (c .before .before .noted3 .result) _ _ _ _ (c .before .before .noted3 .ensures) _ b h)
+check-returns-3 t c = λ b h. rw (tree-at (now (c .before .before .before .before .before .before .before .before .before .before .before .args .rows)) (c .before .before .before .before .before .before .before .before .before .before .before .pre .1 .ready .accepted) (c .before .before .before .before .before .before .before .before .before .before .before .args .row) (c .before .before .before .before .before .before .before .before .before .before .before .pre .1 .here) _ _ (c .before .before .before .before .before .before .expression-row .ensures) (c .before .before .before .before .enum-told2 .given .1)) (current-passes (c .before .before .note-row3 .result) _ _ _ _ (c .before .before .note-row3 .ensures) _ b h)
 
 check-same-length-4 : (t : ℕ) → check-lts.Need-same-length-4 (check-calls t) (check-at t) check.Post
 check-same-length-4 t c = search needs
@@ -420,19 +420,19 @@ choice-returns-5 t c = λ d h.
     let w = passed _ _ _ _ (c .before .before .before .before .before .before .before .before .before .check3 .ensures d h) (c .before .before .before .before .before .if4 .left) in
     choice-own _ _ _ _ _ _ _ _ _ p (sym (c .before .before .before .before .before .before .before .before .before .before .before .before .before .before .before .before .before .before .is-boolean .ensures _ (p .passes .holds)) ∙ not-false _ (c .before .before .before .before .before .before .before .before .before .before .before .before .before .before .before .before .before .if2 .left)) _ _ q _ _ w (c .fault2 .result) _ _ (sym (c .before .before .same .ensures _ _ (q .passes .holds) (w .passes .holds)) ∙ not-true _ (c .before .if5 .taken)) (c .fault2 .ensures)
 
-choice-noted-requires : (t : ℕ) → choice-lts.Need-noted-requires (choice-calls t) (choice-at t) choice.Post
-choice-noted-requires t c κs =
+choice-note-row-requires : (t : ℕ) → choice-lts.Need-note-row-requires (choice-calls t) (choice-at t) choice.Post
+choice-note-row-requires t c κs =
     (result-held _ _ _ _ (c .before .before .before .before .before .before .before .before .before .before .before .before .before .before .before .check2 .ensures _ (c .before .before .before .before .before .before .before .before .before .before .before .before .before .before .before .before .before .before .before .before .before .before .before .before .before .before .before .before .before .pre .1 .0 .held .holds)) (c .before .before .before .before .before .before .before .before .before .before .before .if3 .left), (omega arith, asked-room (c .before .before .before .before .before .before .before .before .before .before .before .before .before .before .before .before .before .before .before .before .before .before .before .before .before .before .before .before .before .pre .1 .0) (c .before .before .before .before .before .before .before .before .before .check3 .last .1 .1 .1 .1 .1 .0) (c .before .before .before .before .before .before .before .before .before .check3 .kept .1 .1 .1 .1 .1 .0 ∙ c .before .before .before .before .before .before .before .before .before .before .before .before .before .before .before .check2 .kept .1 .1 .1 .1 .1 .0 ∙ c .before .before .before .before .before .before .before .before .before .before .before .before .before .before .before .before .before .before .before .before .before .before .before .before .check .kept .1 .1 .1 .1 .1 .0)))
 
 choice-same-length-6 : (t : ℕ) → choice-lts.Need-same-length-6 (choice-calls t) (choice-at t) choice.Post
-choice-same-length-6 t c = c .before .before .noted .kept .1 .1 .1 .0 ∙ c .before .before .before .before .before .before .before .before .before .before .before .before .check3 .kept .1 .1 .1 .1 .1 .0 ∙ c .before .before .before .before .before .before .before .before .before .before .before .before .before .before .before .before .before .before .check2 .kept .1 .1 .1 .1 .1 .0 ∙ c .before .before .before .before .before .before .before .before .before .before .before .before .before .before .before .before .before .before .before .before .before .before .before .before .before .before .before .check .kept .1 .1 .1 .1 .1 .0
+choice-same-length-6 t c = c .before .before .note-row .kept .1 .1 .1 .0 ∙ c .before .before .before .before .before .before .before .before .before .before .before .before .check3 .kept .1 .1 .1 .1 .1 .0 ∙ c .before .before .before .before .before .before .before .before .before .before .before .before .before .before .before .before .before .before .check2 .kept .1 .1 .1 .1 .1 .0 ∙ c .before .before .before .before .before .before .before .before .before .before .before .before .before .before .before .before .before .before .before .before .before .before .before .before .before .before .before .check .kept .1 .1 .1 .1 .1 .0
 
 choice-returns-6 : (t : ℕ) → choice-lts.Need-returns-6 (choice-calls t) (choice-at t) choice.Post
 choice-returns-6 t c = λ d h.
     let p = passed _ _ _ _ (c .before .before .before .before .before .before .before .before .before .before .before .before .before .before .before .before .before .before .before .before .before .before .before .before .before .before .before .check .ensures d h) (c .before .before .before .before .before .before .before .before .before .before .before .before .before .before .before .before .before .before .before .before .before .before .before .if1 .left) in
     let q = passed _ _ _ _ (c .before .before .before .before .before .before .before .before .before .before .before .before .before .before .before .before .before .before .check2 .ensures d h) (c .before .before .before .before .before .before .before .before .before .before .before .before .before .before .if3 .left) in
     let w = passed _ _ _ _ (c .before .before .before .before .before .before .before .before .before .before .before .before .check3 .ensures d h) (c .before .before .before .before .before .before .before .before .if4 .left) in
-    choice-passes _ _ _ _ _ _ _ _ _ p (sym (c .before .before .before .before .before .before .before .before .before .before .before .before .before .before .before .before .before .before .before .before .before .is-boolean .ensures _ (p .passes .holds)) ∙ not-false _ (c .before .before .before .before .before .before .before .before .before .before .before .before .before .before .before .before .before .before .before .before .if2 .left)) _ _ q _ _ w (c .before .before .noted .result) _ (sym (c .before .before .before .before .before .same .ensures _ _ (q .passes .holds) (w .passes .holds)) ∙ not-false _ (c .before .before .before .before .if5 .left)) (c .before .before .noted .ensures)
+    choice-passes _ _ _ _ _ _ _ _ _ p (sym (c .before .before .before .before .before .before .before .before .before .before .before .before .before .before .before .before .before .before .before .before .before .is-boolean .ensures _ (p .passes .holds)) ∙ not-false _ (c .before .before .before .before .before .before .before .before .before .before .before .before .before .before .before .before .before .before .before .before .if2 .left)) _ _ q _ _ w (c .before .before .note-row .result) _ (sym (c .before .before .before .before .before .same .ensures _ _ (q .passes .holds) (w .passes .holds)) ∙ not-false _ (c .before .before .before .before .if5 .left)) (c .before .before .note-row .ensures)
 
 lazy-check-requires : (t : ℕ) → lazy-lts.Need-check-requires (lazy-calls t) (lazy-at t) lazy.Post
 lazy-check-requires t c κs = (omega (arith, c .before .before .before .before .pre .0, c .before .before .before .before .pre .1 .1 .0), asked-below (c .before .before .before .before .pre .1 .0) _ (c .before .before .before .before .pre .1 .1 .0) (c .before .before .before .before .pre .1 .0 .held) refl)
@@ -483,8 +483,8 @@ lazy-returns-4 t c = λ k d h.
     let q = passed _ _ _ _ (c .before .before .before .before .before .before .before .before .check2 .ensures d h) (c .before .before .before .before .if3 .left) in
     lazy-second-own _ _ _ _ _ _ _ _ _ p (sym (c .before .before .before .before .before .before .before .before .before .before .before .is-boolean .ensures _ (p .passes .holds)) ∙ not-false _ (c .before .before .before .before .before .before .before .before .before .before .if2 .left)) _ _ q (c .fault2 .result) _ _ (sym (c .before .before .is-boolean2 .ensures _ (q .passes .holds)) ∙ not-true _ (c .before .if4 .taken)) (c .fault2 .ensures)
 
-lazy-noted-requires : (t : ℕ) → lazy-lts.Need-noted-requires (lazy-calls t) (lazy-at t) lazy.Post
-lazy-noted-requires t c κs =
+lazy-note-row-requires : (t : ℕ) → lazy-lts.Need-note-row-requires (lazy-calls t) (lazy-at t) lazy.Post
+lazy-note-row-requires t c κs =
     (result-held _ _ _ _ (c .before .before .before .before .before .before .before .before .check2 .ensures _ (c .before .before .before .before .before .before .before .before .before .before .before .before .before .before .before .before .before .before .before .before .before .before .pre .1 .0 .held .holds)) (c .before .before .before .before .if3 .left), (omega arith, asked-room (c .before .before .before .before .before .before .before .before .before .before .before .before .before .before .before .before .before .before .before .before .before .before .pre .1 .0) (c .before .before .before .before .before .before .before .before .check2 .last .1 .1 .1 .1 .1 .0) (c .before .before .before .before .before .before .before .before .check2 .kept .1 .1 .1 .1 .1 .0 ∙ c .before .before .before .before .before .before .before .before .before .before .before .before .before .before .before .before .before .check .kept .1 .1 .1 .1 .1 .0)))
 
 lazy-same-length-5 : (t : ℕ) → lazy-lts.Need-same-length-5 (lazy-calls t) (lazy-at t) lazy.Post
@@ -494,7 +494,7 @@ lazy-returns-5 : (t : ℕ) → lazy-lts.Need-returns-5 (lazy-calls t) (lazy-at t
 lazy-returns-5 t c = λ k d h.
     let p = passed _ _ _ _ (c .before .before .before .before .before .before .before .before .before .before .before .before .before .before .before .before .before .before .before .before .check .ensures d h) (c .before .before .before .before .before .before .before .before .before .before .before .before .before .before .before .before .if1 .left) in
     let q = passed _ _ _ _ (c .before .before .before .before .before .before .before .before .before .before .before .check2 .ensures d h) (c .before .before .before .before .before .before .before .if3 .left) in
-    lazy-passes _ _ _ _ _ _ _ _ _ p (sym (c .before .before .before .before .before .before .before .before .before .before .before .before .before .before .is-boolean .ensures _ (p .passes .holds)) ∙ not-false _ (c .before .before .before .before .before .before .before .before .before .before .before .before .before .if2 .left)) _ _ q (c .before .before .noted .result) _ (sym (c .before .before .before .before .before .is-boolean2 .ensures _ (q .passes .holds)) ∙ not-false _ (c .before .before .before .before .if4 .left)) (c .before .before .noted .ensures)
+    lazy-passes _ _ _ _ _ _ _ _ _ p (sym (c .before .before .before .before .before .before .before .before .before .before .before .before .before .before .is-boolean .ensures _ (p .passes .holds)) ∙ not-false _ (c .before .before .before .before .before .before .before .before .before .before .before .before .before .if2 .left)) _ _ q (c .before .before .note-row .result) _ (sym (c .before .before .before .before .before .is-boolean2 .ensures _ (q .passes .holds)) ∙ not-false _ (c .before .before .before .before .if4 .left)) (c .before .before .note-row .ensures)
 
 unary-check-requires : (t : ℕ) → unary-lts.Need-check-requires (unary-calls t) (unary-at t) unary.Post
 unary-check-requires t c κs = (omega (arith, c .before .before .before .before .pre .0, c .before .before .before .before .pre .1 .1), asked-below (c .before .before .before .before .pre .1 .0) _ (c .before .before .before .before .pre .1 .1) (c .before .before .before .before .pre .1 .0 .held) refl)
@@ -519,8 +519,8 @@ unary-returns-2 t c = λ b h.
     let p = passed _ _ _ _ (c .before .before .before .before .before .before .before .before .before .check .ensures b h) (c .before .before .before .before .before .if1 .left) in
     unary-own _ _ _ _ _ (c .before .before .before .before .before .before .before .before .before .check .result) _ _ _ _ (c .before .before .before .unary-half .result) (c .fault .result) p (c .before .before .before .unary-half .ensures _ (p .passes .holds)) (c .before .if2 .taken) (c .fault .ensures)
 
-unary-noted-requires : (t : ℕ) → unary-lts.Need-noted-requires (unary-calls t) (unary-at t) unary.Post
-unary-noted-requires t c κs =
+unary-note-row-requires : (t : ℕ) → unary-lts.Need-note-row-requires (unary-calls t) (unary-at t) unary.Post
+unary-note-row-requires t c κs =
     let p = passed _ _ _ _ (c .before .before .before .before .before .before .before .before .before .before .check .ensures _ (c .before .before .before .before .before .before .before .before .before .before .before .before .before .before .before .pre .1 .0 .held .holds)) (c .before .before .before .before .before .before .if1 .left) in
     let k = c .before .before .before .before .unary-half .ensures _ (p .passes .holds) in
     (half-held _ _ _ k (c .before .before .if2 .left), (half-small _ _ _ k (c .before .before .if2 .left), asked-room (c .before .before .before .before .before .before .before .before .before .before .before .before .before .before .before .pre .1 .0) (c .before .before .before .before .before .before .before .before .before .before .check .last .1 .1 .1 .1 .1 .0) (c .before .before .before .before .before .before .before .before .before .before .check .kept .1 .1 .1 .1 .1 .0)))
@@ -531,7 +531,7 @@ unary-same-length-3 t c = search needs
 unary-returns-3 : (t : ℕ) → unary-lts.Need-returns-3 (unary-calls t) (unary-at t) unary.Post
 unary-returns-3 t c = λ b h.
     let p = passed _ _ _ _ (c .before .before .before .before .before .before .before .before .before .before .before .before .before .check .ensures b h) (c .before .before .before .before .before .before .before .before .before .if1 .left) in
-    unary-passes _ _ _ _ _ (c .before .before .before .before .before .before .before .before .before .before .before .before .before .check .result) _ _ _ (c .before .before .before .before .before .before .before .unary-half .result) (c .before .before .noted .result) p (c .before .before .before .before .before .before .before .unary-half .ensures _ (p .passes .holds)) (c .before .before .before .before .before .if2 .left) (c .before .before .noted .ensures)
+    unary-passes _ _ _ _ _ (c .before .before .before .before .before .before .before .before .before .before .before .before .before .check .result) _ _ _ (c .before .before .before .before .before .before .before .unary-half .result) (c .before .before .note-row .result) p (c .before .before .before .before .before .before .before .unary-half .ensures _ (p .passes .holds)) (c .before .before .before .before .before .if2 .left) (c .before .before .note-row .ensures)
 
 pub +all-list+binary+check+choice+lazy+unary-spec : {M : Type 1} → statement M
 +all-list+binary+check+choice+lazy+unary-spec =
@@ -548,7 +548,7 @@ pub +all-list+binary+check+choice+lazy+unary-spec : {M : Type 1} → statement M
     (all-list-same-length-2 t)
     (all-list-returns-3 t)
     (all-list-measure-body-requires t)
-    (all-list-noted-requires t)
+    (all-list-note-row-requires t)
     (all-list-same-length-3 t)
     (all-list-returns-4 t))
     (λ t. binary-lts.spec (binary-calls t) (binary-at t)
@@ -563,7 +563,7 @@ pub +all-list+binary+check+choice+lazy+unary-spec : {M : Type 1} → statement M
     (binary-fault-requires t)
     (binary-same-length-3 t)
     (binary-returns-3 t)
-    (binary-noted-requires t)
+    (binary-note-row-requires t)
     (binary-same-length-4 t)
     (binary-returns-4 t))
     (λ t. check-lts.spec (check-calls t) (check-at t)
@@ -571,12 +571,12 @@ pub +all-list+binary+check+choice+lazy+unary-spec : {M : Type 1} → statement M
     (check-expression-row-requires t)
     (check-enum-told t)
     (check-constant-body-requires t)
-    (check-noted-requires t)
+    (check-note-row-requires t)
     (check-enum-known-e t)
     (check-variable-body-requires t)
-    (check-noted-requires-2 t)
+    (check-note-row-requires-2 t)
     (check-enum-told-2 t)
-    (check-noted-requires-3 t)
+    (check-note-row-requires-3 t)
     (check-enum-known-e-2 t)
     (check-unary-requires t)
     (check-enum-known-e-3 t)
@@ -622,7 +622,7 @@ pub +all-list+binary+check+choice+lazy+unary-spec : {M : Type 1} → statement M
     (choice-fault-requires-2 t)
     (choice-same-length-5 t)
     (choice-returns-5 t)
-    (choice-noted-requires t)
+    (choice-note-row-requires t)
     (choice-same-length-6 t)
     (choice-returns-6 t))
     (λ t. lazy-lts.spec (lazy-calls t) (lazy-at t)
@@ -641,7 +641,7 @@ pub +all-list+binary+check+choice+lazy+unary-spec : {M : Type 1} → statement M
     (lazy-fault-requires-2 t)
     (lazy-same-length-4 t)
     (lazy-returns-4 t)
-    (lazy-noted-requires t)
+    (lazy-note-row-requires t)
     (lazy-same-length-5 t)
     (lazy-returns-5 t))
     λ t. unary-lts.spec (unary-calls t) (unary-at t)
@@ -653,6 +653,6 @@ pub +all-list+binary+check+choice+lazy+unary-spec : {M : Type 1} → statement M
     (unary-fault-requires t)
     (unary-same-length-2 t)
     (unary-returns-2 t)
-    (unary-noted-requires t)
+    (unary-note-row-requires t)
     (unary-same-length-3 t)
     (unary-returns-3 t)

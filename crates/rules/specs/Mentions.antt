@@ -1,0 +1,36 @@
+-- What the code's short lists hold, and when the code's row names what a row of the definitions does. Assumes nothing: these are definitions.
+use mathlib.Core.Path.{_≡_}
+use mathlib.Core.Bool.{Bool}
+use mathlib.Core.List.{List, [], _∷_}
+use Prim.Native.Nat.{ℕ}
+use lib.ListN.{take}
+use Rattle.lingua.specs.Rows.{TypeRow, ExpressionRow, InstructionRow, operands, parts, evaluated, yokeSet}
+use Rattle.lingua.specs.Rules.{attributesFit, typeAttributes, expressionAttributes, handledErrors}
+use Rattle.lingua.specs.References.{typeParts, expressionVariables, instructionVariables}
+use Rattle.rules.specs.Decoded.{typeMeaning, expressionMeaning, instructionMeaning}
+use Rattle.rules.specs.Reads.{readsRow}
+use Rattle.rules.specs.declared.mentions.UpToThree.{UpToThree}
+use Rattle.rules.specs.declared.decode.TypeRow.{TypeRow as CodeType}
+use Rattle.rules.specs.declared.decode.ExpressionRow.{ExpressionRow as CodeRow}
+use Rattle.rules.specs.declared.decode.InstructionRow.{InstructionRow as CodeInstruction}
+
+unfoldable pub listed : UpToThree → List ℕ
+listed f = take (f .count) (f .x ∷ f .y ∷ f .z ∷ [])
+
+pub record TypeAlike (row : CodeType) (x : TypeRow) : Type 0 where
+  pub attributes : typeAttributes (typeMeaning row) ≡ typeAttributes x
+  pub parts : typeParts (typeMeaning row) ≡ typeParts x
+
+-- row i of the rows, in code; of attributes, whether they are in range
+pub record ExpressionAlike (rows : List ℕ) (i : ℕ) (row : CodeRow) (x : ExpressionRow) : Type 0 where
+  pub operands : operands (expressionMeaning rows i row) ≡ operands x
+  pub attributes : attributesFit (expressionAttributes (expressionMeaning rows i row)) ≡ attributesFit (expressionAttributes x)
+  pub variables : expressionVariables (expressionMeaning rows i row) ≡ expressionVariables x
+  pub reads : (variable : Bool) → readsRow variable (expressionMeaning rows i row) ≡ readsRow variable x
+
+pub record InstructionAlike (row : CodeInstruction) (x : InstructionRow) : Type 0 where
+  pub handled : handledErrors (instructionMeaning row) ≡ handledErrors x
+  pub parts : parts (instructionMeaning row) ≡ parts x
+  pub evaluated : evaluated (instructionMeaning row) ≡ evaluated x
+  pub assigned : instructionVariables (instructionMeaning row) ≡ instructionVariables x
+  pub yoke : yokeSet (instructionMeaning row) ≡ yokeSet x
