@@ -16,8 +16,8 @@ use Rattle.lingua.specs.Outcome.{ok, Result}
 use Rattle.lingua.specs.Body.{Body, isNumber}
 use Rattle.lingua.specs.Compute.{sameText}
 use Rattle.lingua.specs.Store.{Limit}
-use Rattle.lingua.specs.Rows.{word32, aAt, bAt, lowAt, highAt, bytesAt, tableStart, tableCount, rowIn, pairCount, nameRow, detailRow}
-use Rattle.lingua.specs.Trees.{typeBody, declaredBody, limitRow, nameAt}
+use Rattle.lingua.specs.Rows.{word32, aAt, bAt, bytesAt, tableStart, tableCount, rowIn, pairCount, nameRow, detailRow}
+use Rattle.lingua.specs.Trees.{typeBody, declaredBody, nameAt}
 use Rattle.lingua.specs.References.{declaredYoke}
 use Rattle.lingua.specs.Refusal.{isNumberBody, isNumberVariable}
 use Rattle.safety.specs.Accepted.{AcceptedRows, declared-type}
@@ -88,11 +88,6 @@ number-there rows t d x is h v =
     ∙ rw (lt-ltb d (pairCount rows declaration-section) (omega (arith, pairs rows declaration-section t is)), v .is)
 
 -- ---- limits
-module _ (limits : List ℕ) (t : Table) (is : IsTable limits limit-section t) (l n : ℕ) (z : ℤ) where
-  pub low-is : n ≡ word32 limits (10 * (t .start + (2 * l + 1)) + 2) → z ≡ toZ w32 n → z ≡ limitRow limits l .low
-  unfolding limitRow lowAt
-  low-is e h = h ∙ ap (λ (i : ℕ). toZ w32 i) (e ∙ ap (λ (i : ℕ). word32 limits (10 * i + 2)) (detail-place limits limit-section t is l))
-
-  pub high-is : n ≡ word32 limits (10 * (t .start + (2 * l + 1)) + 6) → z ≡ toZ w32 n → z ≡ limitRow limits l .high
-  unfolding limitRow highAt
-  high-is e h = h ∙ ap (λ (i : ℕ). toZ w32 i) (e ∙ ap (λ (i : ℕ). word32 limits (10 * i + 6)) (detail-place limits limit-section t is l))
+pub end-is : (limits : List ℕ) (t : Table) (l from n : ℕ) (z : ℤ) → IsTable limits limit-section t → n ≡ word32 limits (10 * (t .start + (2 * l + 1)) + from) → z ≡ toZ w32 n
+    → z ≡ toZ w32 (word32 limits (10 * detailRow limits limit-section l + from))
+end-is limits t l from n z is e h = h ∙ ap (λ (i : ℕ). toZ w32 i) (e ∙ ap (λ (i : ℕ). word32 limits (10 * i + from)) (detail-place limits limit-section t is l))
