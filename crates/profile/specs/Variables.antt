@@ -1,15 +1,27 @@
--- A variable's declared body as the code has it, and its limit as a run keeps it. Assumes nothing: these are definitions.
+-- What is known where declarations are read, a variable's declared body as the code has it, and its limit as a run keeps it. Assumes nothing: these are definitions.
 use mathlib.Core.Path.{_≡_}
 use mathlib.Core.List.{List}
 use mathlib.Core.Option.{Option, some, none}
 use Prim.Native.Nat.{ℕ, _+_}
 use lib.IntN.{ℤ, pos}
 use lib.ListN.{getD}
+use Rattle.lingua.specs.Numbers.{declaration-section, type-section}
 use Rattle.lingua.specs.Outcome.{ok}
 use Rattle.lingua.specs.Body.{Body}
 use Rattle.lingua.specs.Store.{Limit}
+use Rattle.lingua.specs.Rows.{tableCount}
 use Rattle.lingua.specs.Trees.{declaredBody}
+use Rattle.safety.specs.Accepted.{AcceptedRows}
 use Rattle.body.specs.Encode.{Holds}
+use Rattle.rules.specs.Tables.{IsTable}
+use Rattle.rules.specs.Types.{BodiesBelow}
+use Rattle.rules.specs.declared.tables.Table.{Table}
+
+-- what is known of an accepted profile where its declarations are read: their table, and the bodies of the type rows
+pub record DeclarationsKnown (rows : List ℕ) (t : Table) (bodies : List ℕ) : Type 0 where
+  pub table : IsTable rows declaration-section t
+  pub accepted : AcceptedRows rows
+  pub held : BodiesBelow rows bodies (tableCount rows type-section)
 
 pub record DeclaredIs (rows : List ℕ) (d : ℕ) (x : List ℕ) : Type 0 where
   pub body : Body

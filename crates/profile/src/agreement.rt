@@ -19,6 +19,7 @@ ghost use Rattle.lingua.specs.Refusal.{namesNumber, limitFits, limitWrong, read
 ghost use Rattle.safety.specs.Accepted.{AcceptedRows};
 ghost use Rattle.rules.specs.Tables.{IsTable};
 ghost use Rattle.rules.specs.Types.{BodiesBelow};
+ghost use Rattle.profile.specs.Variables.{DeclarationsKnown};
 
 fn in_range(z: i64) -> bool
     ensures { λ r. ⌜ r ≡ inRange z ⌝ }
@@ -34,9 +35,7 @@ fn in_range(z: i64) -> bool
 
 // Whether some number variable has the name.
 fn names_number(rows: &[u8], t: Table, bodies: &[u8], name: &[u8]) -> bool
-    requires { ⌜ IsTable (now rows) declaration-section t ⌝ }
-    requires { ⌜ AcceptedRows (now rows) ⌝ }
-    requires { ⌜ BodiesBelow (now rows) (now bodies) (tableCount (now rows) type-section) ⌝ }
+    requires { ⌜ DeclarationsKnown (now rows) t (now bodies) ⌝ }
     requires { ⌜ length (now name) ≡ 8 ⌝ }
     ensures { λ r. ⌜ r ≡ namesNumber (now (rows .entry)) (now (name .entry)) ⌝ }
 {
@@ -49,9 +48,7 @@ fn names_number(rows: &[u8], t: Table, bodies: &[u8], name: &[u8]) -> bool
 
 // Whether limit l has its ends in order and in range, and a number variable of its name.
 fn limit_fits(rows: &[u8], t: Table, bodies: &[u8], limits: &[u8], u: Table, l: usize) -> bool
-    requires { ⌜ IsTable (now rows) declaration-section t ⌝ }
-    requires { ⌜ AcceptedRows (now rows) ⌝ }
-    requires { ⌜ BodiesBelow (now rows) (now bodies) (tableCount (now rows) type-section) ⌝ }
+    requires { ⌜ DeclarationsKnown (now rows) t (now bodies) ⌝ }
     requires { ⌜ IsTable (now limits) limit-section u ⌝ }
     requires { ⌜ l < u .count / 2 ⌝ }
     ensures { λ r. ⌜ r ≡ limitFits (now (rows .entry)) (now (limits .entry)) l ⌝ }
@@ -73,9 +70,7 @@ fn limit_fits(rows: &[u8], t: Table, bodies: &[u8], limits: &[u8], u: Table, l: 
 
 // Rule 15.
 pub fn limit_wrong(rows: &[u8], t: Table, bodies: &[u8], limits: &[u8], u: Table) -> bool
-    requires { ⌜ IsTable (now rows) declaration-section t ⌝ }
-    requires { ⌜ AcceptedRows (now rows) ⌝ }
-    requires { ⌜ BodiesBelow (now rows) (now bodies) (tableCount (now rows) type-section) ⌝ }
+    requires { ⌜ DeclarationsKnown (now rows) t (now bodies) ⌝ }
     requires { ⌜ IsTable (now limits) limit-section u ⌝ }
     ensures { λ r. ⌜ r ≡ limitWrong (now (rows .entry)) (now (limits .entry)) ⌝ }
 {

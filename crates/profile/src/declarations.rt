@@ -14,7 +14,7 @@ ghost use Rattle.lingua.specs.Refusal.{isNumberVariable};
 ghost use Rattle.safety.specs.Accepted.{AcceptedRows};
 ghost use Rattle.rules.specs.Tables.{IsTable};
 ghost use Rattle.rules.specs.Types.{BodiesBelow};
-ghost use Rattle.profile.specs.Variables.{DeclaredIs};
+ghost use Rattle.profile.specs.Variables.{DeclarationsKnown, DeclaredIs};
 
 // The type row of variable d.
 pub fn declared_type(rows: &[u8], t: Table, d: usize) -> usize
@@ -39,10 +39,8 @@ pub fn declared_yoke(rows: &[u8], t: Table, d: usize) -> usize
 
 // The declared body of variable d.
 pub fn declared_body(rows: &[u8], t: Table, d: usize, bodies: &[u8]) -> [u8; BODY_BYTES]
-    requires { ⌜ IsTable (now rows) declaration-section t ⌝ }
+    requires { ⌜ DeclarationsKnown (now rows) t (now bodies) ⌝ }
     requires { ⌜ d < t .count / 2 ⌝ }
-    requires { ⌜ AcceptedRows (now rows) ⌝ }
-    requires { ⌜ BodiesBelow (now rows) (now bodies) (tableCount (now rows) type-section) ⌝ }
     ensures { λ x. ⌜ DeclaredIs (now (rows .entry)) d x ⌝ }
 {
     let r = declared_type(rows, t, d);

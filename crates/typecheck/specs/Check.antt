@@ -34,6 +34,13 @@ pub record Asked (row : ℕ) (rows : List ℕ) (t : Tables) (bodies current layo
   pub held : Held current
   pub room : length layout ≡ layout-length
 
+-- what the check of a yoke asks, where the current value has a body
+pub record YokeAsked (rows : List ℕ) (t : Tables) (bodies : List ℕ) (yoke : ℕ) (current layout : List ℕ) : Type 0 where
+  pub ready : Ready rows t bodies
+  pub here : yoke ≤ tableCount rows expression-section
+  pub held : Held current
+  pub room : length layout ≡ layout-length
+
 -- what the check of an assignment of expression e to variable n asks, in an instruction row
 pub record Assigned (rows : List ℕ) (t : Tables) (bodies : List ℕ) (row n e : ℕ) (layout : List ℕ) : Type 0 where
   pub ready : Ready rows t bodies

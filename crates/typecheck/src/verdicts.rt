@@ -14,7 +14,7 @@ use profile::row::instruction_row;
 use rules::decode::InstructionRow as Row;
 use rules::tables::Tables;
 ghost use mathlib.Core.Path.{_≡_};
-ghost use Prim.Native.Nat.{_+_, _≤_, _<_};
+ghost use Prim.Native.Nat.{_+_, _<_};
 ghost use lib.ListN.{length};
 ghost use Rattle.lingua.specs.Numbers.{layout-length, expression-section, instruction-section, declaration-section, most-instructions};
 ghost use Rattle.lingua.specs.Body.{Body};
@@ -22,8 +22,8 @@ ghost use Rattle.lingua.specs.Expression.{assign};
 ghost use Rattle.lingua.specs.Rows.{tableCount};
 ghost use Rattle.lingua.specs.Typing.{checkYoke, checkTest, checkInstruction};
 ghost use Rattle.lingua.specs.Trees.{expressionTree, yokeTree, instructionTree};
-ghost use Rattle.body.specs.Encode.{Holds, Held};
-ghost use Rattle.typecheck.specs.Check.{Ready, Assigned, variableBodies};
+ghost use Rattle.body.specs.Encode.{Holds};
+ghost use Rattle.typecheck.specs.Check.{Ready, Assigned, YokeAsked, variableBodies};
 ghost use Rattle.typecheck.specs.Verdicts.{Settles};
 
 // The first type error and its place, or error 0.
@@ -51,10 +51,7 @@ pub fn check_yoke(
     place: u16,
     layout: &mut [u16],
 ) -> Verdict
-    requires { ⌜ Ready (now rows) tables (now bodies) ⌝ }
-    requires { ⌜ yoke ≤ tableCount (now rows) expression-section ⌝ }
-    requires { ⌜ Held current ⌝ }
-    requires { ⌜ length (now layout) ≡ layout-length ⌝ }
+    requires { ⌜ YokeAsked (now rows) tables (now bodies) yoke current (now layout) ⌝ }
     ensures { λ r. ⌜ ((b : Body) → Holds current b → Settles r (now (layout .entry)) (now (layout .exit)) (checkYoke (yokeTree (now (rows .entry)) yoke) (variableBodies (now (rows .entry))) b place)) ⌝ }
 {
     if yoke == 0 {

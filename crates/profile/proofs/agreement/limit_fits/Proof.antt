@@ -57,7 +57,7 @@ names-number-requires c κs = search needs
 
 returns-4 : tie.Need-returns-4
 unfolding nameAt
-returns-4 c = name-decides (c .before .before .before .before .before .before .before .before .before .before .before .before .args .rows .now) (c .before .before .before .before .before .before .before .before .before .before .before .before .args .limits .now) (c .before .before .before .before .before .before .before .before .before .before .before .before .args .l) (toZ w64 (ofZ w64 (c .before .before .before .before .before .before .before .before .limit-low .result))) (toZ w64 (ofZ w64 (c .before .before .before .before .before .before .before .limit-high .result))) (toZ-ofZ w64 (c .before .before .before .before .before .before .before .before .limit-low .result) (record { sfits = c .before .before .before .before .before .before .before .before .limit-low .ok }) ∙ c .before .before .before .before .before .before .before .before .limit-low .ensures) (toZ-ofZ w64 (c .before .before .before .before .before .before .before .limit-high .result) (record { sfits = c .before .before .before .before .before .before .before .limit-high .ok }) ∙ c .before .before .before .before .before .before .before .limit-high .ensures) (c .before .before .before .before .before .in-range .result) (c .before .before .before .in-range2 .result) (c .names-number .result) (c .before .before .before .before .before .before .if1 .left) (c .before .before .before .before .before .in-range .ensures) (not-false (c .before .before .before .before .before .in-range .result) (c .before .before .before .before .if2 .left)) (c .before .before .before .in-range2 .ensures) (not-false (c .before .before .before .in-range2 .result) (c .before .before .if3 .left)) (c .names-number .ensures ∙ ap (namesNumber (c .before .before .before .before .before .before .before .before .before .before .before .before .args .rows .now)) (c .before .bytes-at .ensures .0 ∙ ap (bytesAt (c .before .before .before .before .before .before .before .before .before .before .before .before .args .limits .now)) (name-place (c .before .before .before .before .before .before .before .before .before .before .before .before .args .limits .now) limit-section (c .before .before .before .before .before .before .before .before .before .before .before .before .args .u) (c .before .before .before .before .before .before .before .before .before .before .before .before .pre .1 .1 .1 .0) (c .before .before .before .before .before .before .before .before .before .before .before .before .args .l))))
+returns-4 c = name-decides (c .before .before .before .before .before .before .before .before .before .before .before .before .args .rows .now) (c .before .before .before .before .before .before .before .before .before .before .before .before .args .limits .now) (c .before .before .before .before .before .before .before .before .before .before .before .before .args .l) (toZ w64 (ofZ w64 (c .before .before .before .before .before .before .before .before .limit-low .result))) (toZ w64 (ofZ w64 (c .before .before .before .before .before .before .before .limit-high .result))) (toZ-ofZ w64 (c .before .before .before .before .before .before .before .before .limit-low .result) (record { sfits = c .before .before .before .before .before .before .before .before .limit-low .ok }) ∙ c .before .before .before .before .before .before .before .before .limit-low .ensures) (toZ-ofZ w64 (c .before .before .before .before .before .before .before .limit-high .result) (record { sfits = c .before .before .before .before .before .before .before .limit-high .ok }) ∙ c .before .before .before .before .before .before .before .limit-high .ensures) (c .before .before .before .before .before .in-range .result) (c .before .before .before .in-range2 .result) (c .names-number .result) (c .before .before .before .before .before .before .if1 .left) (c .before .before .before .before .before .in-range .ensures) (not-false (c .before .before .before .before .before .in-range .result) (c .before .before .before .before .if2 .left)) (c .before .before .before .in-range2 .ensures) (not-false (c .before .before .before .in-range2 .result) (c .before .before .if3 .left)) (c .names-number .ensures ∙ ap (namesNumber (c .before .before .before .before .before .before .before .before .before .before .before .before .args .rows .now)) (c .before .bytes-at .ensures .0 ∙ ap (bytesAt (c .before .before .before .before .before .before .before .before .before .before .before .before .args .limits .now)) (name-place (c .before .before .before .before .before .before .before .before .before .before .before .before .args .limits .now) limit-section (c .before .before .before .before .before .before .before .before .before .before .before .before .args .u) (c .before .before .before .before .before .before .before .before .before .before .before .before .pre .1 .0) (c .before .before .before .before .before .before .before .before .before .before .before .before .args .l))))
 
 pub limit-fits-spec : {M : Type 1} → statement M
 limit-fits-spec =

@@ -26,10 +26,10 @@ loop-holds : tie.Need-loop-holds Inv-loop μ-loop
 loop-holds c = (omega arith, every-begins (λ j. limitFits (c .before .before .before .before .args .rows .now) (c .before .before .before .before .args .limits .now) j))
 
 limit-fits-requires : tie.Need-limit-fits-requires Inv-loop μ-loop
-limit-fits-requires c κs = (c .before .before .before .before .before .before .pre .0, (c .before .before .before .before .before .before .pre .1 .0, (c .before .before .before .before .before .before .pre .1 .1 .0, (c .before .before .before .before .before .before .pre .1 .1 .1, omega arith))))
+limit-fits-requires c κs = (c .before .before .before .before .before .before .pre .0, (c .before .before .before .before .before .before .pre .1, omega arith))
 
 returns : tie.Need-returns Inv-loop μ-loop
-returns c = limits-wrong (c .before .before .before .before .before .before .before .before .args .rows .now) (c .before .before .before .before .before .before .before .before .args .limits .now) (c .before .before .before .before .before .before .before .before .args .u .count / 2) (c .before .before .before .loop .l) (c .before .limit-fits .result) (pairs (c .before .before .before .before .before .before .before .before .args .limits .now) limit-section (c .before .before .before .before .before .before .before .before .args .u) (c .before .before .before .before .before .before .before .before .pre .1 .1 .1)) (c .before .limit-fits .ensures) (not-true (c .before .limit-fits .result) (c .if1 .taken)) (omega arith)
+returns c = limits-wrong (c .before .before .before .before .before .before .before .before .args .rows .now) (c .before .before .before .before .before .before .before .before .args .limits .now) (c .before .before .before .before .before .before .before .before .args .u .count / 2) (c .before .before .before .loop .l) (c .before .limit-fits .result) (pairs (c .before .before .before .before .before .before .before .before .args .limits .now) limit-section (c .before .before .before .before .before .before .before .before .args .u) (c .before .before .before .before .before .before .before .before .pre .1)) (c .before .limit-fits .ensures) (not-true (c .before .limit-fits .result) (c .if1 .taken)) (omega arith)
 
 add-l : tie.Need-add-l Inv-loop μ-loop
 add-l c = omega arith
@@ -41,7 +41,7 @@ loop-again : tie.Need-loop-again Inv-loop μ-loop
 loop-again c = (omega arith, every-more (c .before .before .before .loop .l) (λ j. limitFits (c .before .before .before .before .before .before .before .before .args .rows .now) (c .before .before .before .before .before .before .before .before .args .limits .now) j) (c .before .before .before .loop .inv .1) (sym (c .before .limit-fits .ensures) ∙ not-false (c .before .limit-fits .result) (c .if1 .left)))
 
 returns-2 : tie.Need-returns-2 Inv-loop μ-loop
-returns-2 c = limits-right (c .before .before .before .before .before .before .args .rows .now) (c .before .before .before .before .before .before .args .limits .now) (c .before .before .before .before .before .before .args .u .count / 2) (c .before .loop .l) (pairs (c .before .before .before .before .before .before .args .limits .now) limit-section (c .before .before .before .before .before .before .args .u) (c .before .before .before .before .before .before .pre .1 .1 .1)) (c .before .loop .inv .1) (omega arith)
+returns-2 c = limits-right (c .before .before .before .before .before .before .args .rows .now) (c .before .before .before .before .before .before .args .limits .now) (c .before .before .before .before .before .before .args .u .count / 2) (c .before .loop .l) (pairs (c .before .before .before .before .before .before .args .limits .now) limit-section (c .before .before .before .before .before .before .args .u) (c .before .before .before .before .before .before .pre .1)) (c .before .loop .inv .1) (omega arith)
 
 pub limit-wrong-spec : {M : Type 1} → statement M
 limit-wrong-spec =

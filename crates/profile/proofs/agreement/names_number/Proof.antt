@@ -6,15 +6,15 @@ use Rattle.profile.proofs.agreement.names_number.Statement.{statement}
 use Rattle.profile.proofs.agreement.names_number.Tie as tie
 
 find-requires : tie.Need-find-requires
-find-requires c κs = (c .before .before .before .pre .0, c .before .before .before .pre .1 .1 .1)
+find-requires c κs = (c .before .before .before .pre .0 .table, c .before .before .before .pre .1)
 
 is-number-variable-requires : tie.Need-is-number-variable-requires
-is-number-variable-requires c κs = (c .before .before .before .before .before .before .before .pre .0, (c .before .before .before .before .before .before .before .pre .1 .0, c .before .before .before .before .before .before .before .pre .1 .1 .0))
+is-number-variable-requires c κs = (c .before .before .before .before .before .before .before .pre .0 .table, (c .before .before .before .before .before .before .before .pre .0 .accepted, c .before .before .before .before .before .before .before .pre .0 .held))
 
 returns : tie.Need-returns
 returns c =
     let h = is-found (c .before .before .before .before .before .before .before .before .args .rows .now) (c .before .before .before .before .before .before .before .before .args .name .now) (c .before .before .before .before .find .result) _ (c .before .before .found .given .1) (c .before .before .before .before .find .ensures) in
-    c .is-number-variable .ensures ∙ name-found (c .before .before .before .before .before .before .before .before .args .rows .now) (c .before .before .before .before .before .before .before .before .args .name .now) _ (c .before .before .before .before .before .before .before .before .pre .1 .0 .names) h
+    c .is-number-variable .ensures ∙ name-found (c .before .before .before .before .before .before .before .before .args .rows .now) (c .before .before .before .before .before .before .before .before .args .name .now) _ (c .before .before .before .before .before .before .before .before .pre .0 .accepted .names) h
 
 returns-2 : tie.Need-returns-2
 returns-2 c =

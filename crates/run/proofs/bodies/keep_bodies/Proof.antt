@@ -19,7 +19,7 @@ loop-holds : tie.Need-loop-holds Inv-loop μ-loop
 loop-holds c = (omega arith, bodies-none (now (c .before .before .before .before .args .rows)) (now (c .before .before .before .before .args .variables)) (c .before .before .before .before .pre .1 .1 .1))
 
 declared-body-requires : tie.Need-declared-body-requires Inv-loop μ-loop
-declared-body-requires c κs = (c .before .before .before .before .before .before .pre .1 .0, (omega arith, (c .before .before .before .before .before .before .pre .0, c .before .before .before .before .before .before .pre .1 .1 .0)))
+declared-body-requires c κs = (record { table = c .before .before .before .before .before .before .pre .1 .0; accepted = c .before .before .before .before .before .before .pre .0; held = c .before .before .before .before .before .before .pre .1 .1 .0 }, omega arith)
 
 keep-body-requires : tie.Need-keep-body-requires Inv-loop μ-loop
 keep-body-requires c κs = omega (arith, c .before .before .before .loop .inv .1 .long, few-counted (now (c .before .before .before .before .before .before .before .before .args .rows)) (c .before .before .before .before .before .before .before .before .args .t) (c .before .before .before .before .before .before .before .before .pre .0) (c .before .before .before .before .before .before .before .before .pre .1 .0))

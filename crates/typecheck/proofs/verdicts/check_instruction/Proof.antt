@@ -47,7 +47,7 @@ check-yoke-requires : tie.Need-check-yoke-requires
 unfolding InstructionFacts
 check-yoke-requires c κs =
     let f = instruction-at (now (c .before .before .before .before .before .before .before .before .before .before .args .rows)) (c .before .before .before .before .before .before .before .before .before .before .pre .0 .accepted) (c .before .before .before .before .before .before .before .before .before .before .args .row) (c .before .before .before .before .before .before .before .before .before .before .pre .1 .0) _ _ (c .before .before .before .before .before .instruction-row .ensures) (c .before .before .before .i2 .given .1) in
-    (c .before .before .before .before .before .before .before .before .before .before .pre .0, (every-yoke _ _ (f .1), (record { body = _; holds = c .before .variable-body .ensures }, c .before .before .before .before .before .before .before .before .before .before .pre .1 .1)))
+    record { ready = c .before .before .before .before .before .before .before .before .before .before .pre .0; here = every-yoke _ _ (f .1); held = record { body = _; holds = c .before .variable-body .ensures }; room = c .before .before .before .before .before .before .before .before .before .before .pre .1 .1 }
 
 enum-told-2 : tie.Need-enum-told-2
 enum-told-2 c = search needs

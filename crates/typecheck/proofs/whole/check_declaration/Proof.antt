@@ -41,7 +41,7 @@ check-yoke-requires : tie.Need-check-yoke-requires
 unfolding declaredYoke
 check-yoke-requires c κs =
     let e = c .before .before .b-at .ensures .0 ∙ ap (bAt (now (c .before .before .before .before .before .before .before .before .args .rows))) (detail-is (now (c .before .before .before .before .before .before .before .before .args .rows)) (c .before .before .before .before .before .before .before .before .args .tables .declarations) (c .before .before .before .before .before .before .before .before .pre .0 .tables .declarations) (c .before .before .before .before .before .before .before .before .args .d)) in
-    (c .before .before .before .before .before .before .before .before .pre .0, (subst (λ (y : ℕ). y ≤ tableCount (now (c .before .before .before .before .before .before .before .before .args .rows)) expression-section) (sym e) (all-yoke _ _ (declared-yoke (now (c .before .before .before .before .before .before .before .before .args .rows)) (c .before .before .before .before .before .before .before .before .pre .0 .accepted) (c .before .before .before .before .before .before .before .before .args .d) (c .before .before .before .before .before .before .before .before .pre .1 .0))), (record { body = _; holds = c .before .variable-body .ensures }, c .before .before .before .before .before .before .before .before .pre .1 .1)))
+    record { ready = c .before .before .before .before .before .before .before .before .pre .0; here = subst (λ (y : ℕ). y ≤ tableCount (now (c .before .before .before .before .before .before .before .before .args .rows)) expression-section) (sym e) (all-yoke _ _ (declared-yoke (now (c .before .before .before .before .before .before .before .before .args .rows)) (c .before .before .before .before .before .before .before .before .pre .0 .accepted) (c .before .before .before .before .before .before .before .before .args .d) (c .before .before .before .before .before .before .before .before .pre .1 .0))); held = record { body = _; holds = c .before .variable-body .ensures }; room = c .before .before .before .before .before .before .before .before .pre .1 .1 }
 
 same-length : tie.Need-same-length
 same-length c = search needs
