@@ -16,9 +16,14 @@ use Rattle.lingua.specs.Trees.{tabulateFrom, tabulate}
 use Rattle.lingua.specs.Typing.{joined}
 use Rattle.lingua.specs.Format.{everyBelow}
 use Rattle.lingua.specs.Numbers.{declaration-section, expression-section, instruction-section}
-use Rattle.lingua.specs.Rows.{tableCount, pairCount, expressionRow, instructionRow, operands, evaluated, yokeRoot, yokeSet}
+use Rattle.lingua.specs.Rows.{tableCount, pairCount, InstructionRow, expressionRow, instructionRow, operands, evaluated, yokeRoot, yokeSet}
 use Rattle.lingua.specs.References.{occurrences, declaredYoke, yokeRoots, plainRoots, expressionUses}
+use Rattle.rules.specs.Mentions.{mentionedBy, InstructionAlike}
+use Rattle.rules.specs.Decoded.{instructionMeaning}
 use Rattle.rules.specs.Uses.{Counted}
+use Rattle.rules.specs.declared.mentions.Mention.{Mention}
+use Rattle.rules.specs.declared.mentions.Mention.the-variants as mention
+use Rattle.rules.specs.declared.decode.InstructionRow.{InstructionRow as CodeInstruction}
 use Rattle.rules.proofs.Counting.{order}
 
 -- ---- occurrences
@@ -86,6 +91,13 @@ module _ (xs : List ℕ) where
   short-3 (suc (suc (suc n))) x y z n0 n1 n2 = rw (take-nil n) (simp append-assoc)
 
 -- ---- rows one after another
+-- the code's row mentions what the row does
+pub mentions-alike : {row : CodeInstruction} {x : InstructionRow} (what : Mention) → InstructionAlike row x → mentionedBy what (instructionMeaning row) ≡ mentionedBy what x
+unfolding mentionedBy
+mentions-alike mention.Yoke h = h .yoke
+mentions-alike mention.Evaluated h = h .evaluated
+mentions-alike mention.Part h = h .parts
+
 pub joined-snoc : {A : Type 0} (f : ℕ → List A) (i n : ℕ) → joined (tabulateFrom i (suc n) f) ≡ joined (tabulateFrom i n f) ++ f (i + n)
 unfolding joined tabulateFrom
 joined-snoc f i zero = append-nil (f i) ∙ ap f (sym (add-zero i))

@@ -10,12 +10,20 @@ use Rattle.lingua.specs.References.{typeParts, expressionVariables, instruction
 use Rattle.rules.specs.Decoded.{typeMeaning, expressionMeaning, instructionMeaning}
 use Rattle.rules.specs.Reads.{readsRow}
 use Rattle.rules.specs.declared.mentions.UpToThree.{UpToThree}
+use Rattle.rules.specs.declared.mentions.Mention.{Mention}
+use Rattle.rules.specs.declared.mentions.Mention.the-variants as mention
 use Rattle.rules.specs.declared.decode.TypeRow.{TypeRow as CodeType}
 use Rattle.rules.specs.declared.decode.ExpressionRow.{ExpressionRow as CodeRow}
 use Rattle.rules.specs.declared.decode.InstructionRow.{InstructionRow as CodeInstruction}
 
 unfoldable pub listed : UpToThree → List ℕ
 listed f = take (f .count) (f .x ∷ f .y ∷ f .z ∷ [])
+
+-- the rows that an instruction row mentions, in one of three ways
+unfoldable pub mentionedBy : Mention → InstructionRow → List ℕ
+mentionedBy mention.Yoke row = yokeSet row
+mentionedBy mention.Evaluated row = evaluated row
+mentionedBy mention.Part row = parts row
 
 pub record TypeAlike (row : CodeType) (x : TypeRow) : Type 0 where
   pub attributes : typeAttributes (typeMeaning row) ≡ typeAttributes x

@@ -24,7 +24,7 @@ ghost use Rattle.lingua.specs.Rows.{typeRow, expressionRow, instructionRow, ope
 ghost use Rattle.lingua.specs.Rules.{unaryAttribute, binaryAttribute, typeAttributes, expressionAttributes, handledErrors};
 ghost use Rattle.lingua.specs.References.{typeParts, expressionVariables, instructionVariables};
 ghost use Rattle.rules.specs.Tables.{IsTable};
-ghost use Rattle.rules.specs.Mentions.{listed, TypeAlike, ExpressionAlike, InstructionAlike};
+ghost use Rattle.rules.specs.Mentions.{listed, mentionedBy, TypeAlike, ExpressionAlike, InstructionAlike};
 ghost use Rattle.rules.specs.Decoded.{typeMeaning, expressionMeaning, instructionMeaning};
 
 // At most three numbers: the first of x, y, z.
@@ -249,6 +249,23 @@ pub fn yoke_set(row: InstructionRow) -> UpToThree
     match row {
         InstructionRow::SetYoke(_, y) => yoke_root(y),
         _ => none(),
+    }
+}
+
+// Rows that an instruction row mentions: of a yoke that it sets, of what it evaluates, or of its parts.
+pub enum Mention {
+    Yoke,
+    Evaluated,
+    Part,
+}
+
+pub fn mentioned(row: InstructionRow, what: Mention) -> UpToThree
+    ensures { λ f. ⌜ listed f ≡ mentionedBy what (instructionMeaning row) ⌝ }
+{
+    match what {
+        Mention::Yoke => yoke_set(row),
+        Mention::Evaluated => evaluated(row),
+        Mention::Part => parts(row),
     }
 }
 

@@ -1,14 +1,13 @@
 // Rule 11: each expression row and each instruction row but the last is used once.
 // Uses are counted in one pass over the rows, up to 2: more makes no difference.
 use crate::fields::b_at;
+use crate::mentions::Mention;
 use crate::mentions::UpToThree;
-use crate::mentions::evaluated;
 use crate::mentions::expression_in;
 use crate::mentions::instruction_in;
+use crate::mentions::mentioned;
 use crate::mentions::operands;
-use crate::mentions::parts;
 use crate::mentions::yoke_root;
-use crate::mentions::yoke_set;
 use crate::tables::Table;
 use crate::tables::Tables;
 use lingua::sizes::MOST_EXPRESSIONS;
@@ -17,13 +16,13 @@ ghost use mathlib.Core.List.{List, [], _∷_, _++_};
 ghost use Prim.Native.Nat.{ℕ, _+_, _≤_, pred};
 ghost use lib.Dec.{eqb};
 ghost use Rattle.lingua.specs.Numbers.{declaration-section, expression-section, instruction-section, most-expressions, most-instructions};
-ghost use Rattle.lingua.specs.Rows.{tableCount, pairCount, expressionRow, instructionRow, operands, parts, evaluated, yokeRoot, yokeSet};
+ghost use Rattle.lingua.specs.Rows.{tableCount, pairCount, expressionRow, instructionRow, operands, yokeRoot};
 ghost use Rattle.lingua.specs.Trees.{tabulate};
 ghost use Rattle.lingua.specs.Typing.{joined};
 ghost use Rattle.lingua.specs.Format.{everyBelow};
 ghost use Rattle.lingua.specs.References.{declaredYoke, occurrences, expressionUses, instructionUses, useWrong};
 ghost use Rattle.rules.specs.Tables.{IsTable, AreTables, Sized};
-ghost use Rattle.rules.specs.Mentions.{listed};
+ghost use Rattle.rules.specs.Mentions.{listed, mentionedBy};
 ghost use Rattle.rules.specs.Uses.{Counted};
 
 // One use of row x.
@@ -72,28 +71,15 @@ fn note_declared(uses: &mut [u8; MOST_EXPRESSIONS], rows: &[u8], t: Table)
     }
 }
 
-// The expression rows of yokes that instructions set.
-fn note_set(uses: &mut [u8; MOST_EXPRESSIONS], rows: &[u8], t: Table)
+// The rows that instructions mention in one way.
+fn note_mentioned(uses: &mut [u8; MOST_EXPRESSIONS], rows: &[u8], t: Table, what: Mention)
     requires { ⌜ IsTable (now rows) instruction-section t ⌝ }
-    ensures { λ _. ⌜ ((xs : List ℕ) → Counted (now (uses .entry)) xs → Counted (now (uses .exit)) (xs ++ joined (tabulate (tableCount (now (rows .entry)) instruction-section) (λ r. yokeSet (instructionRow (now (rows .entry)) r))))) ⌝ }
+    ensures { λ _. ⌜ ((xs : List ℕ) → Counted (now (uses .entry)) xs → Counted (now (uses .exit)) (xs ++ joined (tabulate (tableCount (now (rows .entry)) instruction-section) (λ r. mentionedBy what (instructionRow (now (rows .entry)) r))))) ⌝ }
 {
     let count = t.count;
     let mut r = 0;
     while r < count {
-        note_all(uses, yoke_set(instruction_in(rows, t, r)));
-        r += 1;
-    }
-}
-
-// The expression rows that instructions evaluate.
-fn note_evaluated(uses: &mut [u8; MOST_EXPRESSIONS], rows: &[u8], t: Table)
-    requires { ⌜ IsTable (now rows) instruction-section t ⌝ }
-    ensures { λ _. ⌜ ((xs : List ℕ) → Counted (now (uses .entry)) xs → Counted (now (uses .exit)) (xs ++ joined (tabulate (tableCount (now (rows .entry)) instruction-section) (λ r. evaluated (instructionRow (now (rows .entry)) r))))) ⌝ }
-{
-    let count = t.count;
-    let mut r = 0;
-    while r < count {
-        note_all(uses, evaluated(instruction_in(rows, t, r)));
+        note_all(uses, mentioned(instruction_in(rows, t, r), what));
         r += 1;
     }
 }
@@ -106,18 +92,6 @@ fn note_operands(uses: &mut [u8; MOST_EXPRESSIONS], rows: &[u8], t: Table)
     let mut r = 0;
     while r < count {
         note_all(uses, operands(expression_in(rows, t, r)));
-        r += 1;
-    }
-}
-
-fn note_parts(uses: &mut [u8; MOST_EXPRESSIONS], rows: &[u8], t: Table)
-    requires { ⌜ IsTable (now rows) instruction-section t ⌝ }
-    ensures { λ _. ⌜ ((xs : List ℕ) → Counted (now (uses .entry)) xs → Counted (now (uses .exit)) (xs ++ joined (tabulate (tableCount (now (rows .entry)) instruction-section) (λ r. parts (instructionRow (now (rows .entry)) r))))) ⌝ }
-{
-    let count = t.count;
-    let mut r = 0;
-    while r < count {
-        note_all(uses, parts(instruction_in(rows, t, r)));
         r += 1;
     }
 }
@@ -147,8 +121,8 @@ fn expressions_once(rows: &[u8], t: Tables) -> bool
     let instructions = t.instructions;
     let expressions = t.expressions;
     note_declared(&mut uses, rows, declarations);
-    note_set(&mut uses, rows, instructions);
-    note_evaluated(&mut uses, rows, instructions);
+    note_mentioned(&mut uses, rows, instructions, Mention::Yoke);
+    note_mentioned(&mut uses, rows, instructions, Mention::Evaluated);
     note_operands(&mut uses, rows, expressions);
     all_once(&uses, expressions.count)
 }
@@ -160,7 +134,7 @@ fn instructions_once(rows: &[u8], t: Table) -> bool
     ensures { λ b. ⌜ b ≡ everyBelow (pred (tableCount (now (rows .entry)) instruction-section)) (λ r. eqb (occurrences r (instructionUses (now (rows .entry)))) 1) ⌝ }
 {
     let mut uses = [0u8; MOST_EXPRESSIONS];
-    note_parts(&mut uses, rows, t);
+    note_mentioned(&mut uses, rows, t, Mention::Part);
     all_once(&uses, t.count - 1)
 }
 

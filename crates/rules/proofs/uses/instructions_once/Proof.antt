@@ -3,13 +3,14 @@ use mathlib.Core.Path.{refl, ap, _∙_}
 use mathlib.Core.List.{[]}
 use Prim.Native.Nat.{pred}
 use Rattle.lingua.specs.References.{instructionUses}
+use Rattle.rules.specs.Mentions.{mentionedBy}
 use Rattle.rules.proofs.Usage.{counted-zeros, once-to, pred-is}
 use borrow.Author.Needs.{needs}
 use Rattle.rules.proofs.uses.instructions_once.Statement.{statement}
 use Rattle.rules.proofs.uses.instructions_once.Tie as tie
 
-note-parts-requires : tie.Need-note-parts-requires
-note-parts-requires c κs = search needs
+note-mentioned-requires : tie.Need-note-mentioned-requires
+note-mentioned-requires c κs = search needs
 
 sub-all-once : tie.Need-sub-all-once
 sub-all-once c = search needs
@@ -18,9 +19,9 @@ all-once-requires : tie.Need-all-once-requires
 all-once-requires c κs = search needs
 
 returns : tie.Need-returns
-unfolding instructionUses
-returns c = once-to (pred-is (c .before .before .before .before .before .before .args .t .count) (c .before .before .before .before .before .before .pre .1 .0) ∙ ap pred (c .before .before .before .before .before .before .pre .0 .count)) refl (c .all-once .ensures _ (c .before .before .before .note-parts .ensures [] counted-zeros))
+unfolding mentionedBy instructionUses
+returns c = once-to (pred-is (c .before .before .before .before .before .before .args .t .count) (c .before .before .before .before .before .before .pre .1 .0) ∙ ap pred (c .before .before .before .before .before .before .pre .0 .count)) refl (c .all-once .ensures _ (c .before .before .before .note-mentioned .ensures [] counted-zeros))
 
 pub instructions-once-spec : {M : Type 1} → statement M
 instructions-once-spec =
-    tie.close (tie.spec note-parts-requires sub-all-once all-once-requires returns)
+    tie.close (tie.spec note-mentioned-requires sub-all-once all-once-requires returns)
