@@ -24,6 +24,11 @@ unfolding lowest
 lowest-skip n true rs e = false-is-true (sym e)
 lowest-skip n false rs e = refl
 
+pub lowest-skip-last : (rs : List Rule) (n : ℕ) (t : Bool) → t ≡ false → lowest (rs ++ (rule n t ∷ [])) ≡ lowest rs
+unfolding lowest
+lowest-skip-last [] n t e = lowest-skip n t [] e
+lowest-skip-last (r ∷ rs) n t e = ap (λ (m : ℕ). lower-of (r .number) (r .applies) m) (lowest-skip-last rs n t e)
+
 -- every rule of the list has a higher number
 abbrev pub allAbove : ℕ → List Rule → Bool
 allAbove n rs = allOf (λ r. ltb n (r .number)) rs
@@ -124,3 +129,17 @@ decides k (r ∷ rs) ss e a =
     decides-more k (r .number) (r .applies) rs ss (ltb-true 0 (r .number) (and-left (ltb 0 (r .number)) (leb (r .number) k) here))
     (leb-true (r .number) k (and-right (ltb 0 (r .number)) (leb (r .number) k) here)) (lowest-above k ss a)
     (decides k rs ss (and-right (ltb 0 (r .number) && leb (r .number) k) (allUpTo k rs) e) a)
+
+-- the first list alone decides where it refuses, the second where the first does not, and neither refuses where nothing does
+module _ {k : ℕ} {rs ss : List Rule} where
+  pub first-decides : Decides k rs ss → (lowest rs ≡ 0 → ⊥) → lowest (rs ++ ss) ≡ lowest rs
+  first-decides (second e d) h = absurd (h e)
+  first-decides (first a b d) h = d
+
+  pub second-decides : Decides k rs ss → lowest rs ≡ 0 → lowest (rs ++ ss) ≡ lowest ss
+  second-decides (second e d) z = d
+  second-decides (first a b d) z = absurd (let f : ⊥ = omega (arith, a, z) in f)
+
+  pub neither : Decides k rs ss → lowest (rs ++ ss) ≡ 0 → (lowest rs ≡ 0) × (lowest ss ≡ 0)
+  neither (second e d) z = (e, sym d ∙ z)
+  neither (first a b d) z = absurd (let f : ⊥ = omega (arith, a, sym d ∙ z) in f)

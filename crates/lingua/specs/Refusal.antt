@@ -119,20 +119,26 @@ writeRefusal f rows buffer =
 unfoldable pub typeCheckRefusal : List ℕ → List ℕ → List ℕ → ℕ
 typeCheckRefusal prof lims layout = lowest (rule bad-buffer (not (eqb (length layout) layout-length)) ∷ pairRules prof lims)
 
--- rules 1 to 16 of a checked run
-unfoldable pub runRules : List ℕ → List ℕ → List ℕ → List ℤ → List ℤ → List ℕ → List Rule
-runRules prof lims variables numbers cells states =
-    rule bad-buffer (not (eqb (length variables) (length numbers) && eqb (length cells) cells-length && eqb (length states) states-length))
-    ∷ rule bad-reading (readingWrong (rowsOf prof) variables)
-    ∷ pairRules prof lims
+-- whether a run's buffers are as listed, and its two slices of readings of one length
+unfoldable pub runFits : List ℕ → List ℤ → List ℤ → List ℕ → Bool
+runFits variables numbers cells states =
+    eqb (length variables) (length numbers) && eqb (length cells) cells-length && eqb (length states) states-length
+
+-- 1 to 16, of a run whose buffers fit or don't
+unfoldable pub runRules : Bool → List ℕ → List ℕ → List ℕ → List Rule
+runRules fits prof lims variables =
+    rule bad-buffer (not fits)
+    ∷ (pairRules prof lims
+    ++ (rule bad-reading (readingWrong (rowsOf prof) variables)
+    ∷ []))
 
 unfoldable pub checkedRefusal : List ℕ → List ℕ → List ℕ → List ℤ → List ℤ → List ℕ → ℕ
-checkedRefusal prof lims variables numbers cells states = lowest (runRules prof lims variables numbers cells states)
+checkedRefusal prof lims variables numbers cells states = lowest (runRules (runFits variables numbers cells states) prof lims variables)
 
--- an erased run's buffers have the layout table too, and the type check must pass
+-- an erased run's buffers have the layout table too, and the type check must pass (17)
 unfoldable pub erasedRefusal : List ℕ → List ℕ → List ℕ → List ℤ → List ℤ → List ℕ → List ℕ → ℕ
 erasedRefusal prof lims variables numbers cells states layout =
     lowest
-    (rule bad-buffer (not (eqb (length layout) layout-length))
-    ∷ rule type-error-found (not (isOk (checkProfile (profileOf (rowsOf prof) (rowsOf lims)))))
-    ∷ runRules prof lims variables numbers cells states)
+    (runRules (eqb (length layout) layout-length && runFits variables numbers cells states) prof lims variables
+    ++ (rule type-error-found (not (isOk (checkProfile (profileOf (rowsOf prof) (rowsOf lims)))))
+    ∷ []))

@@ -8,16 +8,15 @@ use lib.ListN.{length, replicate}
 use lib.Seq.{take-all}
 use lib.IntN.{ℤ, pos}
 use Rattle.lingua.specs.Numbers.{cells-length, states-length, report-budget, declaration-section}
-use Rattle.lingua.specs.Errors.{bad-buffer, bad-reading}
 use Rattle.lingua.specs.Value.{allOf}
 use Rattle.lingua.specs.Rows.{pairCount}
 use Rattle.lingua.specs.Format.{rowsOf}
-use Rattle.lingua.specs.Refusal.{lowest, pairRules, readingWrong, runRules, checkedRefusal}
+use Rattle.lingua.specs.Refusal.{lowest, pairRules, readingWrong, runFits, checkedRefusal}
 use Rattle.lingua.specs.Answers.{runMeaning}
 use Rattle.lingua.specs.declared.RunAnswer.{RunAnswer}
 use Rattle.lingua.specs.Calls.{RunCall, readingsOf, endingOf, ran, runOf, runUnless, checkedCall, runResult}
 use Rattle.lingua.specs.Report.{endLine, refusedText, runText, reportUnless, reportText}
-use Rattle.laws.specs.Refusals.{lowest-skip}
+use Rattle.safety.specs.RunRules.{files-alone}
 use Rattle.text.specs.Appended.{Appended}
 use Rattle.text.proofs.Texts.{append-both}
 use Rattle.report.specs.Call.{reportCall, answerText}
@@ -29,8 +28,8 @@ use Rattle.report.proofs.Stores.{store-lines}
 module _ (prof lims : List ℕ) where
   -- without readings and with buffers of the listed lengths, the files alone decide
   refusal-is : checkedRefusal prof lims [] [] (replicate cells-length (pos 0)) (replicate states-length 0) ≡ lowest (pairRules prof lims)
-  unfolding checkedRefusal runRules readingWrong allOf
-  refusal-is = lowest-skip bad-buffer _ _ refl ∙ lowest-skip bad-reading _ (pairRules prof lims) refl
+  unfolding checkedRefusal runFits readingWrong allOf
+  refusal-is = files-alone prof lims [] refl
 
   module _ (answer : RunAnswer) (cells : List ℤ) (states : List ℕ) where
     text-by : (n : ℕ) → lowest (pairRules prof lims) ≡ n

@@ -9,6 +9,7 @@ pub mod Invariant
 pub mod Sections
 pub mod Forest
 pub mod Accepted
+pub mod RunRules
 pub mod Checked
 pub mod Derivation
 pub mod Sizes

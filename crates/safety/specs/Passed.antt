@@ -2,15 +2,15 @@
 -- variables and at every budget (`accepted-safe`). So each call that is not refused runs without type errors: `checked-call-safe`,
 -- `erased-call-safe`. Assumes nothing.
 use mathlib.Core.Path.{_≡_, refl, sym, ap, _∙_, subst}
-use mathlib.Core.Bool.{true, false, not}
+use mathlib.Core.Bool.{Bool, true, false, not, _&&_}
 use mathlib.Core.List.{List, [], _∷_, map}
 use Prim.Native.Nat.{ℕ, zero, suc, _+_, _<_, pred}
 use native.Mathlib.Omega.{arith}
-use lib.Dec.{ltb}
+use lib.Dec.{eqb, ltb}
 use lib.ListN.{length, getD}
 use lib.IntN.{ℤ}
 use borrow.Author.Tests.{ltb-true, not-false}
-use Rattle.lingua.specs.Numbers.{declaration-section, instruction-section, declaration-place, most-readings}
+use Rattle.lingua.specs.Numbers.{layout-length, declaration-section, instruction-section, declaration-place, most-readings}
 use Rattle.lingua.specs.Outcome.{Outcome, ok, fail, Result, isOk, allAnswers}
 use Rattle.lingua.specs.Body.{Body, boolean, number}
 use Rattle.lingua.specs.Value.{allOf}
@@ -22,7 +22,7 @@ use Rattle.lingua.specs.Meets.{runMet}
 use Rattle.lingua.specs.Rows.{tableCount, pairCount}
 use Rattle.lingua.specs.Trees.{tabulateFrom, tabulate, instructionTree, declaredBody, bodyOr, declarationAt, profileOf}
 use Rattle.lingua.specs.Format.{rowsOf}
-use Rattle.lingua.specs.Refusal.{lowest, pairRules, isNumberBody, isNumberVariable, readingWrong, runRules, checkedRefusal, erasedRefusal}
+use Rattle.lingua.specs.Refusal.{lowest, pairRules, isNumberBody, isNumberVariable, readingWrong, runFits, runRules, checkedRefusal, erasedRefusal}
 use Rattle.lingua.specs.Calls.{readingsOf}
 use Rattle.laws.specs.Outcomes.{and-left, and-right, is-number, false-is-true, or-right}
 use Rattle.safety.specs.Answers.{same-answer, bound, all-answered}
@@ -31,7 +31,8 @@ use Rattle.safety.specs.Derivation.{Anything, anything, DerivedYoke, Der
 use Rattle.safety.specs.Everywhere.{Everywhere, everywhere-implies}
 use Rattle.safety.specs.Invariant.{declaredStore}
 use Rattle.safety.specs.Forest.{tree-everywhere}
-use Rattle.safety.specs.Accepted.{AcceptedRows, none-applies, accepted-pair, program-row, profile-well-made}
+use Rattle.safety.specs.Accepted.{AcceptedRows, accepted-pair, program-row, profile-well-made}
+use Rattle.safety.specs.RunRules.{unfit-refused, none-refuses, erased-none}
 use Rattle.safety.specs.RunErrors.{RunErrors}
 use Rattle.safety.specs.Programs.{YokesDerived, TypedProfile, ReadsNumber, run-safe}
 
@@ -137,53 +138,47 @@ reading-rule rows variables e =
     all-true (λ v. isNumberVariable rows v) variables (not-false _ (or-right (ltb most-readings (length variables)) (not (allOf (λ v. isNumberVariable rows v) variables)) e))
 
 -- a run that is not refused takes readings of number variables
-pub rules-readings : (prof lims variables : List ℕ) (numbers cells : List ℤ) (states : List ℕ) → lowest (runRules prof lims variables numbers cells states) ≡ 0
+pub rules-readings : (prof lims variables : List ℕ) (numbers cells : List ℤ) (states : List ℕ) → checkedRefusal prof lims variables numbers cells states ≡ 0
     → Every (λ r. isNumberVariable (rowsOf prof) (r .variable) ≡ true) (readingsOf variables numbers)
-unfolding runRules
+unfolding checkedRefusal
 rules-readings prof lims variables numbers cells states e =
-    let a = none-applies _ _ _ refl e in
-    let b = none-applies _ _ _ refl (a .1) in
-    readings-of-numbers (rowsOf prof) variables numbers (reading-rule (rowsOf prof) variables (b .0))
+    readings-of-numbers (rowsOf prof) variables numbers (reading-rule (rowsOf prof) variables (none-refuses prof lims variables _ e .1))
 
-pub rules-pair : (prof lims variables : List ℕ) (numbers cells : List ℤ) (states : List ℕ) → lowest (runRules prof lims variables numbers cells states) ≡ 0 → lowest (pairRules prof lims) ≡ 0
-unfolding runRules
-rules-pair prof lims variables numbers cells states e =
-    let a = none-applies _ _ _ refl e in
-    none-applies _ _ _ refl (a .1) .1
-
-pub rules-safe : (prof lims variables : List ℕ) (numbers cells : List ℤ) (states : List ℕ) → lowest (runRules prof lims variables numbers cells states) ≡ 0
-    → (es : List Entry) → checkProfile (profileOf (rowsOf prof) (rowsOf lims)) ≡ ok es → (budget : ℕ)
-    → RunErrors (runMet (profileOf (rowsOf prof) (rowsOf lims)) (readingsOf variables numbers) budget)
-rules-safe prof lims variables numbers cells states e es passed budget =
-    accepted-safe prof lims (rules-pair prof lims variables numbers cells states e) es passed (readingsOf variables numbers) (rules-readings prof lims variables numbers cells states e) budget
+pub rules-pair : (prof lims variables : List ℕ) (numbers cells : List ℤ) (states : List ℕ) → checkedRefusal prof lims variables numbers cells states ≡ 0 → lowest (pairRules prof lims) ≡ 0
+unfolding checkedRefusal
+rules-pair prof lims variables numbers cells states e = none-refuses prof lims variables _ e .0
 
 pub checked-call-safe : (prof lims variables : List ℕ) (numbers cells : List ℤ) (states : List ℕ) → checkedRefusal prof lims variables numbers cells states ≡ 0
     → (es : List Entry) → checkProfile (profileOf (rowsOf prof) (rowsOf lims)) ≡ ok es → (budget : ℕ)
     → RunErrors (runMet (profileOf (rowsOf prof) (rowsOf lims)) (readingsOf variables numbers) budget)
-unfolding checkedRefusal
-checked-call-safe prof lims variables numbers cells states e es passed budget = rules-safe prof lims variables numbers cells states e es passed budget
+checked-call-safe prof lims variables numbers cells states e es passed budget =
+    accepted-safe prof lims (rules-pair prof lims variables numbers cells states e) es passed (readingsOf variables numbers) (rules-readings prof lims variables numbers cells states e) budget
 
 -- an erased run is refused where the type check finds an error
 pub record ErasedAccepted (prof lims variables : List ℕ) (numbers cells : List ℤ) (states : List ℕ) : Type 0 where
   pub entries : List Entry
   pub passes : checkProfile (profileOf (rowsOf prof) (rowsOf lims)) ≡ ok entries
-  pub rules : lowest (runRules prof lims variables numbers cells states) ≡ 0
+  pub rules : checkedRefusal prof lims variables numbers cells states ≡ 0
 
 pub erased-accepted : (prof lims variables : List ℕ) (numbers cells : List ℤ) (states layout : List ℕ) → erasedRefusal prof lims variables numbers cells states layout ≡ 0
     → ErasedAccepted prof lims variables numbers cells states
-unfolding erasedRefusal
+unfolding erasedRefusal checkedRefusal
 erased-accepted prof lims variables numbers cells states layout e =
-    let a = none-applies _ _ _ refl e in
-    let b = none-applies _ _ _ refl (a .1) in
-    let c = answered (checkProfile (profileOf (rowsOf prof) (rowsOf lims))) (not-false _ (b .0)) in
-    record { entries = c .0; passes = c .1; rules = b .1 }
+    let a = erased-none prof lims variables (eqb (length layout) layout-length && runFits variables numbers cells states) _ e in
+    let c = answered (checkProfile (profileOf (rowsOf prof) (rowsOf lims))) (not-false _ (a .1)) in
+    record { entries = c .0; passes = c .1; rules = fitting (eqb (length layout) layout-length) (a .0) }
   where
     answered : (o : Outcome TypeError (List Entry)) → isOk o ≡ true → (es : List Entry) × (o ≡ ok es)
     answered (ok es) q = (es, refl)
     answered (fail t) q = false-is-true q
 
+    -- with a layout table of another length, 1 refuses
+    fitting : (b : Bool) → lowest (runRules (b && runFits variables numbers cells states) prof lims variables) ≡ 0 → lowest (runRules (runFits variables numbers cells states) prof lims variables) ≡ 0
+    fitting true q = q
+    fitting false q = absurd (let z : ⊥ = omega (arith, sym (unfit-refused prof lims variables) ∙ q) in z)
+
 pub erased-call-safe : (prof lims variables : List ℕ) (numbers cells : List ℤ) (states layout : List ℕ) → erasedRefusal prof lims variables numbers cells states layout ≡ 0
     → (budget : ℕ) → RunErrors (runMet (profileOf (rowsOf prof) (rowsOf lims)) (readingsOf variables numbers) budget)
 erased-call-safe prof lims variables numbers cells states layout e budget =
     let a = erased-accepted prof lims variables numbers cells states layout e in
-    rules-safe prof lims variables numbers cells states (a .rules) (a .entries) (a .passes) budget
+    checked-call-safe prof lims variables numbers cells states (a .rules) (a .entries) (a .passes) budget

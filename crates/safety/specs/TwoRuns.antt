@@ -2,8 +2,8 @@
 -- (`TwoRuns`) over all passed pairs of files, all readings and all budgets. The calls' contracts give it, and nothing else is asked of them:
 -- `two-runs`, and `demand-3` with what it supposes on the claim's side. Assumes nothing.
 use mathlib.Core.Path.{_≡_, refl, sym, ap, ap₂, _∙_, subst}
-use mathlib.Core.Bool.{not, _&&_}
-use mathlib.Core.List.{List, _∷_}
+use mathlib.Core.Bool.{Bool, not, _&&_}
+use mathlib.Core.List.{List, [], _∷_, _++_}
 use Prim.Native.Nat.{ℕ, zero, suc, _<_}
 use native.Mathlib.Omega.{arith}
 use lib.Dec.{eqb}
@@ -11,7 +11,7 @@ use lib.ListN.{length}
 use lib.IntN.{ℤ}
 use borrow.Author.Tests.{eq-eqb}
 use Rattle.lingua.specs.Numbers.{cells-length, states-length, layout-length}
-use Rattle.lingua.specs.Errors.{bad-buffer, bad-reading, type-error-found}
+use Rattle.lingua.specs.Errors.{bad-buffer, type-error-found}
 use Rattle.lingua.specs.Outcome.{Outcome, ok, isOk}
 use Rattle.lingua.specs.Store.{flagAt}
 use Rattle.lingua.specs.Run.{lastState}
@@ -19,12 +19,13 @@ use Rattle.lingua.specs.Typing.{TypeError, Entry, checkProfile, layoutOf}
 use Rattle.lingua.specs.Meets.{runMet}
 use Rattle.lingua.specs.Trees.{profileOf}
 use Rattle.lingua.specs.Format.{rowsOf}
-use Rattle.lingua.specs.Refusal.{rule, lowest, pairRules, readingWrong, typeCheckRefusal, runRules, checkedRefusal, erasedRefusal}
+use Rattle.lingua.specs.Refusal.{rule, lowest, pairRules, typeCheckRefusal, runFits, runRules, checkedRefusal, erasedRefusal}
 use Rattle.lingua.specs.Answers.{refused}
 use Rattle.lingua.specs.Calls.{RunCall, ErasedCall, readingsOf, ran, runOf, runUnless, checkedCall, withLayout, erasedUnless, erasedCall, typeCheckVerdict, typeCheckUnless, typeCheckCall, runResult, erasedResult}
 use Rattle.lingua.specs.declared.RunAnswer.{RunAnswer}
 use Rattle.laws.specs.Refusals.{lowest-skip}
 use Rattle.safety.specs.RunErrors.{RunErrors}
+use Rattle.safety.specs.RunRules.{passed-refuse}
 use Rattle.safety.specs.Passed.{accepted-safe, rules-readings}
 use Rattle.safety.specs.Recorded.{NoTypeError, accepted-error}
 use Rattle.safety.specs.Memory.{HoldsValue, accepted-memory}
@@ -94,15 +95,15 @@ pub same-refusal : (prof lims variables : List ℕ) (numbers cells : List ℤ) (
     → erasedRefusal prof lims variables numbers cells states layout ≡ checkedRefusal prof lims variables numbers cells states
 unfolding erasedRefusal checkedRefusal
 same-refusal prof lims variables numbers cells states layout l es e =
-    lowest-skip bad-buffer (not (eqb (length layout) layout-length)) _ (ap not (eq-eqb (length layout) layout-length l))
-    ∙ lowest-skip type-error-found (not (isOk (checkProfile (profileOf (rowsOf prof) (rowsOf lims))))) _ (ap (λ (o : Outcome TypeError (List Entry)). not (isOk o)) e)
+    ap (λ (b : Bool). lowest (runRules (b && runFits variables numbers cells states) prof lims variables ++ (rule type-error-found (not (isOk (checkProfile (profileOf (rowsOf prof) (rowsOf lims))))) ∷ []))) (eq-eqb (length layout) layout-length l)
+    ∙ passed-refuse prof lims variables (runFits variables numbers cells states) _ (ap (λ (o : Outcome TypeError (List Entry)). not (isOk o)) e)
 
 -- of the cells and the state words the rules see the lengths alone
 same-lengths : (prof lims variables : List ℕ) (numbers cells cells′ : List ℤ) (states states′ : List ℕ) → length cells ≡ length cells′ → length states ≡ length states′
     → checkedRefusal prof lims variables numbers cells states ≡ checkedRefusal prof lims variables numbers cells′ states′
-unfolding checkedRefusal runRules
+unfolding checkedRefusal runFits
 same-lengths prof lims variables numbers cells cells′ states states′ c s =
-    ap₂ (λ (a b : ℕ). lowest (rule bad-buffer (not (eqb (length variables) (length numbers) && eqb a cells-length && eqb b states-length)) ∷ rule bad-reading (readingWrong (rowsOf prof) variables) ∷ pairRules prof lims)) c s
+    ap₂ (λ (a b : ℕ). lowest (runRules (eqb (length variables) (length numbers) && eqb a cells-length && eqb b states-length) prof lims variables)) c s
 
 -- ---- the layout table of a pair that passes
 pub passed-layout : (prof lims layout : List ℕ) (p : Passes prof lims) → length layout ≡ layout-length → typeCheckCall prof lims layout .layout ≡ layoutOf (p .entries)
@@ -117,7 +118,7 @@ module _ (prof lims variables : List ℕ) (numbers : List ℤ) (budget : ℕ) (c
     (p : Passes prof lims) (listed : ListedLengths cells states cells′ states′ layout) where
   ran-both : checkedRefusal prof lims variables numbers cells states ≡ 0
       → BothRan prof lims variables numbers budget cells states (ran budget (runOf prof lims variables numbers budget)) cells′ states′ layout (erasedUnless 0 prof lims variables numbers budget cells′ states′ layout)
-  unfolding ran runOf erasedUnless checkedRefusal
+  unfolding ran runOf erasedUnless
   ran-both z =
       let readings = readingsOf variables numbers in
       let numeric = rules-readings prof lims variables numbers cells states z in
