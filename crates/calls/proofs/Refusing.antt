@@ -4,7 +4,6 @@ use mathlib.Core.Bool.{Bool, true, false, not, _&&_}
 use mathlib.Core.List.{List, [], _∷_, _++_}
 use Prim.Native.Nat.{ℕ}
 use native.Mathlib.Omega.{arith}
-use lib.IntN.{ℤ}
 use lib.ListN.{length}
 use borrow.Author.Tests.{eq-eqb, ne-eqb}
 use Rattle.lingua.specs.Numbers.{cells-length, states-length, layout-length}
@@ -13,72 +12,73 @@ use Rattle.lingua.specs.Outcome.{Outcome, isOk}
 use Rattle.lingua.specs.Typing.{TypeError, Entry, checkProfile}
 use Rattle.lingua.specs.Trees.{profileOf}
 use Rattle.lingua.specs.Format.{rowsOf}
+use Rattle.lingua.specs.Inputs.{Inputs, Buffers}
 use Rattle.lingua.specs.Refusal.{rule, lowest, pairRules, readingWrong, runFits, runRules, checkedRefusal, erasedRefusal}
 use Rattle.safety.specs.RunRules.{unfit-refused, files-refuse, readings-refuse, files-alone, fails-refuse, passed-refuse}
 use Rattle.safety.specs.RunRules as rules-17
 
-module _ (prof lims variables : List ℕ) (numbers cells : List ℤ) (states : List ℕ) where
-  unfit : runFits variables numbers cells states ≡ false → checkedRefusal prof lims variables numbers cells states ≡ bad-buffer
+module _ (i : Inputs) (b : Buffers) where
+  unfit : runFits i b ≡ false → checkedRefusal i b ≡ bad-buffer
   unfolding checkedRefusal
-  unfit e = ap (λ (b : Bool). lowest (runRules b prof lims variables)) e ∙ unfit-refused prof lims variables
+  unfit e = ap (λ (t : Bool). lowest (runRules t i)) e ∙ unfit-refused i
 
-  pub short-inputs : (length variables ≡ length numbers → ⊥) → checkedRefusal prof lims variables numbers cells states ≡ bad-buffer
+  pub short-inputs : (length (i .variables) ≡ length (i .numbers) → ⊥) → checkedRefusal i b ≡ bad-buffer
   unfolding runFits
-  short-inputs h = unfit (rw (ne-eqb (length variables) (length numbers) h))
+  short-inputs h = unfit (rw (ne-eqb (length (i .variables)) (length (i .numbers)) h))
 
-  pub short-cells : length variables ≡ length numbers → (length cells ≡ cells-length → ⊥) → checkedRefusal prof lims variables numbers cells states ≡ bad-buffer
+  pub short-cells : length (i .variables) ≡ length (i .numbers) → (length (b .cells) ≡ cells-length → ⊥) → checkedRefusal i b ≡ bad-buffer
   unfolding runFits
-  short-cells e h = unfit (rw (eq-eqb (length variables) (length numbers) e, ne-eqb (length cells) cells-length h))
+  short-cells e h = unfit (rw (eq-eqb (length (i .variables)) (length (i .numbers)) e, ne-eqb (length (b .cells)) cells-length h))
 
-  pub short-states : length variables ≡ length numbers → length cells ≡ cells-length → (length states ≡ states-length → ⊥) → checkedRefusal prof lims variables numbers cells states ≡ bad-buffer
+  pub short-states : length (i .variables) ≡ length (i .numbers) → length (b .cells) ≡ cells-length → (length (b .states) ≡ states-length → ⊥) → checkedRefusal i b ≡ bad-buffer
   unfolding runFits
-  short-states e f h = unfit (rw (eq-eqb (length variables) (length numbers) e, eq-eqb (length cells) cells-length f, ne-eqb (length states) states-length h))
+  short-states e f h = unfit (rw (eq-eqb (length (i .variables)) (length (i .numbers)) e, eq-eqb (length (b .cells)) cells-length f, ne-eqb (length (b .states)) states-length h))
 
   -- ---- with the buffers as they should be
-  module _ (e : length variables ≡ length numbers) (f : length cells ≡ cells-length) (g : length states ≡ states-length) where
-    fit : checkedRefusal prof lims variables numbers cells states ≡ lowest (runRules true prof lims variables)
+  module _ (e : length (i .variables) ≡ length (i .numbers)) (f : length (b .cells) ≡ cells-length) (g : length (b .states) ≡ states-length) where
+    fit : checkedRefusal i b ≡ lowest (runRules true i)
     unfolding checkedRefusal runFits
-    fit = rw (eq-eqb (length variables) (length numbers) e, eq-eqb (length cells) cells-length f, eq-eqb (length states) states-length g)
+    fit = rw (eq-eqb (length (i .variables)) (length (i .numbers)) e, eq-eqb (length (b .cells)) cells-length f, eq-eqb (length (b .states)) states-length g)
 
-    pub files-refused : (n : ℕ) → n ≡ lowest (pairRules prof lims) → (n ≡ 0 → ⊥) → checkedRefusal prof lims variables numbers cells states ≡ n
-    files-refused n q h = fit ∙ files-refuse prof lims variables (λ z. h (q ∙ z)) ∙ sym q
+    pub files-refused : (n : ℕ) → n ≡ lowest (pairRules (i .profile) (i .limits)) → (n ≡ 0 → ⊥) → checkedRefusal i b ≡ n
+    files-refused n q h = fit ∙ files-refuse i (λ z. h (q ∙ z)) ∙ sym q
 
-    pub inputs-refused : lowest (pairRules prof lims) ≡ 0 → readingWrong (rowsOf prof) variables ≡ true → checkedRefusal prof lims variables numbers cells states ≡ bad-reading
-    inputs-refused z w = fit ∙ readings-refuse prof lims variables z w
+    pub inputs-refused : lowest (pairRules (i .profile) (i .limits)) ≡ 0 → readingWrong (rowsOf (i .profile)) (i .variables) ≡ true → checkedRefusal i b ≡ bad-reading
+    inputs-refused z w = fit ∙ readings-refuse i z w
 
-    pub none-refused : lowest (pairRules prof lims) ≡ 0 → readingWrong (rowsOf prof) variables ≡ false → checkedRefusal prof lims variables numbers cells states ≡ 0
-    none-refused z w = fit ∙ files-alone prof lims variables w ∙ z
+    pub none-refused : lowest (pairRules (i .profile) (i .limits)) ≡ 0 → readingWrong (rowsOf (i .profile)) (i .variables) ≡ false → checkedRefusal i b ≡ 0
+    none-refused z w = fit ∙ files-alone i w ∙ z
 
 -- ---- the erased run
-module _ (prof lims variables : List ℕ) (numbers cells : List ℤ) (states layout : List ℕ) where
+module _ (i : Inputs) (b : Buffers) (layout : List ℕ) where
   abbrev faulted : Bool
-  faulted = not (isOk (checkProfile (profileOf (rowsOf prof) (rowsOf lims))))
+  faulted = not (isOk (checkProfile (profileOf (rowsOf (i .profile)) (rowsOf (i .limits)))))
 
   -- rule 1, by the layout table's length, stands before all others
-  pub short-layout : (length layout ≡ layout-length → ⊥) → erasedRefusal prof lims variables numbers cells states layout ≡ bad-buffer
+  pub short-layout : (length layout ≡ layout-length → ⊥) → erasedRefusal i b layout ≡ bad-buffer
   unfolding erasedRefusal
   short-layout h =
-      ap (λ (b : Bool). lowest (runRules (b && runFits variables numbers cells states) prof lims variables ++ (rule type-error-found faulted ∷ []))) (ne-eqb (length layout) layout-length h)
-      ∙ rules-17.run-refuses prof lims variables false faulted (λ z. omega (arith, sym (unfit-refused prof lims variables) ∙ z))
-      ∙ unfit-refused prof lims variables
+      ap (λ (t : Bool). lowest (runRules (t && runFits i b) i ++ (rule type-error-found faulted ∷ []))) (ne-eqb (length layout) layout-length h)
+      ∙ rules-17.run-refuses i false faulted (λ z. omega (arith, sym (unfit-refused i) ∙ z))
+      ∙ unfit-refused i
 
   module _ (l : length layout ≡ layout-length) where
-    past-layout : erasedRefusal prof lims variables numbers cells states layout ≡ lowest (runRules (runFits variables numbers cells states) prof lims variables ++ (rule type-error-found faulted ∷ []))
+    past-layout : erasedRefusal i b layout ≡ lowest (runRules (runFits i b) i ++ (rule type-error-found faulted ∷ []))
     unfolding erasedRefusal
-    past-layout = ap (λ (b : Bool). lowest (runRules (b && runFits variables numbers cells states) prof lims variables ++ (rule type-error-found faulted ∷ []))) (eq-eqb (length layout) layout-length l)
+    past-layout = ap (λ (t : Bool). lowest (runRules (t && runFits i b) i ++ (rule type-error-found faulted ∷ []))) (eq-eqb (length layout) layout-length l)
 
     -- rules 1 to 16 stand before 17
-    pub run-refuses : (checkedRefusal prof lims variables numbers cells states ≡ 0 → ⊥) → erasedRefusal prof lims variables numbers cells states layout ≡ checkedRefusal prof lims variables numbers cells states
+    pub run-refuses : (checkedRefusal i b ≡ 0 → ⊥) → erasedRefusal i b layout ≡ checkedRefusal i b
     unfolding checkedRefusal
-    run-refuses h = past-layout ∙ rules-17.run-refuses prof lims variables (runFits variables numbers cells states) faulted h
+    run-refuses h = past-layout ∙ rules-17.run-refuses i (runFits i b) faulted h
 
-    module _ (z : checkedRefusal prof lims variables numbers cells states ≡ 0) (o : Outcome TypeError (List Entry)) (e : checkProfile (profileOf (rowsOf prof) (rowsOf lims)) ≡ o) where
-      pub type-error-refuses : isOk o ≡ false → erasedRefusal prof lims variables numbers cells states layout ≡ type-error-found
+    module _ (z : checkedRefusal i b ≡ 0) (o : Outcome TypeError (List Entry)) (e : checkProfile (profileOf (rowsOf (i .profile)) (rowsOf (i .limits))) ≡ o) where
+      pub type-error-refuses : isOk o ≡ false → erasedRefusal i b layout ≡ type-error-found
       unfolding checkedRefusal
       type-error-refuses q =
-          past-layout ∙ fails-refuse prof lims variables (runFits variables numbers cells states) faulted z (ap (λ (v : Outcome TypeError (List Entry)). not (isOk v)) e ∙ ap not q)
+          past-layout ∙ fails-refuse i (runFits i b) faulted z (ap (λ (v : Outcome TypeError (List Entry)). not (isOk v)) e ∙ ap not q)
 
-      pub none-refuses : isOk o ≡ true → erasedRefusal prof lims variables numbers cells states layout ≡ 0
+      pub none-refuses : isOk o ≡ true → erasedRefusal i b layout ≡ 0
       unfolding checkedRefusal
       none-refuses q =
-          past-layout ∙ passed-refuse prof lims variables (runFits variables numbers cells states) faulted (ap (λ (v : Outcome TypeError (List Entry)). not (isOk v)) e ∙ ap not q) ∙ z
+          past-layout ∙ passed-refuse i (runFits i b) faulted (ap (λ (v : Outcome TypeError (List Entry)). not (isOk v)) e ∙ ap not q) ∙ z

@@ -15,17 +15,18 @@ use Rattle.lingua.specs.Run.{Progress, run}
 use Rattle.lingua.specs.Typing.{TypeError, Entry, bodiesOf, checkProfile, layoutOf}
 use Rattle.lingua.specs.Trees.{declarationAt, profileOf}
 use Rattle.lingua.specs.Answers.{refused}
+use Rattle.lingua.specs.Inputs.{Buffers}
 use Rattle.lingua.specs.Calls.{ErasedCall, readingsOf, ran, withLayout}
 use Rattle.safety.specs.Accepted.{AcceptedRows}
 use Rattle.rules.specs.Types.{BodiesBelow}
 use Rattle.walk.specs.Meaning.{Readable}
 
 -- what a run of accepted rows asks: lent memory of the listed lengths, and readings for number variables
-pub record Startable (rows who : List ℕ) (numbers cells : List ℤ) (states : List ℕ) : Type 0 where
+pub record Startable (rows who : List ℕ) (numbers : List ℤ) (b : Buffers) : Type 0 where
   pub accepted : AcceptedRows rows
   pub readable : Readable rows who numbers
-  pub long-cells : length cells ≡ cells-length
-  pub long-states : length states ≡ states-length
+  pub long-cells : length (b .cells) ≡ cells-length
+  pub long-states : length (b .states) ≡ states-length
 
 -- only number variables have a limit (rules 8 and 15)
 pub record NumbersLimited (rows limits : List ℕ) : Type 0 where
@@ -39,11 +40,11 @@ pub record PassedRows (rows limits layout : List ℕ) : Type 0 where
   pub long : length layout ≡ layout-length
 
 -- the erased run where the type check passes, and rule 17 where it does not
-unfoldable pub erasedVerdict : Outcome TypeError (List Entry) → ℕ → Progress → List ℤ → List ℕ → List ℕ → ErasedCall
-erasedVerdict (ok es) budget p cells states layout = withLayout (ran budget p) (layoutOf es)
-erasedVerdict (fail e) budget p cells states layout =
-    record { answer = refused type-error-found; cells = cells; states = states; layout = layout }
+unfoldable pub erasedVerdict : Outcome TypeError (List Entry) → ℕ → Progress → Buffers → List ℕ → ErasedCall
+erasedVerdict (ok es) budget p b layout = withLayout (ran budget p) (layoutOf es)
+erasedVerdict (fail e) budget p b layout =
+    record { answer = refused type-error-found; cells = b .cells; states = b .states; layout = layout }
 
-unfoldable pub erasedRows : List ℕ → List ℕ → List ℕ → List ℤ → ℕ → List ℤ → List ℕ → List ℕ → ErasedCall
-erasedRows rows limits who numbers budget cells states layout =
-    erasedVerdict (checkProfile (profileOf rows limits)) budget (run (profileOf rows limits) (readingsOf who numbers) budget) cells states layout
+unfoldable pub erasedRows : List ℕ → List ℕ → List ℕ → List ℤ → ℕ → Buffers → List ℕ → ErasedCall
+erasedRows rows limits who numbers budget b layout =
+    erasedVerdict (checkProfile (profileOf rows limits)) budget (run (profileOf rows limits) (readingsOf who numbers) budget) b layout

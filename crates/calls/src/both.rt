@@ -2,6 +2,7 @@
 use crate::checked_run::run_checked;
 use crate::erased_run::run_erased;
 use lingua::RunAnswer;
+ghost use Rattle.lingua.specs.Inputs.{inputs, buffers};
 ghost use Rattle.calls.specs.Both.{BothRuns};
 
 pub struct BothAnswers {
@@ -21,7 +22,7 @@ pub fn run_both(
     erased_states: &mut [u16],
     layout: &mut [u16],
 ) -> BothAnswers
-    ensures { λ r. ⌜ BothRuns (now (profile .entry)) (now (limits .entry)) (now (who .entry)) (now (numbers .entry)) budget (now (cells .entry)) (now (states .entry)) (now («erased_cells» .entry)) (now («erased_states» .entry)) (now (layout .entry))
+    ensures { λ r. ⌜ BothRuns (inputs (now (profile .entry)) (now (limits .entry)) (now (who .entry)) (now (numbers .entry))) budget (buffers (now (cells .entry)) (now (states .entry))) (buffers (now («erased_cells» .entry)) (now («erased_states» .entry))) (now (layout .entry))
         r (now (cells .exit)) (now (states .exit)) (now («erased_cells» .exit)) (now («erased_states» .exit)) (now (layout .exit)) ⌝ }
 {
     let checked = run_checked(profile, limits, who, numbers, budget, cells, states);

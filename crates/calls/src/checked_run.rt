@@ -19,6 +19,7 @@ ghost use Rattle.lingua.specs.Numbers.{type-section, limit-section};
 ghost use Rattle.lingua.specs.Rows.{tableCount};
 ghost use Rattle.lingua.specs.Run.{run as meaning};
 ghost use Rattle.lingua.specs.Trees.{profileOf};
+ghost use Rattle.lingua.specs.Inputs.{inputs, buffers};
 ghost use Rattle.lingua.specs.Calls.{readingsOf, ran, runResult, checkedCall};
 ghost use Rattle.rules.specs.Tables.{IsTable, AreTables};
 ghost use Rattle.rules.specs.Types.{BodiesBelow};
@@ -37,7 +38,7 @@ fn checked_rows(
     cells: &mut [i64],
     states: &mut [u16],
 ) -> RunAnswer
-    requires { ⌜ Startable (now rows) (now who) (now numbers) (now cells) (now states) ⌝ }
+    requires { ⌜ Startable (now rows) (now who) (now numbers) (buffers (now cells) (now states)) ⌝ }
     requires { ⌜ AreTables (now rows) tables × IsTable (now limits) limit-section named ⌝ }
     requires { ⌜ BodiesBelow (now rows) (now bodies) (tableCount (now rows) type-section) ⌝ }
     ensures { λ r. ⌜ runResult r (now (cells .exit)) (now (states .exit)) ≡ ran budget (meaning (profileOf (now (rows .entry)) (now (limits .entry))) (readingsOf (now (who .entry)) (now (numbers .entry))) budget) ⌝ }
@@ -81,7 +82,7 @@ pub fn run_checked(
     cells: &mut [i64],
     states: &mut [u16],
 ) -> RunAnswer
-    ensures { λ r. ⌜ runResult r (now (cells .exit)) (now (states .exit)) ≡ checkedCall (now (profile .entry)) (now (limits .entry)) (now (who .entry)) (now (numbers .entry)) budget (now (cells .entry)) (now (states .entry)) ⌝ }
+    ensures { λ r. ⌜ runResult r (now (cells .exit)) (now (states .exit)) ≡ checkedCall (inputs (now (profile .entry)) (now (limits .entry)) (now (who .entry)) (now (numbers .entry))) budget (buffers (now (cells .entry)) (now (states .entry))) ⌝ }
 {
     let mut areas = [0u8; AREAS_LENGTH];
     let mut others = [0u8; AREA_BYTES];

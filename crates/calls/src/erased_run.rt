@@ -22,6 +22,7 @@ ghost use Rattle.lingua.specs.Numbers.{layout-length, type-section, limit-secti
 ghost use Rattle.lingua.specs.Rows.{tableCount};
 ghost use Rattle.lingua.specs.Run.{run as meaning};
 ghost use Rattle.lingua.specs.Trees.{profileOf};
+ghost use Rattle.lingua.specs.Inputs.{inputs, buffers};
 ghost use Rattle.lingua.specs.Calls.{readingsOf, ran, runResult, erasedCall, erasedResult};
 ghost use Rattle.rules.specs.Tables.{IsTable, AreTables};
 ghost use Rattle.rules.specs.Types.{BodiesBelow};
@@ -40,7 +41,7 @@ fn passed_rows(
     cells: &mut [i64],
     states: &mut [u16],
 ) -> RunAnswer
-    requires { ⌜ Startable (now rows) (now who) (now numbers) (now cells) (now states) ⌝ }
+    requires { ⌜ Startable (now rows) (now who) (now numbers) (buffers (now cells) (now states)) ⌝ }
     requires { ⌜ AreTables (now rows) tables × IsTable (now limits) limit-section named ⌝ }
     requires { ⌜ PassedRows (now rows) (now limits) (now layout) × NumbersLimited (now rows) (now limits) ⌝ }
     ensures { λ r. ⌜ runResult r (now (cells .exit)) (now (states .exit)) ≡ ran budget (meaning (profileOf (now (rows .entry)) (now (limits .entry))) (readingsOf (now (who .entry)) (now (numbers .entry))) budget) ⌝ }
@@ -99,11 +100,11 @@ fn erased_rows(
     states: &mut [u16],
     layout: &mut [u16],
 ) -> RunAnswer
-    requires { ⌜ Startable (now rows) (now who) (now numbers) (now cells) (now states) ⌝ }
+    requires { ⌜ Startable (now rows) (now who) (now numbers) (buffers (now cells) (now states)) ⌝ }
     requires { ⌜ AreTables (now rows) tables × IsTable (now limits) limit-section named ⌝ }
     requires { ⌜ BodiesBelow (now rows) (now bodies) (tableCount (now rows) type-section) ⌝ }
     requires { ⌜ (length (now layout) ≡ layout-length) × NumbersLimited (now rows) (now limits) ⌝ }
-    ensures { λ r. ⌜ erasedResult r (now (cells .exit)) (now (states .exit)) (now (layout .exit)) ≡ erasedRows (now (rows .entry)) (now (limits .entry)) (now (who .entry)) (now (numbers .entry)) budget (now (cells .entry)) (now (states .entry)) (now (layout .entry)) ⌝ }
+    ensures { λ r. ⌜ erasedResult r (now (cells .exit)) (now (states .exit)) (now (layout .exit)) ≡ erasedRows (now (rows .entry)) (now (limits .entry)) (now (who .entry)) (now (numbers .entry)) budget (buffers (now (cells .entry)) (now (states .entry))) (now (layout .entry)) ⌝ }
 {
     let mut table = [0u16; LAYOUT_LENGTH];
     let verdict = check_profile(rows, tables, bodies, &mut table);
@@ -135,7 +136,7 @@ pub fn run_erased(
     states: &mut [u16],
     layout: &mut [u16],
 ) -> RunAnswer
-    ensures { λ r. ⌜ erasedResult r (now (cells .exit)) (now (states .exit)) (now (layout .exit)) ≡ erasedCall (now (profile .entry)) (now (limits .entry)) (now (who .entry)) (now (numbers .entry)) budget (now (cells .entry)) (now (states .entry)) (now (layout .entry)) ⌝ }
+    ensures { λ r. ⌜ erasedResult r (now (cells .exit)) (now (states .exit)) (now (layout .exit)) ≡ erasedCall (inputs (now (profile .entry)) (now (limits .entry)) (now (who .entry)) (now (numbers .entry))) budget (buffers (now (cells .entry)) (now (states .entry))) (now (layout .entry)) ⌝ }
 {
     if layout.len() != LAYOUT_LENGTH {
         return RunAnswer::Refused(BAD_BUFFER);

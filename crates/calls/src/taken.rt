@@ -8,6 +8,7 @@ use pair::Pair;
 use pair::refused;
 use pair::take_pair;
 use profile::agreement::reading_wrong;
+ghost use Rattle.lingua.specs.Inputs.{inputs, buffers};
 ghost use Rattle.pair.specs.Pair.{Room};
 ghost use Rattle.calls.specs.Taken.{RunIs};
 
@@ -24,7 +25,7 @@ pub fn take_run(
     bodies: &mut [u8],
 ) -> Pair
     requires { ⌜ Room (now areas) (now others) (now bodies) ⌝ }
-    ensures { λ r. ⌜ RunIs r (now (profile .entry)) (now (limits .entry)) (now (who .entry)) (now (numbers .entry)) (now (cells .entry)) (now (states .entry)) (now (areas .exit)) (now (others .exit)) (now (bodies .exit)) ⌝ }
+    ensures { λ r. ⌜ RunIs r (inputs (now (profile .entry)) (now (limits .entry)) (now (who .entry)) (now (numbers .entry))) (buffers (now (cells .entry)) (now (states .entry))) (now (areas .exit)) (now (others .exit)) (now (bodies .exit)) ⌝ }
 {
     if who.len() != numbers.len() {
         return refused(BAD_BUFFER);

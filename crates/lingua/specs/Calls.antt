@@ -13,6 +13,7 @@ use Rattle.lingua.specs.Typing.{TypeError, Entry, checkProfile, layoutOf
 use Rattle.lingua.specs.Rows.{rowCount}
 use Rattle.lingua.specs.Trees.{profileOf}
 use Rattle.lingua.specs.Format.{File, modelOf, rowsOf, fileOf}
+use Rattle.lingua.specs.Inputs.{Inputs, Buffers}
 use Rattle.lingua.specs.Refusal.{readRefusal, writeRefusal, typeCheckRefusal, checkedRefusal, erasedRefusal}
 use Rattle.lingua.specs.Answers.{Answer, refused, answered, Ending, ending, endNumber, Verdict, passed, faulted, RowsRead, runMeaning, typeCheckMeaning, readMeaning, writeMeaning}
 use Rattle.lingua.specs.declared.RunAnswer.{RunAnswer}
@@ -81,17 +82,15 @@ ran budget p =
     record { answer = answered (endingOf budget p); cells = cellsIn (lastState p .store); states = statesIn (lastState p .store) }
 
 -- the run of both files' profile
-unfoldable pub runOf : List ℕ → List ℕ → List ℕ → List ℤ → ℕ → Progress
-runOf prof lims variables numbers budget = run (profileOf (rowsOf prof) (rowsOf lims)) (readingsOf variables numbers) budget
+unfoldable pub runOf : Inputs → ℕ → Progress
+runOf i budget = run (profileOf (rowsOf (i .profile)) (rowsOf (i .limits))) (readingsOf (i .variables) (i .numbers)) budget
 
-unfoldable pub runUnless : ℕ → List ℕ → List ℕ → List ℕ → List ℤ → ℕ → List ℤ → List ℕ → RunCall
-runUnless zero prof lims variables numbers budget cells states = ran budget (runOf prof lims variables numbers budget)
-runUnless (suc n) prof lims variables numbers budget cells states =
-    record { answer = refused (suc n); cells = cells; states = states }
+unfoldable pub runUnless : ℕ → Inputs → ℕ → Buffers → RunCall
+runUnless zero i budget b = ran budget (runOf i budget)
+runUnless (suc n) i budget b = record { answer = refused (suc n); cells = b .cells; states = b .states }
 
-unfoldable pub checkedCall : List ℕ → List ℕ → List ℕ → List ℤ → ℕ → List ℤ → List ℕ → RunCall
-checkedCall prof lims variables numbers budget cells states =
-    runUnless (checkedRefusal prof lims variables numbers cells states) prof lims variables numbers budget cells states
+unfoldable pub checkedCall : Inputs → ℕ → Buffers → RunCall
+checkedCall i budget b = runUnless (checkedRefusal i b) i budget b
 
 -- ---- the erased run (document 01: chair run): the checked run's meaning, with rule 17, and the layout table that it fills
 pub record ErasedCall : Type 0 where
@@ -103,15 +102,13 @@ pub record ErasedCall : Type 0 where
 abbrev pub withLayout : RunCall → List ℕ → ErasedCall
 withLayout c layout = record { answer = c .answer; cells = c .cells; states = c .states; layout = layout }
 
-unfoldable pub erasedUnless : ℕ → List ℕ → List ℕ → List ℕ → List ℤ → ℕ → List ℤ → List ℕ → List ℕ → ErasedCall
-erasedUnless zero prof lims variables numbers budget cells states layout =
-    withLayout (ran budget (runOf prof lims variables numbers budget)) (typeCheckCall prof lims layout .layout)
-erasedUnless (suc n) prof lims variables numbers budget cells states layout =
-    record { answer = refused (suc n); cells = cells; states = states; layout = layout }
+unfoldable pub erasedUnless : ℕ → Inputs → ℕ → Buffers → List ℕ → ErasedCall
+erasedUnless zero i budget b layout =
+    withLayout (ran budget (runOf i budget)) (typeCheckCall (i .profile) (i .limits) layout .layout)
+erasedUnless (suc n) i budget b layout = record { answer = refused (suc n); cells = b .cells; states = b .states; layout = layout }
 
-unfoldable pub erasedCall : List ℕ → List ℕ → List ℕ → List ℤ → ℕ → List ℤ → List ℕ → List ℕ → ErasedCall
-erasedCall prof lims variables numbers budget cells states layout =
-    erasedUnless (erasedRefusal prof lims variables numbers cells states layout) prof lims variables numbers budget cells states layout
+unfoldable pub erasedCall : Inputs → ℕ → Buffers → List ℕ → ErasedCall
+erasedCall i budget b layout = erasedUnless (erasedRefusal i b layout) i budget b layout
 
 -- ---- what a call of the code gave: its answer's meaning, and the lent memory as it left it
 unfoldable pub readResult : ReadAnswer → List ℕ → ReadCall

@@ -21,6 +21,7 @@ use Rattle.lingua.specs.Typing.{TypeError, Typed, check, layoutOf}
 use Rattle.lingua.specs.Meets.{met, runMet}
 use Rattle.lingua.specs.Format.{profile, limits, blockCheck, fileOf, rowsOf}
 use Rattle.lingua.specs.Answers.{refused, answered, Ending, ending, faulted}
+use Rattle.lingua.specs.Inputs.{inputs, buffers}
 use Rattle.lingua.specs.Calls.{endingOf, typeCheckCall, erasedCall}
 use Rattle.lingua.specs.Refusal.{typeCheckRefusal}
 use Rattle.lingua.specs.Report.{reportText}
@@ -258,7 +259,7 @@ pub type-error-zeroes : typeCheckCall wrong-file example-limits-file (replicate 
 unfolding computing example-rows example-limits-file example-limits wrong-rows wrong-file
 type-error-zeroes = refl
 
-pub refused-leaves : erasedCall wrong-file example-limits-file [] [] 9 (replicate 1024 (pos 5)) (replicate 32 5) (replicate 1024 5)
+pub refused-leaves : erasedCall (inputs wrong-file example-limits-file [] []) 9 (buffers (replicate 1024 (pos 5)) (replicate 32 5)) (replicate 1024 5)
     ≡ record { answer = refused type-error-found; cells = replicate 1024 (pos 5); states = replicate 32 5; layout = replicate 1024 5 }
 unfolding computing example-rows example-limits-file example-limits wrong-rows wrong-file
 refused-leaves = refl

@@ -18,6 +18,7 @@ pub mod Trees
 pub mod Format
 pub mod Rules
 pub mod References
+pub mod Inputs
 pub mod Refusal
 pub mod Operations
 pub mod Answers

@@ -4,7 +4,6 @@ use mathlib.Core.List.{List, [], _∷_, _++_}
 use Prim.Native.Nat.{ℕ, _%_}
 use lib.Dec.{eqb, ltb}
 use lib.ListN.{length}
-use lib.IntN.{ℤ}
 use lib.Signed.{leZ}
 use Rattle.lingua.specs.Numbers.{row-bytes, rows-length, cells-length, states-length, layout-length, most-readings, declaration-section, limit-section}
 use Rattle.lingua.specs.Errors.{no-error, bad-buffer, bad-length, bad-marker, bad-header, bad-check, bad-form, bad-count, bad-name, bad-constant, bad-reference, bad-use, misplaced, bad-type, models-differ, bad-limit, bad-reading, type-error-found}
@@ -16,6 +15,7 @@ use Rattle.lingua.specs.Typing.{checkProfile}
 use Rattle.lingua.specs.Rows.{rowCount, pairCount}
 use Rattle.lingua.specs.Trees.{declaredBody, limitRow, nameAt, profileOf}
 use Rattle.lingua.specs.Format.{File, profile, limits, modelOf, rowsOf, fileLength, everyBelow, lengthWrong, markerWrong, headerWrong, blockCheckWrong}
+use Rattle.lingua.specs.Inputs.{Inputs, Buffers}
 use Rattle.lingua.specs.Rules.{formWrong, countWrong, nameWrong, constantWrong}
 use Rattle.lingua.specs.References.{referenceWrong, useWrong, placeWrong, typeWrong}
 
@@ -120,25 +120,25 @@ unfoldable pub typeCheckRefusal : List ℕ → List ℕ → List ℕ → ℕ
 typeCheckRefusal prof lims layout = lowest (rule bad-buffer (not (eqb (length layout) layout-length)) ∷ pairRules prof lims)
 
 -- whether a run's buffers are as listed, and its two slices of readings of one length
-unfoldable pub runFits : List ℕ → List ℤ → List ℤ → List ℕ → Bool
-runFits variables numbers cells states =
-    eqb (length variables) (length numbers) && eqb (length cells) cells-length && eqb (length states) states-length
+unfoldable pub runFits : Inputs → Buffers → Bool
+runFits i b =
+    eqb (length (i .variables)) (length (i .numbers)) && eqb (length (b .cells)) cells-length && eqb (length (b .states)) states-length
 
 -- 1 to 16, of a run whose buffers fit or don't
-unfoldable pub runRules : Bool → List ℕ → List ℕ → List ℕ → List Rule
-runRules fits prof lims variables =
+unfoldable pub runRules : Bool → Inputs → List Rule
+runRules fits i =
     rule bad-buffer (not fits)
-    ∷ (pairRules prof lims
-    ++ (rule bad-reading (readingWrong (rowsOf prof) variables)
+    ∷ (pairRules (i .profile) (i .limits)
+    ++ (rule bad-reading (readingWrong (rowsOf (i .profile)) (i .variables))
     ∷ []))
 
-unfoldable pub checkedRefusal : List ℕ → List ℕ → List ℕ → List ℤ → List ℤ → List ℕ → ℕ
-checkedRefusal prof lims variables numbers cells states = lowest (runRules (runFits variables numbers cells states) prof lims variables)
+unfoldable pub checkedRefusal : Inputs → Buffers → ℕ
+checkedRefusal i b = lowest (runRules (runFits i b) i)
 
 -- an erased run's buffers have the layout table too, and the type check must pass (17)
-unfoldable pub erasedRefusal : List ℕ → List ℕ → List ℕ → List ℤ → List ℤ → List ℕ → List ℕ → ℕ
-erasedRefusal prof lims variables numbers cells states layout =
+unfoldable pub erasedRefusal : Inputs → Buffers → List ℕ → ℕ
+erasedRefusal i b layout =
     lowest
-    (runRules (eqb (length layout) layout-length && runFits variables numbers cells states) prof lims variables
-    ++ (rule type-error-found (not (isOk (checkProfile (profileOf (rowsOf prof) (rowsOf lims)))))
+    (runRules (eqb (length layout) layout-length && runFits i b) i
+    ++ (rule type-error-found (not (isOk (checkProfile (profileOf (rowsOf (i .profile)) (rowsOf (i .limits))))))
     ∷ []))

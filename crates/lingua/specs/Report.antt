@@ -13,6 +13,7 @@ use Rattle.lingua.specs.Run.{Progress, lastState, Declaration}
 use Rattle.lingua.specs.Rows.{untilZero}
 use Rattle.lingua.specs.Trees.{profileOf}
 use Rattle.lingua.specs.Format.{rowsOf}
+use Rattle.lingua.specs.Inputs.{inputs, buffers}
 use Rattle.lingua.specs.Refusal.{checkedRefusal}
 use Rattle.lingua.specs.Answers.{Ending}
 use Rattle.lingua.specs.Calls.{runOf, endingOf}
@@ -71,10 +72,10 @@ refusedText n = (114 ∷ 101 ∷ 102 ∷ 117 ∷ 115 ∷ 101 ∷ 100 ∷ space �
 
 unfoldable pub reportUnless : ℕ → List ℕ → List ℕ → List ℕ
 reportUnless zero prof lims =
-    runText (profileOf (rowsOf prof) (rowsOf lims) .declarations) (runOf prof lims [] [] report-budget)
+    runText (profileOf (rowsOf prof) (rowsOf lims) .declarations) (runOf (inputs prof lims [] []) report-budget)
 reportUnless (suc n) prof lims = refusedText (suc n)
 
 -- the checked run with no readings and a budget of 1,000, on buffers of the listed lengths
 unfoldable pub reportText : List ℕ → List ℕ → List ℕ
 reportText prof lims =
-    reportUnless (checkedRefusal prof lims [] [] (replicate cells-length (pos 0)) (replicate states-length 0)) prof lims
+    reportUnless (checkedRefusal (inputs prof lims [] []) (buffers (replicate cells-length (pos 0)) (replicate states-length 0))) prof lims

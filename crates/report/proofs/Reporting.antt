@@ -11,6 +11,7 @@ use Rattle.lingua.specs.Numbers.{cells-length, states-length, report-budget, de
 use Rattle.lingua.specs.Value.{allOf}
 use Rattle.lingua.specs.Rows.{pairCount}
 use Rattle.lingua.specs.Format.{rowsOf}
+use Rattle.lingua.specs.Inputs.{inputs, buffers}
 use Rattle.lingua.specs.Refusal.{lowest, pairRules, readingWrong, runFits, checkedRefusal}
 use Rattle.lingua.specs.Answers.{runMeaning}
 use Rattle.lingua.specs.declared.RunAnswer.{RunAnswer}
@@ -27,25 +28,25 @@ use Rattle.report.proofs.Stores.{store-lines}
 
 module _ (prof lims : List ℕ) where
   -- without readings and with buffers of the listed lengths, the files alone decide
-  refusal-is : checkedRefusal prof lims [] [] (replicate cells-length (pos 0)) (replicate states-length 0) ≡ lowest (pairRules prof lims)
+  refusal-is : checkedRefusal (inputs prof lims [] []) (buffers (replicate cells-length (pos 0)) (replicate states-length 0)) ≡ lowest (pairRules prof lims)
   unfolding checkedRefusal runFits readingWrong allOf
-  refusal-is = files-alone prof lims [] refl
+  refusal-is = files-alone (inputs prof lims [] []) refl
 
   module _ (answer : RunAnswer) (cells : List ℤ) (states : List ℕ) where
     text-by : (n : ℕ) → lowest (pairRules prof lims) ≡ n
-        → runResult answer cells states ≡ runUnless n prof lims [] [] report-budget (replicate cells-length (pos 0)) (replicate states-length 0)
+        → runResult answer cells states ≡ runUnless n (inputs prof lims [] []) report-budget (buffers (replicate cells-length (pos 0)) (replicate states-length 0))
         → answerText (runMeaning answer) ++ linesUnless n (rowsOf prof) cells states ≡ reportUnless n prof lims
     unfolding runResult runUnless ran runOf readingsOf answerText linesUnless reportUnless runText
     text-by zero z e =
         ap (λ (r : RunCall). answerText (r .answer) ++ memoryLines (rowsOf prof) (r .cells) (r .states) 0 (pairCount (rowsOf prof) declaration-section)) e
-        ∙ ap (λ (l : List ℕ). endLine (endingOf report-budget (runOf prof lims [] [] report-budget)) ++ l) (sym (store-lines prof lims z report-budget))
+        ∙ ap (λ (l : List ℕ). endLine (endingOf report-budget (runOf (inputs prof lims [] []) report-budget)) ++ l) (sym (store-lines prof lims z report-budget))
     text-by (suc n) z e = ap (λ (r : RunCall). answerText (r .answer) ++ []) e ∙ append-nil (refusedText (suc n))
 
     report-is : runResult answer cells states ≡ reportCall prof lims → answerText (runMeaning answer) ++ variablesText prof lims cells states ≡ reportText prof lims
     unfolding reportCall checkedCall variablesText reportText
     report-is e =
         text-by (lowest (pairRules prof lims)) refl
-        (e ∙ ap (λ (n : ℕ). runUnless n prof lims [] [] report-budget (replicate cells-length (pos 0)) (replicate states-length 0)) refusal-is)
+        (e ∙ ap (λ (n : ℕ). runUnless n (inputs prof lims [] []) report-budget (buffers (replicate cells-length (pos 0)) (replicate states-length 0))) refusal-is)
         ∙ ap (λ (n : ℕ). reportUnless n prof lims) (sym refusal-is)
 
     pub report-written :

@@ -22,6 +22,7 @@ use Rattle.lingua.specs.Meets.{runMet}
 use Rattle.lingua.specs.Rows.{tableCount, pairCount}
 use Rattle.lingua.specs.Trees.{tabulateFrom, tabulate, instructionTree, declaredBody, bodyOr, declarationAt, profileOf}
 use Rattle.lingua.specs.Format.{rowsOf}
+use Rattle.lingua.specs.Inputs.{Inputs, Buffers}
 use Rattle.lingua.specs.Refusal.{lowest, pairRules, isNumberBody, isNumberVariable, readingWrong, runFits, runRules, checkedRefusal, erasedRefusal}
 use Rattle.lingua.specs.Calls.{readingsOf}
 use Rattle.laws.specs.Outcomes.{and-left, and-right, is-number, false-is-true, or-right}
@@ -138,34 +139,32 @@ reading-rule rows variables e =
     all-true (λ v. isNumberVariable rows v) variables (not-false _ (or-right (ltb most-readings (length variables)) (not (allOf (λ v. isNumberVariable rows v) variables)) e))
 
 -- a run that is not refused takes readings of number variables
-pub rules-readings : (prof lims variables : List ℕ) (numbers cells : List ℤ) (states : List ℕ) → checkedRefusal prof lims variables numbers cells states ≡ 0
-    → Every (λ r. isNumberVariable (rowsOf prof) (r .variable) ≡ true) (readingsOf variables numbers)
+pub rules-readings : (i : Inputs) (b : Buffers) → checkedRefusal i b ≡ 0
+    → Every (λ r. isNumberVariable (rowsOf (i .profile)) (r .variable) ≡ true) (readingsOf (i .variables) (i .numbers))
 unfolding checkedRefusal
-rules-readings prof lims variables numbers cells states e =
-    readings-of-numbers (rowsOf prof) variables numbers (reading-rule (rowsOf prof) variables (none-refuses prof lims variables _ e .1))
+rules-readings i b e = readings-of-numbers (rowsOf (i .profile)) (i .variables) (i .numbers) (reading-rule (rowsOf (i .profile)) (i .variables) (none-refuses i _ e .1))
 
-pub rules-pair : (prof lims variables : List ℕ) (numbers cells : List ℤ) (states : List ℕ) → checkedRefusal prof lims variables numbers cells states ≡ 0 → lowest (pairRules prof lims) ≡ 0
+pub rules-pair : (i : Inputs) (b : Buffers) → checkedRefusal i b ≡ 0 → lowest (pairRules (i .profile) (i .limits)) ≡ 0
 unfolding checkedRefusal
-rules-pair prof lims variables numbers cells states e = none-refuses prof lims variables _ e .0
+rules-pair i b e = none-refuses i _ e .0
 
-pub checked-call-safe : (prof lims variables : List ℕ) (numbers cells : List ℤ) (states : List ℕ) → checkedRefusal prof lims variables numbers cells states ≡ 0
-    → (es : List Entry) → checkProfile (profileOf (rowsOf prof) (rowsOf lims)) ≡ ok es → (budget : ℕ)
-    → RunErrors (runMet (profileOf (rowsOf prof) (rowsOf lims)) (readingsOf variables numbers) budget)
-checked-call-safe prof lims variables numbers cells states e es passed budget =
-    accepted-safe prof lims (rules-pair prof lims variables numbers cells states e) es passed (readingsOf variables numbers) (rules-readings prof lims variables numbers cells states e) budget
+pub checked-call-safe : (i : Inputs) (b : Buffers) → checkedRefusal i b ≡ 0
+    → (es : List Entry) → checkProfile (profileOf (rowsOf (i .profile)) (rowsOf (i .limits))) ≡ ok es → (budget : ℕ)
+    → RunErrors (runMet (profileOf (rowsOf (i .profile)) (rowsOf (i .limits))) (readingsOf (i .variables) (i .numbers)) budget)
+checked-call-safe i b e es passed budget =
+    accepted-safe (i .profile) (i .limits) (rules-pair i b e) es passed (readingsOf (i .variables) (i .numbers)) (rules-readings i b e) budget
 
 -- an erased run is refused where the type check finds an error
-pub record ErasedAccepted (prof lims variables : List ℕ) (numbers cells : List ℤ) (states : List ℕ) : Type 0 where
+pub record ErasedAccepted (i : Inputs) (b : Buffers) : Type 0 where
   pub entries : List Entry
-  pub passes : checkProfile (profileOf (rowsOf prof) (rowsOf lims)) ≡ ok entries
-  pub rules : checkedRefusal prof lims variables numbers cells states ≡ 0
+  pub passes : checkProfile (profileOf (rowsOf (i .profile)) (rowsOf (i .limits))) ≡ ok entries
+  pub rules : checkedRefusal i b ≡ 0
 
-pub erased-accepted : (prof lims variables : List ℕ) (numbers cells : List ℤ) (states layout : List ℕ) → erasedRefusal prof lims variables numbers cells states layout ≡ 0
-    → ErasedAccepted prof lims variables numbers cells states
+pub erased-accepted : (i : Inputs) (b : Buffers) (layout : List ℕ) → erasedRefusal i b layout ≡ 0 → ErasedAccepted i b
 unfolding erasedRefusal checkedRefusal
-erased-accepted prof lims variables numbers cells states layout e =
-    let a = erased-none prof lims variables (eqb (length layout) layout-length && runFits variables numbers cells states) _ e in
-    let c = answered (checkProfile (profileOf (rowsOf prof) (rowsOf lims))) (not-false _ (a .1)) in
+erased-accepted i b layout e =
+    let a = erased-none i (eqb (length layout) layout-length && runFits i b) _ e in
+    let c = answered (checkProfile (profileOf (rowsOf (i .profile)) (rowsOf (i .limits)))) (not-false _ (a .1)) in
     record { entries = c .0; passes = c .1; rules = fitting (eqb (length layout) layout-length) (a .0) }
   where
     answered : (o : Outcome TypeError (List Entry)) → isOk o ≡ true → (es : List Entry) × (o ≡ ok es)
@@ -173,12 +172,12 @@ erased-accepted prof lims variables numbers cells states layout e =
     answered (fail t) q = false-is-true q
 
     -- with a layout table of another length, 1 refuses
-    fitting : (b : Bool) → lowest (runRules (b && runFits variables numbers cells states) prof lims variables) ≡ 0 → lowest (runRules (runFits variables numbers cells states) prof lims variables) ≡ 0
+    fitting : (t : Bool) → lowest (runRules (t && runFits i b) i) ≡ 0 → lowest (runRules (runFits i b) i) ≡ 0
     fitting true q = q
-    fitting false q = absurd (let z : ⊥ = omega (arith, sym (unfit-refused prof lims variables) ∙ q) in z)
+    fitting false q = absurd (let z : ⊥ = omega (arith, sym (unfit-refused i) ∙ q) in z)
 
-pub erased-call-safe : (prof lims variables : List ℕ) (numbers cells : List ℤ) (states layout : List ℕ) → erasedRefusal prof lims variables numbers cells states layout ≡ 0
-    → (budget : ℕ) → RunErrors (runMet (profileOf (rowsOf prof) (rowsOf lims)) (readingsOf variables numbers) budget)
-erased-call-safe prof lims variables numbers cells states layout e budget =
-    let a = erased-accepted prof lims variables numbers cells states layout e in
-    checked-call-safe prof lims variables numbers cells states (a .rules) (a .entries) (a .passes) budget
+pub erased-call-safe : (i : Inputs) (b : Buffers) (layout : List ℕ) → erasedRefusal i b layout ≡ 0
+    → (budget : ℕ) → RunErrors (runMet (profileOf (rowsOf (i .profile)) (rowsOf (i .limits))) (readingsOf (i .variables) (i .numbers)) budget)
+erased-call-safe i b layout e budget =
+    let a = erased-accepted i b layout e in
+    checked-call-safe i b (a .rules) (a .entries) (a .passes) budget

@@ -19,6 +19,7 @@ use Rattle.lingua.specs.Typing.{TypeError, Entry, checkProfile, layoutOf}
 use Rattle.lingua.specs.Meets.{runMet}
 use Rattle.lingua.specs.Trees.{profileOf}
 use Rattle.lingua.specs.Format.{rowsOf}
+use Rattle.lingua.specs.Inputs.{Inputs, Buffers}
 use Rattle.lingua.specs.Refusal.{rule, lowest, pairRules, typeCheckRefusal, runFits, runRules, checkedRefusal, erasedRefusal}
 use Rattle.lingua.specs.Answers.{refused}
 use Rattle.lingua.specs.Calls.{RunCall, ErasedCall, readingsOf, ran, runOf, runUnless, checkedCall, withLayout, erasedUnless, erasedCall, typeCheckVerdict, typeCheckUnless, typeCheckCall, runResult, erasedResult}
@@ -37,47 +38,47 @@ pub record Passes (prof lims : List ℕ) : Type 0 where
   pub entries : List Entry
   pub checked : checkProfile (profileOf (rowsOf prof) (rowsOf lims)) ≡ ok entries
 
--- the lent memory of both calls has the listed lengths; primed is the erased run's
-pub record ListedLengths (cells : List ℤ) (states : List ℕ) (cells′ : List ℤ) (states′ layout : List ℕ) : Type 0 where
-  pub cells-are : length cells ≡ cells-length
-  pub states-are : length states ≡ states-length
-  pub cells′-are : length cells′ ≡ cells-length
-  pub states′-are : length states′ ≡ states-length
+-- the buffers of both calls have the listed lengths; primed is the erased run's
+pub record ListedLengths (b b′ : Buffers) (layout : List ℕ) : Type 0 where
+  pub cells-are : length (b .cells) ≡ cells-length
+  pub states-are : length (b .states) ≡ states-length
+  pub cells′-are : length (b′ .cells) ≡ cells-length
+  pub states′-are : length (b′ .states) ≡ states-length
   pub layout-is : length layout ≡ layout-length
 
 -- ---- the claim
 -- each declared variable whose flag is 1 fits, satisfies its current yoke and lies within the limits
-pub record FilledHold (prof lims : List ℕ) (cells : List ℤ) (states : List ℕ) : Type 0 where
-  pub holds : (n : ℕ) → n < length (profileOf (rowsOf prof) (rowsOf lims) .declarations) → flagAt states n ≡ 1 → HoldsValue (rowsOf prof) (rowsOf lims) cells states n
+pub record FilledHold (i : Inputs) (cells : List ℤ) (states : List ℕ) : Type 0 where
+  pub holds : (n : ℕ) → n < length (profileOf (rowsOf (i .profile)) (rowsOf (i .limits)) .declarations) → flagAt states n ≡ 1 → HoldsValue (rowsOf (i .profile)) (rowsOf (i .limits)) cells states n
 
-module _ (prof lims variables : List ℕ) (numbers : List ℤ) (budget : ℕ) (cells : List ℤ) (states : List ℕ) (c : RunCall) (cells′ : List ℤ) (states′ layout : List ℕ) (d : ErasedCall) where
+module _ (i : Inputs) (budget : ℕ) (b : Buffers) (c : RunCall) (b′ : Buffers) (layout : List ℕ) (d : ErasedCall) where
   -- one number refuses both, and each leaves its own memory as it was
   pub record BothRefused : Type 0 where
     pub number : ℕ
-    pub refuses : checkedRefusal prof lims variables numbers cells states ≡ number
+    pub refuses : checkedRefusal i b ≡ number
     pub some : 0 < number
-    pub checked : c ≡ record { answer = refused number; cells = cells; states = states }
-    pub erased : d ≡ record { answer = refused number; cells = cells′; states = states′; layout = layout }
+    pub checked : c ≡ record { answer = refused number; cells = b .cells; states = b .states }
+    pub erased : d ≡ record { answer = refused number; cells = b′ .cells; states = b′ .states; layout = layout }
 
   -- neither is refused
   pub record BothRan : Type 0 where
-    pub refuses-none : checkedRefusal prof lims variables numbers cells states ≡ 0
+    pub refuses-none : checkedRefusal i b ≡ 0
     -- alike in end, error, place and steps, in all cells and in all state words
     pub same-answer : d .answer ≡ c .answer
     pub same-cells : d .cells ≡ c .cells
     pub same-states : d .states ≡ c .states
     -- each is the definition's run, whatever its memory held, and the erased run leaves the type check's layout table
     pub entries : List Entry
-    pub passed : checkProfile (profileOf (rowsOf prof) (rowsOf lims)) ≡ ok entries
-    pub checked : c ≡ ran budget (runOf prof lims variables numbers budget)
-    pub erased : d ≡ withLayout (ran budget (runOf prof lims variables numbers budget)) (layoutOf entries)
-    pub layout-as-checked : d .layout ≡ typeCheckCall prof lims layout .layout
+    pub passed : checkProfile (profileOf (rowsOf (i .profile)) (rowsOf (i .limits))) ≡ ok entries
+    pub checked : c ≡ ran budget (runOf i budget)
+    pub erased : d ≡ withLayout (ran budget (runOf i budget)) (layoutOf entries)
+    pub layout-as-checked : d .layout ≡ typeCheckCall (i .profile) (i .limits) layout .layout
     -- no type error is met, and none recorded
-    pub meets : RunErrors (runMet (profileOf (rowsOf prof) (rowsOf lims)) (readingsOf variables numbers) budget)
-    pub recorded : NoTypeError (lastState (runOf prof lims variables numbers budget) .error)
+    pub meets : RunErrors (runMet (profileOf (rowsOf (i .profile)) (rowsOf (i .limits))) (readingsOf (i .variables) (i .numbers)) budget)
+    pub recorded : NoTypeError (lastState (runOf i budget) .error)
     -- what is filled in either memory
-    pub checked-filled : FilledHold prof lims (c .cells) (c .states)
-    pub erased-filled : FilledHold prof lims (d .cells) (d .states)
+    pub checked-filled : FilledHold i (c .cells) (c .states)
+    pub erased-filled : FilledHold i (d .cells) (d .states)
 
   -- document 01: both runs are refused by the same number, or neither is
   pub data TwoRuns : Type 0 where
@@ -86,24 +87,22 @@ module _ (prof lims variables : List ℕ) (numbers : List ℤ) (budget : ℕ) (c
 
   -- the claim with what it supposes: a promise for any two calls of the code
   pub record Demand3 : Type 0 where
-    pub claim : Passes prof lims → ListedLengths cells states cells′ states′ layout → TwoRuns
+    pub claim : Passes (i .profile) (i .limits) → ListedLengths b b′ layout → TwoRuns
 
 -- ---- one number refuses both
 -- rule 17 does not apply to a pair that passes, nor rule 1 to a layout table of the listed length
-pub same-refusal : (prof lims variables : List ℕ) (numbers cells : List ℤ) (states layout : List ℕ) → length layout ≡ layout-length
-    → (es : List Entry) → checkProfile (profileOf (rowsOf prof) (rowsOf lims)) ≡ ok es
-    → erasedRefusal prof lims variables numbers cells states layout ≡ checkedRefusal prof lims variables numbers cells states
+pub same-refusal : (i : Inputs) (b : Buffers) (layout : List ℕ) → length layout ≡ layout-length
+    → (es : List Entry) → checkProfile (profileOf (rowsOf (i .profile)) (rowsOf (i .limits))) ≡ ok es → erasedRefusal i b layout ≡ checkedRefusal i b
 unfolding erasedRefusal checkedRefusal
-same-refusal prof lims variables numbers cells states layout l es e =
-    ap (λ (b : Bool). lowest (runRules (b && runFits variables numbers cells states) prof lims variables ++ (rule type-error-found (not (isOk (checkProfile (profileOf (rowsOf prof) (rowsOf lims))))) ∷ []))) (eq-eqb (length layout) layout-length l)
-    ∙ passed-refuse prof lims variables (runFits variables numbers cells states) _ (ap (λ (o : Outcome TypeError (List Entry)). not (isOk o)) e)
+same-refusal i b layout l es e =
+    ap (λ (t : Bool). lowest (runRules (t && runFits i b) i ++ (rule type-error-found (not (isOk (checkProfile (profileOf (rowsOf (i .profile)) (rowsOf (i .limits)))))) ∷ []))) (eq-eqb (length layout) layout-length l)
+    ∙ passed-refuse i (runFits i b) _ (ap (λ (o : Outcome TypeError (List Entry)). not (isOk o)) e)
 
 -- of the cells and the state words the rules see the lengths alone
-same-lengths : (prof lims variables : List ℕ) (numbers cells cells′ : List ℤ) (states states′ : List ℕ) → length cells ≡ length cells′ → length states ≡ length states′
-    → checkedRefusal prof lims variables numbers cells states ≡ checkedRefusal prof lims variables numbers cells′ states′
+same-lengths : (i : Inputs) (b b′ : Buffers) → length (b .cells) ≡ length (b′ .cells) → length (b .states) ≡ length (b′ .states) → checkedRefusal i b ≡ checkedRefusal i b′
 unfolding checkedRefusal runFits
-same-lengths prof lims variables numbers cells cells′ states states′ c s =
-    ap₂ (λ (a b : ℕ). lowest (runRules (eqb (length variables) (length numbers) && eqb a cells-length && eqb b states-length) prof lims variables)) c s
+same-lengths i b b′ c s =
+    ap₂ (λ (n m : ℕ). lowest (runRules (eqb (length (i .variables)) (length (i .numbers)) && eqb n cells-length && eqb m states-length) i)) c s
 
 -- ---- the layout table of a pair that passes
 pub passed-layout : (prof lims layout : List ℕ) (p : Passes prof lims) → length layout ≡ layout-length → typeCheckCall prof lims layout .layout ≡ layoutOf (p .entries)
@@ -114,14 +113,12 @@ passed-layout prof lims layout p l =
     ∙ ap (λ (o : Outcome TypeError (List Entry)). typeCheckVerdict o .layout) (p .checked)
 
 -- ---- the claim about the definitions' calls
-module _ (prof lims variables : List ℕ) (numbers : List ℤ) (budget : ℕ) (cells : List ℤ) (states : List ℕ) (cells′ : List ℤ) (states′ layout : List ℕ)
-    (p : Passes prof lims) (listed : ListedLengths cells states cells′ states′ layout) where
-  ran-both : checkedRefusal prof lims variables numbers cells states ≡ 0
-      → BothRan prof lims variables numbers budget cells states (ran budget (runOf prof lims variables numbers budget)) cells′ states′ layout (erasedUnless 0 prof lims variables numbers budget cells′ states′ layout)
+module _ (i : Inputs) (budget : ℕ) (b b′ : Buffers) (layout : List ℕ) (p : Passes (i .profile) (i .limits)) (listed : ListedLengths b b′ layout) where
+  ran-both : checkedRefusal i b ≡ 0 → BothRan i budget b (ran budget (runOf i budget)) b′ layout (erasedUnless 0 i budget b′ layout)
   unfolding ran runOf erasedUnless
   ran-both z =
-      let readings = readingsOf variables numbers in
-      let numeric = rules-readings prof lims variables numbers cells states z in
+      let readings = readingsOf (i .variables) (i .numbers) in
+      let numeric = rules-readings i b z in
       record {
         refuses-none = z;
         same-answer = refl;
@@ -130,43 +127,41 @@ module _ (prof lims variables : List ℕ) (numbers : List ℤ) (budget : ℕ) (c
         entries = p .entries;
         passed = p .checked;
         checked = refl;
-        erased = ap (withLayout (ran budget (runOf prof lims variables numbers budget))) (passed-layout prof lims layout p (listed .layout-is));
+        erased = ap (withLayout (ran budget (runOf i budget))) (passed-layout (i .profile) (i .limits) layout p (listed .layout-is));
         layout-as-checked = refl;
-        meets = accepted-safe prof lims (p .accepted) (p .entries) (p .checked) readings numeric budget;
-        recorded = accepted-error prof lims (p .accepted) (p .entries) (p .checked) readings numeric budget;
-        checked-filled = record { holds = λ n l q. accepted-memory prof lims (p .accepted) readings budget n l q };
-        erased-filled = record { holds = λ n l q. accepted-memory prof lims (p .accepted) readings budget n l q };
+        meets = accepted-safe (i .profile) (i .limits) (p .accepted) (p .entries) (p .checked) readings numeric budget;
+        recorded = accepted-error (i .profile) (i .limits) (p .accepted) (p .entries) (p .checked) readings numeric budget;
+        checked-filled = record { holds = λ n l q. accepted-memory (i .profile) (i .limits) (p .accepted) readings budget n l q };
+        erased-filled = record { holds = λ n l q. accepted-memory (i .profile) (i .limits) (p .accepted) readings budget n l q };
       }
 
-  by-number : (k : ℕ) → checkedRefusal prof lims variables numbers cells states ≡ k
-      → TwoRuns prof lims variables numbers budget cells states (runUnless k prof lims variables numbers budget cells states) cells′ states′ layout (erasedUnless k prof lims variables numbers budget cells′ states′ layout)
+  by-number : (k : ℕ) → checkedRefusal i b ≡ k → TwoRuns i budget b (runUnless k i budget b) b′ layout (erasedUnless k i budget b′ layout)
   unfolding runUnless erasedUnless
   by-number zero z = both-ran (ran-both z)
   by-number (suc k) z = both-refused (record { number = suc k; refuses = z; some = omega arith; checked = refl; erased = refl })
 
-  calls-agree : TwoRuns prof lims variables numbers budget cells states (checkedCall prof lims variables numbers budget cells states) cells′ states′ layout (erasedCall prof lims variables numbers budget cells′ states′ layout)
+  calls-agree : TwoRuns i budget b (checkedCall i budget b) b′ layout (erasedCall i budget b′ layout)
   unfolding checkedCall erasedCall
   calls-agree =
-      let k : ℕ = checkedRefusal prof lims variables numbers cells states in
-      let same : k ≡ erasedRefusal prof lims variables numbers cells′ states′ layout =
-      same-lengths prof lims variables numbers cells cells′ states states′ (listed .cells-are ∙ sym (listed .cells′-are)) (listed .states-are ∙ sym (listed .states′-are))
-      ∙ sym (same-refusal prof lims variables numbers cells′ states′ layout (listed .layout-is) (p .entries) (p .checked)) in
-      subst (λ (j : ℕ). TwoRuns prof lims variables numbers budget cells states (runUnless k prof lims variables numbers budget cells states) cells′ states′ layout (erasedUnless j prof lims variables numbers budget cells′ states′ layout))
-      same (by-number k refl)
+      let k : ℕ = checkedRefusal i b in
+      let same : k ≡ erasedRefusal i b′ layout =
+      same-lengths i b b′ (listed .cells-are ∙ sym (listed .cells′-are)) (listed .states-are ∙ sym (listed .states′-are))
+      ∙ sym (same-refusal i b′ layout (listed .layout-is) (p .entries) (p .checked)) in
+      subst (λ (j : ℕ). TwoRuns i budget b (runUnless k i budget b) b′ layout (erasedUnless j i budget b′ layout)) same (by-number k refl)
 
 -- ---- the claim about two calls of the code, by their contracts
-module _ (prof lims variables : List ℕ) (numbers : List ℤ) (budget : ℕ) (cells : List ℤ) (states : List ℕ) (cells′ : List ℤ) (states′ layout : List ℕ)
+module _ (i : Inputs) (budget : ℕ) (b b′ : Buffers) (layout : List ℕ)
     (r r′ : RunAnswer) (after : List ℤ) (states-after : List ℕ) (after′ : List ℤ) (states-after′ layout-after : List ℕ) where
-  pub two-runs : runResult r after states-after ≡ checkedCall prof lims variables numbers budget cells states
-      → erasedResult r′ after′ states-after′ layout-after ≡ erasedCall prof lims variables numbers budget cells′ states′ layout
-      → Passes prof lims → ListedLengths cells states cells′ states′ layout
-      → TwoRuns prof lims variables numbers budget cells states (runResult r after states-after) cells′ states′ layout (erasedResult r′ after′ states-after′ layout-after)
+  pub two-runs : runResult r after states-after ≡ checkedCall i budget b
+      → erasedResult r′ after′ states-after′ layout-after ≡ erasedCall i budget b′ layout
+      → Passes (i .profile) (i .limits) → ListedLengths b b′ layout
+      → TwoRuns i budget b (runResult r after states-after) b′ layout (erasedResult r′ after′ states-after′ layout-after)
   two-runs e e′ p listed =
-      subst (λ (c : RunCall). TwoRuns prof lims variables numbers budget cells states c cells′ states′ layout (erasedResult r′ after′ states-after′ layout-after)) (sym e)
-      (subst (λ (d : ErasedCall). TwoRuns prof lims variables numbers budget cells states (checkedCall prof lims variables numbers budget cells states) cells′ states′ layout d) (sym e′)
-      (calls-agree prof lims variables numbers budget cells states cells′ states′ layout p listed))
+      subst (λ (c : RunCall). TwoRuns i budget b c b′ layout (erasedResult r′ after′ states-after′ layout-after)) (sym e)
+      (subst (λ (d : ErasedCall). TwoRuns i budget b (checkedCall i budget b) b′ layout d) (sym e′)
+      (calls-agree i budget b b′ layout p listed))
 
-  pub demand-3 : runResult r after states-after ≡ checkedCall prof lims variables numbers budget cells states
-      → erasedResult r′ after′ states-after′ layout-after ≡ erasedCall prof lims variables numbers budget cells′ states′ layout
-      → Demand3 prof lims variables numbers budget cells states (runResult r after states-after) cells′ states′ layout (erasedResult r′ after′ states-after′ layout-after)
+  pub demand-3 : runResult r after states-after ≡ checkedCall i budget b
+      → erasedResult r′ after′ states-after′ layout-after ≡ erasedCall i budget b′ layout
+      → Demand3 i budget b (runResult r after states-after) b′ layout (erasedResult r′ after′ states-after′ layout-after)
   demand-3 e e′ = record { claim = two-runs e e′ }

@@ -20,6 +20,7 @@ use Rattle.lingua.specs.Meets.{runMet}
 use Rattle.lingua.specs.Trees.{yokeTree, limitOf, nameAt, profileOf}
 use Rattle.lingua.specs.Format.{profile, rowsOf, fileOf}
 use Rattle.lingua.specs.Answers.{answered, ending, runMeaning}
+use Rattle.lingua.specs.Inputs.{Inputs, inputs, Buffers, buffers}
 use Rattle.lingua.specs.Calls.{RunCall, readingsOf, checkedCall, erasedCall, runResult, erasedResult}
 use Rattle.lingua.specs.Examples.{row, example-limits, example-limits-file}
 use Rattle.lingua.specs.Computing.{computing}
@@ -75,12 +76,22 @@ speed-states = 1 ∷ 3 ∷ replicate 30 0
 abbrev pub witness-layout : List ℕ
 witness-layout = 1 ∷ 0 ∷ 1 ∷ 0 ∷ 1 ∷ 0 ∷ 1 ∷ 0 ∷ 1 ∷ 0 ∷ replicate 1014 0
 
-pub checked-gives : checkedCall witness-file example-limits-file (0 ∷ []) (pos 100 ∷ []) 9 (replicate cells-length (pos 5)) (replicate states-length 5)
+-- both files, and the reading
+abbrev pub witness-inputs : Inputs
+witness-inputs = inputs witness-file example-limits-file (0 ∷ []) (pos 100 ∷ [])
+
+abbrev pub fives : Buffers
+fives = buffers (replicate cells-length (pos 5)) (replicate states-length 5)
+
+abbrev pub sixes : Buffers
+sixes = buffers (replicate cells-length (pos 6)) (replicate states-length 6)
+
+pub checked-gives : checkedCall witness-inputs 9 fives
     ≡ record { answer = answered (ending 0 0 0 4); cells = speed-cells; states = speed-states }
 unfolding computing witness-file witness-rows example-limits-file example-limits
 checked-gives = refl
 
-pub erased-gives : erasedCall witness-file example-limits-file (0 ∷ []) (pos 100 ∷ []) 9 (replicate cells-length (pos 6)) (replicate states-length 7) (replicate layout-length 8)
+pub erased-gives : erasedCall witness-inputs 9 sixes (replicate layout-length 8)
     ≡ record { answer = answered (ending 0 0 0 4); cells = speed-cells; states = speed-states; layout = witness-layout }
 unfolding computing witness-file witness-rows example-limits-file example-limits
 erased-gives = refl
@@ -102,17 +113,16 @@ speed-limit = refl
 -- ---- so the claim holds of calls of the code that give this, and says of SPEED what it says of a filled variable
 unfoldable pub WitnessRuns : Type 0
 WitnessRuns =
-    TwoRuns witness-file example-limits-file (0 ∷ []) (pos 100 ∷ []) 9
-    (replicate cells-length (pos 5)) (replicate states-length 5) (runResult (run-answer.Finished 4) speed-cells speed-states)
-    (replicate cells-length (pos 6)) (replicate states-length 7) (replicate layout-length 8) (erasedResult (run-answer.Finished 4) speed-cells speed-states witness-layout)
+    TwoRuns witness-inputs 9 fives (runResult (run-answer.Finished 4) speed-cells speed-states)
+    sixes (replicate layout-length 8) (erasedResult (run-answer.Finished 4) speed-cells speed-states witness-layout)
 
 pub witness-two-runs : WitnessRuns
 unfolding WitnessRuns
 witness-two-runs =
-    two-runs witness-file example-limits-file (0 ∷ []) (pos 100 ∷ []) 9 (replicate cells-length (pos 5)) (replicate states-length 5) (replicate cells-length (pos 6)) (replicate states-length 7) (replicate layout-length 8)
+    two-runs witness-inputs 9 fives sixes (replicate layout-length 8)
     (run-answer.Finished 4) (run-answer.Finished 4) speed-cells speed-states speed-cells speed-states witness-layout
     (unfold runResult runMeaning in sym checked-gives) (unfold erasedResult runMeaning in sym erased-gives) witness-passes
-    (record { cells-are = length-replicate cells-length (pos 5); states-are = length-replicate {A = ℕ} states-length 5; cells′-are = length-replicate cells-length (pos 6); states′-are = length-replicate {A = ℕ} states-length 7; layout-is = length-replicate {A = ℕ} layout-length 8 })
+    (record { cells-are = length-replicate cells-length (pos 5); states-are = length-replicate {A = ℕ} states-length 5; cells′-are = length-replicate cells-length (pos 6); states′-are = length-replicate {A = ℕ} states-length 6; layout-is = length-replicate {A = ℕ} layout-length 8 })
 
 two-variables : length (profileOf (rowsOf witness-file) (rowsOf example-limits-file) .declarations) ≡ 2
 unfolding computing witness-file witness-rows example-limits-file example-limits

@@ -26,7 +26,7 @@ same-length-5 : tie.Need-same-length-5
 same-length-5 c = search needs
 
 returns : tie.Need-returns
-returns c = record { checked = c .before .before .before .before .before .before .before .before .before .before .before .before .run-checked .ensures; erased = c .before .before .before .before .before .run-erased .ensures; demand-3 = demand-3 _ _ _ _ (c .before .before .before .before .before .before .before .before .before .before .before .before .before .before .before .before .before .before .before .before .before .args .budget) _ _ _ _ _ _ _ _ _ _ _ _ (c .before .before .before .before .before .before .before .before .before .before .before .before .run-checked .ensures) (c .before .before .before .before .before .run-erased .ensures) }
+returns c = record { checked = c .before .before .before .before .before .before .before .before .before .before .before .before .run-checked .ensures; erased = c .before .before .before .before .before .run-erased .ensures; demand-3 = demand-3 _ (c .before .before .before .before .before .before .before .before .before .before .before .before .before .before .before .before .before .before .before .before .before .args .budget) _ _ _ _ _ _ _ _ _ _ (c .before .before .before .before .before .before .before .before .before .before .before .before .run-checked .ensures) (c .before .before .before .before .before .run-erased .ensures) }
 
 pub run-both-spec : {M : Type 1} → statement M
 run-both-spec =

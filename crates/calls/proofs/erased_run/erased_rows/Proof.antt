@@ -14,7 +14,7 @@ check-profile-requires c κs =
     (record { accepted = c .before .before .before .before .before .before .before .pre .0 .accepted; tables = c .before .before .before .before .before .before .before .pre .1 .0 .0; types = c .before .before .before .before .before .before .before .pre .1 .1 .0 }, search needs)
 
 returns : tie.Need-returns
-returns c = faulted _ (now (c .before .before .before .before .before .before .before .before .before .before .before .args .limits)) _ _ (c .before .before .before .check-profile .ensures) _ _ (c .before .before .before .before .before .before .before .before .before .before .before .args .budget) _ _ _ (c .if1 .taken)
+returns c = faulted _ (now (c .before .before .before .before .before .before .before .before .before .before .before .args .limits)) _ _ (c .before .before .before .check-profile .ensures) _ _ (c .before .before .before .before .before .before .before .before .before .before .before .args .budget) _ _ (c .if1 .taken)
 
 slice-aggregate-copy-table : tie.Need-slice-aggregate-copy-table
 slice-aggregate-copy-table c = search needs
@@ -35,7 +35,7 @@ same-length-3 : tie.Need-same-length-3
 same-length-3 c = search needs
 
 returns-2 : tie.Need-returns-2
-returns-2 c = passed-done _ _ _ _ (c .before .before .before .before .before .before .before .before .before .before .before .before .before .before .before .before .before .before .before .before .before .before .before .args .budget) _ _ _ _ (passed-rows _ (now (c .before .before .before .before .before .before .before .before .before .before .before .before .before .before .before .before .before .before .before .before .before .before .before .args .limits)) _ _ (c .before .before .before .before .before .before .before .before .before .before .before .before .before .before .before .check-profile .ensures) (c .before .before .before .before .before .before .before .before .before .before .before .before .if1 .left) (c .before .before .before .before .before .before .before .before .before .copy-table .ensures) (omega (arith, c .before .before .before .before .before .before .before .before .before .before .before .before .before .before .before .check-profile .kept))) _ _ _ (c .before .before .before .passed-rows .ensures)
+returns-2 c = passed-done _ _ _ _ (c .before .before .before .before .before .before .before .before .before .before .before .before .before .before .before .before .before .before .before .before .before .before .before .args .budget) _ _ _ (passed-rows _ (now (c .before .before .before .before .before .before .before .before .before .before .before .before .before .before .before .before .before .before .before .before .before .before .before .args .limits)) _ _ (c .before .before .before .before .before .before .before .before .before .before .before .before .before .before .before .check-profile .ensures) (c .before .before .before .before .before .before .before .before .before .before .before .before .if1 .left) (c .before .before .before .before .before .before .before .before .before .copy-table .ensures) (omega (arith, c .before .before .before .before .before .before .before .before .before .before .before .before .before .before .before .check-profile .kept))) _ _ _ (c .before .before .before .passed-rows .ensures)
 
 pub erased-rows-spec : {M : Type 1} → statement M
 erased-rows-spec =

@@ -8,7 +8,7 @@ use Rattle.calls.proofs.erased_run.run_erased.Statement.{statement}
 use Rattle.calls.proofs.erased_run.run_erased.Tie as tie
 
 returns : tie.Need-returns
-returns c = layout-wrong _ _ _ _ _ _ _ (c .before .before .before .before .before .before .args .budget) (c .if1 .taken)
+returns c = layout-wrong _ _ _ (c .before .before .before .before .before .before .args .budget) (c .if1 .taken)
 
 slice-aggregate-take-run : tie.Need-slice-aggregate-take-run
 slice-aggregate-take-run c = search needs
@@ -29,7 +29,7 @@ same-length-2 : tie.Need-same-length-2
 same-length-2 c = search needs
 
 returns-2 : tie.Need-returns-2
-returns-2 c = erased-run-refused _ _ _ _ _ _ _ (c .before .before .before .before .before .before .before .before .before .before .before .before .before .before .before .before .args .budget) (c .before .before .before .before .before .before .before .before .before .before .if1 .left) (c .before .before .before .before .take-run .ensures) (c .if2 .taken)
+returns-2 c = erased-run-refused _ _ _ (c .before .before .before .before .before .before .before .before .before .before .before .before .before .before .before .before .args .budget) (c .before .before .before .before .before .before .before .before .before .before .if1 .left) (c .before .before .before .before .take-run .ensures) (c .if2 .taken)
 
 array-share-prefix-areas : tie.Need-array-share-prefix-areas
 array-share-prefix-areas c = (c .before .before .before .before .before .before .take-run .ensures .taken (c .before .before .if2 .left)) .files .within
@@ -60,7 +60,7 @@ same-length-5 : tie.Need-same-length-5
 same-length-5 c = search needs
 
 returns-3 : tie.Need-returns-3
-returns-3 c = erased-done _ _ _ _ _ _ _ (c .before .before .before .before .before .before .before .before .before .before .before .before .before .before .before .before .before .before .before .before .before .before .before .before .before .before .before .before .before .before .args .budget) (c .before .before .before .before .before .before .before .before .before .before .before .before .before .before .before .before .before .before .before .before .before .before .before .before .if1 .left) (c .before .before .before .before .before .before .before .before .before .before .before .before .before .before .before .before .before .before .take-run .ensures) (c .before .before .before .before .before .before .before .before .before .before .before .before .before .before .if2 .left) _ _ _ _ (c .before .before .before .before .before .erased-rows .ensures)
+returns-3 c = erased-done _ _ _ (c .before .before .before .before .before .before .before .before .before .before .before .before .before .before .before .before .before .before .before .before .before .before .before .before .before .before .before .before .before .before .args .budget) (c .before .before .before .before .before .before .before .before .before .before .before .before .before .before .before .before .before .before .before .before .before .before .before .before .if1 .left) (c .before .before .before .before .before .before .before .before .before .before .before .before .before .before .before .before .before .before .take-run .ensures) (c .before .before .before .before .before .before .before .before .before .before .before .before .before .before .if2 .left) _ _ _ _ (c .before .before .before .before .before .erased-rows .ensures)
 
 pub run-erased-spec : {M : Type 1} → statement M
 run-erased-spec =

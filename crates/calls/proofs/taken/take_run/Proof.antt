@@ -11,19 +11,19 @@ refused-requires : tie.Need-refused-requires
 refused-requires c κs = search needs
 
 returns : tie.Need-returns
-returns c = uneven _ _ _ _ _ _ _ _ _ _ (c .refused .ensures) (c .before .if1 .taken)
+returns c = uneven _ _ _ _ _ _ (c .refused .ensures) (c .before .if1 .taken)
 
 refused-requires-2 : tie.Need-refused-requires-2
 refused-requires-2 c κs = search needs
 
 returns-2 : tie.Need-returns-2
-returns-2 c = few-cells _ _ _ _ _ _ _ _ _ (c .before .before .if1 .left) _ (c .refused2 .ensures) (c .before .if2 .taken)
+returns-2 c = few-cells _ _ _ _ _ (c .before .before .if1 .left) _ (c .refused2 .ensures) (c .before .if2 .taken)
 
 refused-requires-3 : tie.Need-refused-requires-3
 refused-requires-3 c κs = search needs
 
 returns-3 : tie.Need-returns-3
-returns-3 c = few-states _ _ _ _ _ _ _ _ _ (c .before .before .before .if1 .left) (c .before .before .if2 .left) _ (c .refused3 .ensures) (c .before .if3 .taken)
+returns-3 c = few-states _ _ _ _ _ (c .before .before .before .if1 .left) (c .before .before .if2 .left) _ (c .refused3 .ensures) (c .before .if3 .taken)
 
 take-pair-requires : tie.Need-take-pair-requires
 take-pair-requires c κs = c .before .before .before .before .before .before .before .before .before .before .before .before .before .pre
@@ -38,7 +38,7 @@ same-length-3 : tie.Need-same-length-3
 same-length-3 c = search needs
 
 returns-4 : tie.Need-returns-4
-returns-4 c = files-wrong _ _ _ _ _ _ _ _ _ (c .before .before .before .before .before .before .before .before .before .before .before .before .before .before .if1 .left) (c .before .before .before .before .before .before .before .before .before .before .before .before .before .if2 .left) (c .before .before .before .before .before .before .before .before .before .before .before .before .if3 .left) _ (c .before .before .before .before .before .before .before .before .take-pair .ensures) (c .if4 .taken)
+returns-4 c = files-wrong _ _ _ _ _ (c .before .before .before .before .before .before .before .before .before .before .before .before .before .before .if1 .left) (c .before .before .before .before .before .before .before .before .before .before .before .before .before .if2 .left) (c .before .before .before .before .before .before .before .before .before .before .before .before .if3 .left) _ (c .before .before .before .before .before .before .before .before .take-pair .ensures) (c .if4 .taken)
 
 slice-reshare-prefix-reading-wrong : tie.Need-slice-reshare-prefix-reading-wrong
 slice-reshare-prefix-reading-wrong c = c .before .before .before .before .before .before .before .before .before .before .take-pair .ensures .taken (c .before .before .if4 .left) .within
@@ -63,7 +63,7 @@ same-length-6 : tie.Need-same-length-6
 same-length-6 c = search needs
 
 returns-5 : tie.Need-returns-5
-returns-5 c = readings-wrong _ _ _ _ _ _ _ _ _ (c .before .before .before .before .before .before .before .before .before .before .before .before .before .before .before .before .before .before .before .before .before .if1 .left) (c .before .before .before .before .before .before .before .before .before .before .before .before .before .before .before .before .before .before .before .before .if2 .left) (c .before .before .before .before .before .before .before .before .before .before .before .before .before .before .before .before .before .before .before .if3 .left) _ (c .before .before .before .before .before .before .before .before .before .before .before .before .before .before .before .take-pair .ensures) (c .before .before .before .before .before .before .before .if4 .left) _ (c .before .before .reading-wrong .ensures) _ (c .refused4 .ensures) (c .before .if5 .taken)
+returns-5 c = readings-wrong _ _ _ _ _ (c .before .before .before .before .before .before .before .before .before .before .before .before .before .before .before .before .before .before .before .before .before .if1 .left) (c .before .before .before .before .before .before .before .before .before .before .before .before .before .before .before .before .before .before .before .before .if2 .left) (c .before .before .before .before .before .before .before .before .before .before .before .before .before .before .before .before .before .before .before .if3 .left) _ (c .before .before .before .before .before .before .before .before .before .before .before .before .before .before .before .take-pair .ensures) (c .before .before .before .before .before .before .before .if4 .left) _ (c .before .before .reading-wrong .ensures) _ (c .refused4 .ensures) (c .before .if5 .taken)
 
 same-length-7 : tie.Need-same-length-7
 same-length-7 c = search needs
@@ -75,7 +75,7 @@ same-length-9 : tie.Need-same-length-9
 same-length-9 c = search needs
 
 returns-6 : tie.Need-returns-6
-returns-6 c = all-taken _ _ _ _ _ _ _ _ _ (c .before .before .before .before .before .before .before .before .before .before .before .before .before .before .before .before .before .before .before .before .if1 .left) (c .before .before .before .before .before .before .before .before .before .before .before .before .before .before .before .before .before .before .before .if2 .left) (c .before .before .before .before .before .before .before .before .before .before .before .before .before .before .before .before .before .before .if3 .left) _ (c .before .before .before .before .before .before .before .before .before .before .before .before .before .before .take-pair .ensures) (c .before .before .before .before .before .before .if4 .left) _ (c .before .reading-wrong .ensures) (c .if5 .left)
+returns-6 c = all-taken _ _ _ _ _ (c .before .before .before .before .before .before .before .before .before .before .before .before .before .before .before .before .before .before .before .before .if1 .left) (c .before .before .before .before .before .before .before .before .before .before .before .before .before .before .before .before .before .before .before .if2 .left) (c .before .before .before .before .before .before .before .before .before .before .before .before .before .before .before .before .before .before .if3 .left) _ (c .before .before .before .before .before .before .before .before .before .before .before .before .before .before .take-pair .ensures) (c .before .before .before .before .before .before .if4 .left) _ (c .before .reading-wrong .ensures) (c .if5 .left)
 
 pub take-run-spec : {M : Type 1} → statement M
 take-run-spec =
