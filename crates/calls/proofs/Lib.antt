@@ -1,6 +1,2 @@
-pub mod Refusing
-pub mod Taking
-pub mod Beginning
-pub mod Calling
-pub mod Copying
 pub mod Checking
+pub mod Agreeing

@@ -1,3 +1,1 @@
-pub mod Taken
-pub mod Ways
 pub mod Both

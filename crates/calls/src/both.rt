@@ -1,7 +1,11 @@
-// Both runs of one profile, each on lent memory of its own: what document 01's third demand speaks of.
-use crate::checked_run::run_checked;
-use crate::erased_run::run_erased;
+// Both runs of one profile, each on lent memory of its own: what document 01's third demand speaks of. The files are taken once.
 use lingua::RunAnswer;
+use lingua::sizes::AREA_BYTES;
+use lingua::sizes::AREAS_LENGTH;
+use lingua::sizes::TYPE_BODIES_LENGTH;
+use pair::take_pair;
+use taken::checked_run::checked_taken;
+use taken::erased_run::erased_taken;
 ghost use Rattle.lingua.specs.Inputs.{inputs, buffers};
 ghost use Rattle.calls.specs.Both.{BothRuns};
 
@@ -25,10 +29,26 @@ pub fn run_both(
     ensures { λ r. ⌜ BothRuns (inputs (now (profile .entry)) (now (limits .entry)) (now (who .entry)) (now (numbers .entry))) budget (buffers (now (cells .entry)) (now (states .entry))) (buffers (now («erased_cells» .entry)) (now («erased_states» .entry))) (now (layout .entry))
         r (now (cells .exit)) (now (states .exit)) (now («erased_cells» .exit)) (now («erased_states» .exit)) (now (layout .exit)) ⌝ }
 {
-    let checked = run_checked(profile, limits, who, numbers, budget, cells, states);
-    let erased = run_erased(
-        profile,
-        limits,
+    let mut areas = [0u8; AREAS_LENGTH];
+    let mut others = [0u8; AREA_BYTES];
+    let mut bodies = [0u8; TYPE_BODIES_LENGTH];
+    let pair = take_pair(profile, limits, &mut areas, &mut others, &mut bodies);
+    let checked = checked_taken(
+        pair,
+        &areas,
+        &others,
+        &bodies,
+        who,
+        numbers,
+        budget,
+        cells,
+        states,
+    );
+    let erased = erased_taken(
+        pair,
+        &areas,
+        &others,
+        &bodies,
         who,
         numbers,
         budget,

@@ -3,5 +3,4 @@ pub mod both; // both.rt: both runs of one profile
 pub mod checked_run; // checked_run.rt: the checked run
 pub mod erased_run; // erased_run.rt: the erased run
 pub mod files; // files.rt: the reader and the writer
-mod taken; // taken.rt: what every run asks before it starts
 pub mod types; // types.rt: the type check

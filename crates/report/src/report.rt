@@ -1,10 +1,14 @@
-// The whole report.
+// The whole report. Both files are taken once, for the run and for the names.
 use crate::answers::put_answer;
 use crate::variables::put_variables;
-use calls::checked_run::run_checked;
+use lingua::sizes::AREA_BYTES;
+use lingua::sizes::AREAS_LENGTH;
 use lingua::sizes::CELLS_LENGTH;
 use lingua::sizes::REPORT_BUDGET;
 use lingua::sizes::STATES_LENGTH;
+use lingua::sizes::TYPE_BODIES_LENGTH;
+use pair::take_pair;
+use taken::checked_run::checked_taken;
 ghost use Prim.Native.Nat.{_≤_};
 ghost use lib.ListN.{length};
 ghost use Rattle.lingua.specs.Report.{reportText};
@@ -15,13 +19,19 @@ pub(crate) fn report_text(profile: &[u8], limits: &[u8], out: &mut [u8]) -> usiz
     requires { ⌜ most-text ≤ length (now out) ⌝ }
     ensures { λ r. ⌜ Written (now (out .exit)) r (reportText (now (profile .entry)) (now (limits .entry))) ⌝ }
 {
+    let mut areas = [0u8; AREAS_LENGTH];
+    let mut others = [0u8; AREA_BYTES];
+    let mut bodies = [0u8; TYPE_BODIES_LENGTH];
+    let pair = take_pair(profile, limits, &mut areas, &mut others, &mut bodies);
     let variables = [0u16; 0];
     let numbers = [0i64; 0];
     let mut cells = [0i64; CELLS_LENGTH];
     let mut states = [0u16; STATES_LENGTH];
-    let answer = run_checked(
-        profile,
-        limits,
+    let answer = checked_taken(
+        pair,
+        &areas,
+        &others,
+        &bodies,
         &variables,
         &numbers,
         REPORT_BUDGET,
@@ -29,5 +39,5 @@ pub(crate) fn report_text(profile: &[u8], limits: &[u8], out: &mut [u8]) -> usiz
         &mut states,
     );
     let end = put_answer(answer, out);
-    put_variables(profile, limits, &cells, &states, out, end)
+    put_variables(pair, &areas, &bodies, &cells, &states, out, end)
 }

@@ -1,14 +1,46 @@
 -- `calls::both::run_both` meets its contract: the third demand follows from the two runs' contracts alone. Assumes nothing.
-use Rattle.safety.specs.TwoRuns.{demand-3}
+use mathlib.Core.Path.{refl}
+use Rattle.pair.proofs.Given.{room-there}
+use Rattle.calls.proofs.Agreeing.{both-run}
 use borrow.Author.Needs.{needs}
 use Rattle.calls.proofs.both.run_both.Statement.{statement}
 use Rattle.calls.proofs.both.run_both.Tie as tie
 
-run-checked-requires : tie.Need-run-checked-requires
-run-checked-requires c κs = search needs
+slice-aggregate-take-pair : tie.Need-slice-aggregate-take-pair
+slice-aggregate-take-pair c = search needs
 
-run-erased-requires : tie.Need-run-erased-requires
-run-erased-requires c κs = search needs
+slice-aggregate-take-pair-2 : tie.Need-slice-aggregate-take-pair-2
+slice-aggregate-take-pair-2 c = search needs
+
+slice-aggregate-take-pair-3 : tie.Need-slice-aggregate-take-pair-3
+slice-aggregate-take-pair-3 c = search needs
+
+take-pair-requires : tie.Need-take-pair-requires
+take-pair-requires c κs = room-there _ _ _ refl refl refl
+
+slice-aggregate-checked-taken : tie.Need-slice-aggregate-checked-taken
+slice-aggregate-checked-taken c = search needs
+
+slice-aggregate-checked-taken-2 : tie.Need-slice-aggregate-checked-taken-2
+slice-aggregate-checked-taken-2 c = search needs
+
+slice-aggregate-checked-taken-3 : tie.Need-slice-aggregate-checked-taken-3
+slice-aggregate-checked-taken-3 c = search needs
+
+checked-taken-requires : tie.Need-checked-taken-requires
+checked-taken-requires c κs = record { prof = _; lims = _; is = c .before .before .before .before .before .before .before .before .take-pair .ensures }
+
+slice-aggregate-erased-taken : tie.Need-slice-aggregate-erased-taken
+slice-aggregate-erased-taken c = search needs
+
+slice-aggregate-erased-taken-2 : tie.Need-slice-aggregate-erased-taken-2
+slice-aggregate-erased-taken-2 c = search needs
+
+slice-aggregate-erased-taken-3 : tie.Need-slice-aggregate-erased-taken-3
+slice-aggregate-erased-taken-3 c = search needs
+
+erased-taken-requires : tie.Need-erased-taken-requires
+erased-taken-requires c κs = record { prof = _; lims = _; is = c .before .before .before .before .before .before .before .before .before .before .before .before .before .before .before .before .before .before .take-pair .ensures }
 
 same-length : tie.Need-same-length
 same-length c = search needs
@@ -26,14 +58,24 @@ same-length-5 : tie.Need-same-length-5
 same-length-5 c = search needs
 
 returns : tie.Need-returns
-returns c = record { checked = c .before .before .before .before .before .before .before .before .before .before .before .before .run-checked .ensures; erased = c .before .before .before .before .before .run-erased .ensures; demand-3 = demand-3 _ (c .before .before .before .before .before .before .before .before .before .before .before .before .before .before .before .before .before .before .before .before .before .args .budget) _ _ _ _ _ _ _ _ _ _ (c .before .before .before .before .before .before .before .before .before .before .before .before .run-checked .ensures) (c .before .before .before .before .before .run-erased .ensures) }
+returns c = both-run _ (c .before .before .before .before .before .before .before .before .before .before .before .before .before .before .before .checked-taken .ensures _ _ (c .before .before .before .before .before .before .before .before .before .before .before .before .before .before .before .before .before .before .before .before .before .before .before .before .take-pair .ensures)) (c .before .before .before .before .before .erased-taken .ensures _ _ (c .before .before .before .before .before .before .before .before .before .before .before .before .before .before .before .before .before .before .before .before .before .before .before .before .take-pair .ensures))
 
 pub run-both-spec : {M : Type 1} → statement M
 run-both-spec =
     tie.close
     (tie.spec
-    run-checked-requires
-    run-erased-requires
+    slice-aggregate-take-pair
+    slice-aggregate-take-pair-2
+    slice-aggregate-take-pair-3
+    take-pair-requires
+    slice-aggregate-checked-taken
+    slice-aggregate-checked-taken-2
+    slice-aggregate-checked-taken-3
+    checked-taken-requires
+    slice-aggregate-erased-taken
+    slice-aggregate-erased-taken-2
+    slice-aggregate-erased-taken-3
+    erased-taken-requires
     same-length
     same-length-2
     same-length-3

@@ -1,26 +1,33 @@
--- `calls::erased_run::run_erased` meets its contract: refused, 17 included, or as the run of both files ends. Assumes nothing.
-use mathlib.Core.Path.{refl, sym}
-use lib.Seq.{length-take-le}
-use Rattle.pair.proofs.Given.{room-there, tables-there, named-there, bodies-held}
-use Rattle.calls.proofs.Calling.{startable, numbers-limited, layout-wrong, erased-run-refused, erased-done}
+-- `calls::erased_run::run_erased` meets its contract: both files taken, and the run of what was taken. Assumes nothing.
+use mathlib.Core.Path.{refl}
+use Rattle.pair.proofs.Given.{room-there}
 use borrow.Author.Needs.{needs}
 use Rattle.calls.proofs.erased_run.run_erased.Statement.{statement}
 use Rattle.calls.proofs.erased_run.run_erased.Tie as tie
 
-returns : tie.Need-returns
-returns c = layout-wrong _ _ _ (c .before .before .before .before .before .before .args .budget) (c .if1 .taken)
+slice-aggregate-take-pair : tie.Need-slice-aggregate-take-pair
+slice-aggregate-take-pair c = search needs
 
-slice-aggregate-take-run : tie.Need-slice-aggregate-take-run
-slice-aggregate-take-run c = search needs
+slice-aggregate-take-pair-2 : tie.Need-slice-aggregate-take-pair-2
+slice-aggregate-take-pair-2 c = search needs
 
-slice-aggregate-take-run-2 : tie.Need-slice-aggregate-take-run-2
-slice-aggregate-take-run-2 c = search needs
+slice-aggregate-take-pair-3 : tie.Need-slice-aggregate-take-pair-3
+slice-aggregate-take-pair-3 c = search needs
 
-slice-aggregate-take-run-3 : tie.Need-slice-aggregate-take-run-3
-slice-aggregate-take-run-3 c = search needs
+take-pair-requires : tie.Need-take-pair-requires
+take-pair-requires c κs = room-there _ _ _ refl refl refl
 
-take-run-requires : tie.Need-take-run-requires
-take-run-requires c κs = room-there _ _ _ refl refl refl
+slice-aggregate-erased-taken : tie.Need-slice-aggregate-erased-taken
+slice-aggregate-erased-taken c = search needs
+
+slice-aggregate-erased-taken-2 : tie.Need-slice-aggregate-erased-taken-2
+slice-aggregate-erased-taken-2 c = search needs
+
+slice-aggregate-erased-taken-3 : tie.Need-slice-aggregate-erased-taken-3
+slice-aggregate-erased-taken-3 c = search needs
+
+erased-taken-requires : tie.Need-erased-taken-requires
+erased-taken-requires c κs = record { prof = _; lims = _; is = c .before .before .before .before .before .before .before .before .before .take-pair .ensures }
 
 same-length : tie.Need-same-length
 same-length c = search needs
@@ -28,59 +35,25 @@ same-length c = search needs
 same-length-2 : tie.Need-same-length-2
 same-length-2 c = search needs
 
-returns-2 : tie.Need-returns-2
-returns-2 c = erased-run-refused _ _ _ (c .before .before .before .before .before .before .before .before .before .before .before .before .before .before .before .before .args .budget) (c .before .before .before .before .before .before .before .before .before .before .if1 .left) (c .before .before .before .before .take-run .ensures) (c .if2 .taken)
-
-array-share-prefix-areas : tie.Need-array-share-prefix-areas
-array-share-prefix-areas c = (c .before .before .before .before .before .before .take-run .ensures .taken (c .before .before .if2 .left)) .files .within
-
-slice-aggregate-erased-rows : tie.Need-slice-aggregate-erased-rows
-slice-aggregate-erased-rows c = sym (length-take-le _ _ ((c .before .before .before .before .before .before .before .take-run .ensures .taken (c .before .before .before .if2 .left)) .files .within))
-
-array-share-prefix-others : tie.Need-array-share-prefix-others
-array-share-prefix-others c = (c .before .before .before .before .before .before .before .take-run .ensures .taken (c .before .before .before .if2 .left)) .files .within-others
-
-slice-aggregate-erased-rows-2 : tie.Need-slice-aggregate-erased-rows-2
-slice-aggregate-erased-rows-2 c = sym (length-take-le _ _ ((c .before .before .before .before .before .before .before .before .take-run .ensures .taken (c .before .before .before .before .if2 .left)) .files .within-others))
-
-slice-aggregate-erased-rows-3 : tie.Need-slice-aggregate-erased-rows-3
-slice-aggregate-erased-rows-3 c = search needs
-
-erased-rows-requires : tie.Need-erased-rows-requires
-erased-rows-requires c κs =
-    let t = c .before .before .before .before .before .before .before .before .before .before .before .before .take-run .ensures .taken (c .before .before .before .before .before .before .before .before .if2 .left) in (startable t, ((tables-there (t .files), named-there (t .files)), (bodies-held (t .files), (c .before .before .before .before .before .before .before .before .before .before .before .before .before .before .before .before .before .before .if1 .left, numbers-limited t))))
-
 same-length-3 : tie.Need-same-length-3
 same-length-3 c = search needs
 
-same-length-4 : tie.Need-same-length-4
-same-length-4 c = search needs
-
-same-length-5 : tie.Need-same-length-5
-same-length-5 c = search needs
-
-returns-3 : tie.Need-returns-3
-returns-3 c = erased-done _ _ _ (c .before .before .before .before .before .before .before .before .before .before .before .before .before .before .before .before .before .before .before .before .before .before .before .before .before .before .before .before .before .before .args .budget) (c .before .before .before .before .before .before .before .before .before .before .before .before .before .before .before .before .before .before .before .before .before .before .before .before .if1 .left) (c .before .before .before .before .before .before .before .before .before .before .before .before .before .before .before .before .before .before .take-run .ensures) (c .before .before .before .before .before .before .before .before .before .before .before .before .before .before .if2 .left) _ _ _ _ (c .before .before .before .before .before .erased-rows .ensures)
+returns : tie.Need-returns
+returns c = c .before .before .before .before .before .erased-taken .ensures _ _ (c .before .before .before .before .before .before .before .before .before .before .before .before .before .before .before .take-pair .ensures)
 
 pub run-erased-spec : {M : Type 1} → statement M
 run-erased-spec =
     tie.close
     (tie.spec
-    returns
-    slice-aggregate-take-run
-    slice-aggregate-take-run-2
-    slice-aggregate-take-run-3
-    take-run-requires
+    slice-aggregate-take-pair
+    slice-aggregate-take-pair-2
+    slice-aggregate-take-pair-3
+    take-pair-requires
+    slice-aggregate-erased-taken
+    slice-aggregate-erased-taken-2
+    slice-aggregate-erased-taken-3
+    erased-taken-requires
     same-length
     same-length-2
-    returns-2
-    array-share-prefix-areas
-    slice-aggregate-erased-rows
-    array-share-prefix-others
-    slice-aggregate-erased-rows-2
-    slice-aggregate-erased-rows-3
-    erased-rows-requires
     same-length-3
-    same-length-4
-    same-length-5
-    returns-3)
+    returns)

@@ -1,30 +1,49 @@
--- `report::report::report_text` meets its contract: what the call ensures and the two texts behind each other. Assumes nothing.
+-- `report::report::report_text` meets its contract: what the run of the taken files ensures, and the two texts behind each other. Assumes
+-- nothing.
+use mathlib.Core.Path.{refl}
 use borrow.Author.Needs.{needs}
 use denote.Ref.{now}
+use Rattle.pair.proofs.Given.{room-there}
 use Rattle.report.specs.Call.{reportCall}
 use Rattle.report.proofs.Reporting.{report-written}
 use Rattle.report.proofs.report.report_text.Statement.{statement}
 use Rattle.report.proofs.report.report_text.Tie as tie
-use Rattle.report.proofs.report.report_text.Reads as reads
-use Rattle.report.proofs.report.report_text.Lts as lts
-use Rattle.report.proofs.answers.put_answer.Reads as put-answer-reads
-use Rattle.calls.proofs.checked_run.run_checked.Reads as run-checked-reads
-use Rattle.report.proofs.variables.put_variables.Reads as put-variables-reads
 
-slice-aggregate-run-checked : tie.Need-slice-aggregate-run-checked
-slice-aggregate-run-checked c = search needs
+slice-aggregate-take-pair : tie.Need-slice-aggregate-take-pair
+slice-aggregate-take-pair c = search needs
 
-slice-aggregate-run-checked-2 : tie.Need-slice-aggregate-run-checked-2
-slice-aggregate-run-checked-2 c = search needs
+slice-aggregate-take-pair-2 : tie.Need-slice-aggregate-take-pair-2
+slice-aggregate-take-pair-2 c = search needs
 
-slice-aggregate-run-checked-3 : tie.Need-slice-aggregate-run-checked-3
-slice-aggregate-run-checked-3 c = search needs
+slice-aggregate-take-pair-3 : tie.Need-slice-aggregate-take-pair-3
+slice-aggregate-take-pair-3 c = search needs
 
-slice-aggregate-run-checked-4 : tie.Need-slice-aggregate-run-checked-4
-slice-aggregate-run-checked-4 c = search needs
+take-pair-requires : tie.Need-take-pair-requires
+take-pair-requires c κs = room-there _ _ _ refl refl refl
 
-run-checked-requires : tie.Need-run-checked-requires
-run-checked-requires c κs = search needs
+slice-aggregate-checked-taken : tie.Need-slice-aggregate-checked-taken
+slice-aggregate-checked-taken c = search needs
+
+slice-aggregate-checked-taken-2 : tie.Need-slice-aggregate-checked-taken-2
+slice-aggregate-checked-taken-2 c = search needs
+
+slice-aggregate-checked-taken-3 : tie.Need-slice-aggregate-checked-taken-3
+slice-aggregate-checked-taken-3 c = search needs
+
+slice-aggregate-checked-taken-4 : tie.Need-slice-aggregate-checked-taken-4
+slice-aggregate-checked-taken-4 c = search needs
+
+slice-aggregate-checked-taken-5 : tie.Need-slice-aggregate-checked-taken-5
+slice-aggregate-checked-taken-5 c = search needs
+
+slice-aggregate-checked-taken-6 : tie.Need-slice-aggregate-checked-taken-6
+slice-aggregate-checked-taken-6 c = search needs
+
+slice-aggregate-checked-taken-7 : tie.Need-slice-aggregate-checked-taken-7
+slice-aggregate-checked-taken-7 c = search needs
+
+checked-taken-requires : tie.Need-checked-taken-requires
+checked-taken-requires c κs = record { prof = _; lims = _; is = c .before .before .before .before .before .before .before .before .before .before .take-pair .ensures }
 
 put-answer-requires : tie.Need-put-answer-requires
 put-answer-requires c κs = search needs
@@ -35,8 +54,14 @@ slice-aggregate-put-variables c = search needs
 slice-aggregate-put-variables-2 : tie.Need-slice-aggregate-put-variables-2
 slice-aggregate-put-variables-2 c = search needs
 
+slice-aggregate-put-variables-3 : tie.Need-slice-aggregate-put-variables-3
+slice-aggregate-put-variables-3 c = search needs
+
+slice-aggregate-put-variables-4 : tie.Need-slice-aggregate-put-variables-4
+slice-aggregate-put-variables-4 c = search needs
+
 put-variables-requires : tie.Need-put-variables-requires
-put-variables-requires c κs = search needs
+put-variables-requires c κs = ((_, record { prof = _; lims = _; is = c .before .before .before .before .before .before .before .before .before .before .before .before .before .before .before .before .before .before .before .before .before .before .take-pair .ensures }), search needs)
 
 same-length : tie.Need-same-length
 same-length c = search needs
@@ -44,20 +69,29 @@ same-length c = search needs
 returns : tie.Need-returns
 unfolding reportCall
 returns c =
-    report-written (now (c .before .before .before .before .before .before .before .before .before .before .before .before .before .before .before .before .before .before .before .before .args .profile)) (now (c .before .before .before .before .before .before .before .before .before .before .before .before .before .before .before .before .before .before .before .before .args .limits)) _ _ _ (c .before .before .before .before .before .before .before .before .before .before .before .before .before .before .before .before .before .before .before .before .pre) (c .before .before .before .before .before .before .before .before .before .before .before .before .run-checked .ensures) (c .before .before .before .before .before .before .before .before .put-answer .ensures) (search needs) (c .before .before .put-variables .ensures)
+    report-written (now (c .before .before .before .before .before .before .before .before .before .before .before .before .before .before .before .before .before .before .before .before .before .before .before .before .before .before .before .before .before .before .before .before .args .profile)) (now (c .before .before .before .before .before .before .before .before .before .before .before .before .before .before .before .before .before .before .before .before .before .before .before .before .before .before .before .before .before .before .before .before .args .limits)) _ _ _ (c .before .before .before .before .before .before .before .before .before .before .before .before .before .before .before .before .before .before .before .before .before .before .before .before .before .before .before .before .before .before .before .before .pre) (c .before .before .before .before .before .before .before .before .before .before .before .before .before .before .checked-taken .ensures _ _ (c .before .before .before .before .before .before .before .before .before .before .before .before .before .before .before .before .before .before .before .before .before .before .before .before .before .take-pair .ensures)) (c .before .before .before .before .before .before .before .before .before .before .put-answer .ensures) (search needs) (c .before .before .put-variables .ensures _ _ _ (c .before .before .before .before .before .before .before .before .before .before .before .before .before .before .before .before .before .before .before .before .before .before .before .before .before .take-pair .ensures))
 
 pub report-text-spec : {M : Type 1} → statement M
 report-text-spec =
     tie.close
     (tie.spec
-    slice-aggregate-run-checked
-    slice-aggregate-run-checked-2
-    slice-aggregate-run-checked-3
-    slice-aggregate-run-checked-4
-    run-checked-requires
+    slice-aggregate-take-pair
+    slice-aggregate-take-pair-2
+    slice-aggregate-take-pair-3
+    take-pair-requires
+    slice-aggregate-checked-taken
+    slice-aggregate-checked-taken-2
+    slice-aggregate-checked-taken-3
+    slice-aggregate-checked-taken-4
+    slice-aggregate-checked-taken-5
+    slice-aggregate-checked-taken-6
+    slice-aggregate-checked-taken-7
+    checked-taken-requires
     put-answer-requires
     slice-aggregate-put-variables
     slice-aggregate-put-variables-2
+    slice-aggregate-put-variables-3
+    slice-aggregate-put-variables-4
     put-variables-requires
     same-length
     returns)

@@ -1,0 +1,136 @@
+-- The ways in which a run of a taken pair ends: refused, or as the run of both files ends. Assumes nothing.
+use mathlib.Core.Path.{_≡_, refl, sym, ap, ap₂, _∙_, subst}
+use mathlib.Core.Bool.{Bool, true, false}
+use mathlib.Core.List.{List}
+use Prim.Native.Nat.{ℕ, zero, suc}
+use native.Mathlib.Omega.{arith}
+use lib.IntN.{ℤ}
+use lib.ListN.{length, take}
+use Rattle.lingua.specs.Numbers.{cells-length, states-length, layout-length}
+use Rattle.lingua.specs.Errors.{bad-buffer}
+use Rattle.lingua.specs.Outcome.{Outcome, ok, fail, isOk}
+use Rattle.lingua.specs.Run.{Progress, run}
+use Rattle.lingua.specs.Typing.{TypeError, Entry, checkProfile, layoutOf}
+use Rattle.lingua.specs.Trees.{profileOf}
+use Rattle.lingua.specs.Format.{rowsOf}
+use Rattle.lingua.specs.Inputs.{Inputs, Buffers}
+use Rattle.lingua.specs.Refusal.{typeCheckRefusal, checkedRefusal, erasedRefusal, lowest, pairRules}
+use Rattle.lingua.specs.Answers.{refused, runMeaning}
+use Rattle.lingua.specs.declared.RunAnswer.{RunAnswer}
+use Rattle.lingua.specs.declared.RunAnswer.the-variants as run-answer
+use Rattle.lingua.specs.Calls.{RunCall, ErasedCall, readingsOf, ran, runOf, runUnless, checkedCall, withLayout, typeCheckVerdict, typeCheckUnless, typeCheckCall, erasedUnless, erasedCall, runResult, erasedResult}
+use Rattle.safety.specs.Accepted.{AcceptedRows, accepted-pair}
+use Rattle.safety.specs.Limited.{accepted-limited}
+use Rattle.safety.specs.TwoRuns.{Passes, passed-layout}
+use Rattle.pair.specs.declared.Pair.{Pair}
+use Rattle.pair.proofs.Given.{rows-accepted}
+use Rattle.typecheck.specs.declared.verdicts.Verdict.{Verdict}
+use Rattle.typecheck.specs.Verdicts.{Concludes}
+use Rattle.walk.specs.Meaning.{Readable}
+use Rattle.taken.specs.Taken.{RunTaken, RunIs}
+use Rattle.taken.specs.Ways.{Startable, NumbersLimited, PassedRows, erasedVerdict, erasedRows}
+use Rattle.taken.proofs.Refusing.{short-layout, run-refuses, type-error-refuses, none-refuses}
+
+some-number : (n : ℕ) → (n ≡ 0 → ⊥) → (m : ℕ) × (n ≡ suc m)
+some-number zero k = absurd (k refl)
+some-number (suc m) k = (m, refl)
+
+-- ---- what is taken serves both runs
+module _ {i : Inputs} {b : Buffers} {areas others bodies : List ℕ} {p : Pair} (t : RunTaken p i b areas others bodies) where
+  pub startable : Startable (take (p .rows) areas) (i .variables) (i .numbers) b
+  startable = record {
+    accepted = rows-accepted (t .files) (t .accepted);
+    readable = subst (λ (rows : List ℕ). Readable rows (i .variables) (i .numbers)) (sym (t .files .rows)) (t .readable);
+    long-cells = t .long-cells;
+    long-states = t .long-states;
+  }
+
+  pub numbers-limited : NumbersLimited (take (p .rows) areas) (take (p .limits) others)
+  numbers-limited =
+      subst (λ (limits : List ℕ). NumbersLimited (take (p .rows) areas) limits) (sym (t .files .limits))
+      (subst (λ (rows : List ℕ). NumbersLimited rows (rowsOf (i .limits))) (sym (t .files .rows)) (record { limited = λ n h l q. accepted-limited (i .profile) (i .limits) (t .accepted) n h l q }))
+
+-- ---- the checked run
+module _ {i : Inputs} {b : Buffers} {areas others bodies : List ℕ} {n : ℕ} {p : Pair} (budget : ℕ) (h : RunIs n p i b areas others bodies) where
+  checked-refused : (m : ℕ) → checkedRefusal i b ≡ n → n ≡ suc m → runResult (run-answer.Refused n) (b .cells) (b .states) ≡ checkedCall i budget b
+  unfolding runResult checkedCall runUnless runMeaning
+  checked-refused m e s = rw (e, s)
+
+  pub run-refused : (n ≡ 0 → ⊥) → runResult (run-answer.Refused n) (b .cells) (b .states) ≡ checkedCall i budget b
+  run-refused k = let s = some-number n k in checked-refused (s .0) (sym (h .refusal)) (s .1)
+
+  pub run-done : (z : n ≡ 0) (r : RunAnswer) (after : List ℤ) (words : List ℕ)
+      → runResult r after words ≡ ran budget (run (profileOf (take (p .rows) areas) (take (p .limits) others)) (readingsOf (i .variables) (i .numbers)) budget)
+      → runResult r after words ≡ checkedCall i budget b
+  unfolding checkedCall runUnless runOf
+  run-done z r after words e =
+      e
+      ∙ ap₂ (λ (rows limits : List ℕ). ran budget (run (profileOf rows limits) (readingsOf (i .variables) (i .numbers)) budget)) (h .taken z .files .rows) (h .taken z .files .limits)
+      ∙ ap (λ (k : ℕ). runUnless k i budget b) (sym z ∙ h .refusal)
+
+-- ---- the type check's verdict on rows
+module _ (rows limits : List ℕ) (v : Verdict) (table : List ℕ) (c : (lims : List ℕ) → Concludes v table (checkProfile (profileOf rows lims))) where
+  verdict-fails : (budget : ℕ) (b : Buffers) (layout : List ℕ) (o : Outcome TypeError (List Entry)) (q : Progress) → Concludes v table o → (v .error ≡ 0 → ⊥) → erasedResult (run-answer.Refused 17) (b .cells) (b .states) layout ≡ erasedVerdict o budget q b layout
+  unfolding Concludes erasedVerdict erasedResult runMeaning
+  verdict-fails budget b layout (ok es) q h f = absurd (f (h .passed))
+  verdict-fails budget b layout (fail e) q h f = refl
+
+  pub faulted : (who : List ℕ) (numbers : List ℤ) (budget : ℕ) (b : Buffers) (layout : List ℕ) → (v .error ≡ 0 → ⊥) → erasedResult (run-answer.Refused 17) (b .cells) (b .states) layout ≡ erasedRows rows limits who numbers budget b layout
+  unfolding erasedRows
+  faulted who numbers budget b layout f = verdict-fails budget b layout (checkProfile (profileOf rows limits)) (run (profileOf rows limits) (readingsOf who numbers) budget) (c limits) f
+
+  record Found (o : Outcome TypeError (List Entry)) : Type 0 where
+    pub entries : List Entry
+    pub is : o ≡ ok entries
+    pub table-is : table ≡ layoutOf entries
+
+  verdict-passes : (o : Outcome TypeError (List Entry)) → Concludes v table o → v .error ≡ 0 → Found o
+  unfolding Concludes
+  verdict-passes (ok es) h z = record { entries = es; is = refl; table-is = h .layout }
+  verdict-passes (fail e) h z = absurd (let k : ⊥ = omega (arith, z, h .error, h .some-error) in k)
+
+  pub passed-rows : v .error ≡ 0 → {copy : List ℕ} → copy ≡ table → length table ≡ layout-length → PassedRows rows limits copy
+  passed-rows z e l =
+      let f = verdict-passes (checkProfile (profileOf rows limits)) (c limits) z in
+      record { entries = f .entries; passed = f .is; layout-is = e ∙ f .table-is; long = ap length e ∙ l }
+
+pub passed-done : (rows limits who : List ℕ) (numbers : List ℤ) (budget : ℕ) (b : Buffers) (layout copy : List ℕ) → PassedRows rows limits copy → (r : RunAnswer) (after : List ℤ) (words : List ℕ)
+    → runResult r after words ≡ ran budget (run (profileOf rows limits) (readingsOf who numbers) budget) → erasedResult r after words copy ≡ erasedRows rows limits who numbers budget b layout
+unfolding erasedRows erasedVerdict erasedResult runResult
+passed-done rows limits who numbers budget b layout copy p r after words e =
+    ap₂ (λ (c : RunCall) (l : List ℕ). withLayout c l) e (p .layout-is)
+    ∙ ap (λ (o : Outcome TypeError (List Entry)). erasedVerdict o budget (run (profileOf rows limits) (readingsOf who numbers) budget) b layout) (sym (p .passed))
+
+-- ---- the erased run
+module _ (i : Inputs) (b : Buffers) (layout : List ℕ) (budget : ℕ) where
+  erased-refused : (n m : ℕ) → erasedRefusal i b layout ≡ n → n ≡ suc m → erasedResult (run-answer.Refused n) (b .cells) (b .states) layout ≡ erasedCall i budget b layout
+  unfolding erasedResult erasedCall erasedUnless runMeaning
+  erased-refused n m e s = rw (e, s)
+
+  pub layout-wrong : (length layout ≡ layout-length → ⊥) → erasedResult (run-answer.Refused 1) (b .cells) (b .states) layout ≡ erasedCall i budget b layout
+  layout-wrong h = erased-refused 1 0 (short-layout i b layout h) refl
+
+  module _ {areas others bodies : List ℕ} {n : ℕ} {p : Pair} (l : length layout ≡ layout-length) (h : RunIs n p i b areas others bodies) where
+    pub erased-run-refused : (n ≡ 0 → ⊥) → erasedResult (run-answer.Refused n) (b .cells) (b .states) layout ≡ erasedCall i budget b layout
+    erased-run-refused k =
+        let s = some-number n k in
+        erased-refused n (s .0) (run-refuses i b layout l (λ z. k (h .refusal ∙ z)) ∙ sym (h .refusal)) (s .1)
+
+    module _ (z : n ≡ 0) where
+      rows-are : erasedRows (take (p .rows) areas) (take (p .limits) others) (i .variables) (i .numbers) budget b layout ≡ erasedRows (rowsOf (i .profile)) (rowsOf (i .limits)) (i .variables) (i .numbers) budget b layout
+      rows-are = ap₂ (λ (rows limits : List ℕ). erasedRows rows limits (i .variables) (i .numbers) budget b layout) (h .taken z .files .rows) (h .taken z .files .limits)
+
+      by-verdict : (o : Outcome TypeError (List Entry)) → checkProfile (profileOf (rowsOf (i .profile)) (rowsOf (i .limits))) ≡ o
+          → erasedVerdict o budget (runOf i budget) b layout ≡ erasedCall i budget b layout
+      unfolding erasedVerdict erasedCall erasedUnless
+      by-verdict (ok es) e =
+          ap (withLayout (ran budget (runOf i budget))) (sym (passed-layout (i .profile) (i .limits) layout (record { accepted = h .taken z .accepted; entries = es; checked = e }) l))
+          ∙ ap (λ (k : ℕ). erasedUnless k i budget b layout) (sym (none-refuses i b layout l (sym (h .refusal) ∙ z) (ok es) e refl))
+      by-verdict (fail e) q =
+          ap (λ (k : ℕ). erasedUnless k i budget b layout) (sym (type-error-refuses i b layout l (sym (h .refusal) ∙ z) (fail e) q refl))
+
+      pub erased-done : (r : RunAnswer) (after : List ℤ) (words table : List ℕ)
+          → erasedResult r after words table ≡ erasedRows (take (p .rows) areas) (take (p .limits) others) (i .variables) (i .numbers) budget b layout
+          → erasedResult r after words table ≡ erasedCall i budget b layout
+      erased-done r after words table e =
+          e ∙ rows-are ∙ (unfold erasedRows runOf in by-verdict (checkProfile (profileOf (rowsOf (i .profile)) (rowsOf (i .limits)))) refl)

@@ -1,0 +1,55 @@
+-- `taken::checked_run::checked_taken` meets its contract: refused, or as the run of both files ends. Assumes nothing.
+use mathlib.Core.Path.{sym}
+use denote.Ref.{now}
+use lib.Seq.{length-take-le}
+use Rattle.pair.proofs.Given.{tables-there, named-there, bodies-held}
+use Rattle.taken.proofs.Calling.{startable, run-refused, run-done}
+use borrow.Author.Needs.{needs}
+use Rattle.taken.proofs.checked_run.checked_taken.Statement.{statement}
+use Rattle.taken.proofs.checked_run.checked_taken.Tie as tie
+
+run-refusal-requires : tie.Need-run-refusal-requires
+run-refusal-requires c κs = (now (c .before .before .before .before .before .before .before .args .others), c .before .before .before .before .before .before .before .pre)
+
+same-length : tie.Need-same-length
+same-length c = search needs
+
+same-length-2 : tie.Need-same-length-2
+same-length-2 c = search needs
+
+returns : tie.Need-returns
+returns c = λ prof lims h. run-refused (c .before .before .before .before .before .before .before .before .before .args .budget) (c .before .run-refusal .ensures prof lims _ h) (c .if1 .taken)
+
+slice-aggregate-checked-rows : tie.Need-slice-aggregate-checked-rows
+slice-aggregate-checked-rows c = sym (length-take-le _ _ ((c .before .before .before .before .run-refusal .ensures _ _ _ (c .before .before .before .before .before .before .before .before .before .before .before .before .pre .is) .taken (c .before .before .before .if1 .left)) .files .within))
+
+slice-aggregate-checked-rows-2 : tie.Need-slice-aggregate-checked-rows-2
+slice-aggregate-checked-rows-2 c = sym (length-take-le _ _ ((c .before .before .before .before .before .run-refusal .ensures _ _ _ (c .before .before .before .before .before .before .before .before .before .before .before .before .before .pre .is) .taken (c .before .before .before .before .if1 .left)) .files .within-others))
+
+checked-rows-requires : tie.Need-checked-rows-requires
+checked-rows-requires c κs =
+    let t = c .before .before .before .before .before .before .before .run-refusal .ensures _ _ _ (c .before .before .before .before .before .before .before .before .before .before .before .before .before .before .before .pre .is) .taken (c .before .before .before .before .before .before .if1 .left) in (startable t, ((tables-there (t .files), named-there (t .files)), bodies-held (t .files)))
+
+same-length-3 : tie.Need-same-length-3
+same-length-3 c = search needs
+
+same-length-4 : tie.Need-same-length-4
+same-length-4 c = search needs
+
+returns-2 : tie.Need-returns-2
+returns-2 c = λ prof lims h. run-done (c .before .before .before .before .before .before .before .before .before .before .before .before .before .before .before .before .before .before .before .args .budget) (c .before .before .before .before .before .before .before .before .before .before .before .run-refusal .ensures prof lims _ h) (c .before .before .before .before .before .before .before .before .before .before .if1 .left) _ _ _ (c .before .before .before .checked-rows .ensures)
+
+pub checked-taken-spec : {M : Type 1} → statement M
+checked-taken-spec =
+    tie.close
+    (tie.spec
+    run-refusal-requires
+    same-length
+    same-length-2
+    returns
+    slice-aggregate-checked-rows
+    slice-aggregate-checked-rows-2
+    checked-rows-requires
+    same-length-3
+    same-length-4
+    returns-2)

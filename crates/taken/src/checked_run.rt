@@ -1,0 +1,111 @@
+// The checked run of a pair of files that was taken (document 01: desk run). A refusal leaves all lent memory as it was.
+use crate::refusal::run_refusal;
+use lingua::RunAnswer;
+use lingua::errors::NO_ERROR;
+use lingua::sizes::LIMIT_CELLS_LENGTH;
+use lingua::sizes::VARIABLE_BODIES_LENGTH;
+use pair::Pair;
+use rules::tables::Table;
+use rules::tables::Tables;
+use run::bodies::keep_bodies;
+use run::start::start;
+use walk::way::Way;
+use walk::whole::run;
+ghost use mathlib.Core.Path.{_≡_};
+ghost use mathlib.Core.List.{List};
+ghost use Prim.Native.Nat.{ℕ};
+ghost use Rattle.lingua.specs.Numbers.{type-section, limit-section};
+ghost use Rattle.lingua.specs.Rows.{tableCount};
+ghost use Rattle.lingua.specs.Run.{run as meaning};
+ghost use Rattle.lingua.specs.Trees.{profileOf};
+ghost use Rattle.lingua.specs.Inputs.{inputs, buffers};
+ghost use Rattle.lingua.specs.Calls.{readingsOf, ran, runResult, checkedCall};
+ghost use Rattle.pair.specs.Pair.{PairIs};
+ghost use Rattle.rules.specs.Tables.{IsTable, AreTables};
+ghost use Rattle.rules.specs.Types.{BodiesBelow};
+ghost use Rattle.taken.specs.Taken.{PairOf};
+ghost use Rattle.taken.specs.Ways.{Startable};
+
+// The run of accepted rows, with the declared bodies and no layout table.
+fn checked_rows(
+    rows: &[u8],
+    tables: Tables,
+    limits: &[u8],
+    named: Table,
+    bodies: &[u8],
+    who: &[u16],
+    numbers: &[i64],
+    budget: u16,
+    cells: &mut [i64],
+    states: &mut [u16],
+) -> RunAnswer
+    requires { ⌜ Startable (now rows) (now who) (now numbers) (buffers (now cells) (now states)) ⌝ }
+    requires { ⌜ AreTables (now rows) tables × IsTable (now limits) limit-section named ⌝ }
+    requires { ⌜ BodiesBelow (now rows) (now bodies) (tableCount (now rows) type-section) ⌝ }
+    ensures { λ r. ⌜ runResult r (now (cells .exit)) (now (states .exit)) ≡ ran budget (meaning (profileOf (now (rows .entry)) (now (limits .entry))) (readingsOf (now (who .entry)) (now (numbers .entry))) budget) ⌝ }
+{
+    let declarations = tables.declarations;
+    let mut variables = [0u8; VARIABLE_BODIES_LENGTH];
+    let mut kept = [0i64; LIMIT_CELLS_LENGTH];
+    let layout = [0u16; 0];
+    keep_bodies(rows, declarations, bodies, &mut variables);
+    start(
+        rows,
+        declarations,
+        limits,
+        named,
+        &mut kept,
+        &mut *cells,
+        &mut *states,
+    );
+    let way = Way::Checked;
+    run(
+        way,
+        rows,
+        tables,
+        &variables,
+        &layout,
+        &kept,
+        who,
+        numbers,
+        budget,
+        cells,
+        states,
+    )
+}
+
+pub fn checked_taken(
+    pair: Pair,
+    areas: &[u8],
+    others: &[u8],
+    bodies: &[u8],
+    who: &[u16],
+    numbers: &[i64],
+    budget: u16,
+    cells: &mut [i64],
+    states: &mut [u16],
+) -> RunAnswer
+    requires { ⌜ PairOf pair (now areas) (now others) (now bodies) ⌝ }
+    ensures { λ r. ⌜ ((prof lims : List ℕ) → PairIs pair prof lims (now (areas .entry)) (now (others .entry)) (now (bodies .entry)) → runResult r (now (cells .exit)) (now (states .exit)) ≡ checkedCall (inputs prof lims (now (who .entry)) (now (numbers .entry))) budget (buffers (now (cells .entry)) (now (states .entry)))) ⌝ }
+{
+    let refusal = run_refusal(pair, areas, bodies, who, numbers, cells, states);
+    if refusal != NO_ERROR {
+        return RunAnswer::Refused(refusal);
+    }
+    let n = pair.rows;
+    let m = pair.limits;
+    let tables = pair.tables;
+    let named = pair.named;
+    checked_rows(
+        &areas[..n],
+        tables,
+        &others[..m],
+        named,
+        bodies,
+        who,
+        numbers,
+        budget,
+        cells,
+        states,
+    )
+}
