@@ -31,8 +31,7 @@ pub fn yoke_holds(
 ) -> u8
     requires { ⌜ HasWorld (now rows) t (now variables) (now cells) (now states) ⌝ }
     requires { ⌜ n < pairCount (now rows) declaration-section ⌝ }
-    requires { ⌜ y ≤ t .count ⌝ }
-    requires { ⌜ body-cells * (y + 1) ≤ length (now stack) ⌝ }
+    requires { ⌜ (y ≤ t .count) × (body-cells * (y + 1) ≤ length (now stack)) ⌝ }
     ensures { λ r. ⌜ ((vs : List Variable) → World (now (rows .entry)) t (now (variables .entry)) (now (cells .entry)) (now (states .entry)) vs
         → Admits r (yokeHolds vs (yokeTree (now (rows .entry)) y) (variableAt vs n .content))) ⌝ }
 {

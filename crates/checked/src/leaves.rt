@@ -43,8 +43,7 @@ pub fn declared(variables: &[u8], n: usize) -> [u8; BODY_BYTES]
 pub fn constant(rows: &[u8], t: Table, r: usize, stack: &mut [i64]) -> Evaluated
     requires { ⌜ IsTable (now rows) expression-section t ⌝ }
     requires { ⌜ r < t .count ⌝ }
-    requires { ⌜ ConstantRow (now rows) r ⌝ }
-    requires { ⌜ 0 < length (now stack) ⌝ }
+    requires { ⌜ ConstantRow (now rows) r × (0 < length (now stack)) ⌝ }
     ensures { λ x. ⌜ Gives x (now (stack .exit)) (ok (constantOf (now (rows .entry)) r)) ⌝ }
 {
     let body = constant_body(rows, t, r);

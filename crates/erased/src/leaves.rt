@@ -30,8 +30,7 @@ ghost use Rattle.erased.specs.Meaning.{Current, HasCurrent, HasVariable}
 pub fn constant(rows: &[u8], t: Table, row: usize, stack: &mut [i64]) -> u8
     requires { ⌜ IsTable (now rows) expression-section t ⌝ }
     requires { ⌜ row < t .count ⌝ }
-    requires { ⌜ ConstantRow (now rows) row ⌝ }
-    requires { ⌜ 0 < length (now stack) ⌝ }
+    requires { ⌜ ConstantRow (now rows) row × (0 < length (now stack)) ⌝ }
     ensures { λ r. ⌜ Leaves r (now (stack .exit)) (constantOf (now (rows .entry)) row .body) (ok (constantOf (now (rows .entry)) row .value)) ⌝ }
 {
     let cell = constant_cell(rows, t, row);

@@ -4,7 +4,7 @@ use mathlib.Core.List.{List}
 use Prim.Native.Nat.{ℕ, _≤_}
 use native.Mathlib.Omega.{arith}
 use lib.ListN.{length, take}
-use Rattle.lingua.specs.Numbers.{type-section, limit-section}
+use Rattle.lingua.specs.Numbers.{type-section, limit-section, areas-length, area-bytes, type-bodies-length}
 use Rattle.lingua.specs.Rows.{tableCount}
 use Rattle.lingua.specs.Refusal.{lowest, pairRules}
 use Rattle.safety.specs.Accepted.{AcceptedRows, accepted-pair}
@@ -15,7 +15,7 @@ use Rattle.pair.specs.declared.Pair.{Pair}
 use Rattle.pair.specs.Pair.{Room, TakenPair}
 
 -- buffers of these lengths have room
-pub room-there : (areas others bodies : List ℕ) → length areas ≡ 8500 → length others ≡ 500 → length bodies ≡ 3072 → Room areas others bodies
+pub room-there : (areas others bodies : List ℕ) → length areas ≡ areas-length → length others ≡ area-bytes → length bodies ≡ type-bodies-length → Room areas others bodies
 unfolding roomFor
 room-there areas others bodies a o b = record { for-rows = omega (arith, a); for-limits = omega (arith, o); for-bodies = b }
 

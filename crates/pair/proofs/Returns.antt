@@ -8,7 +8,7 @@ use lib.Dec.{eqb}
 use lib.ListN.{length, take}
 use lib.Seq.{length-take-le}
 use borrow.Author.Tests.{eq-eqb, ne-eqb}
-use Rattle.lingua.specs.Numbers.{row-bytes, rows-length, area-bytes, type-section}
+use Rattle.lingua.specs.Numbers.{row-bytes, rows-length, area-bytes, areas-length, type-section}
 use Rattle.lingua.specs.Errors.{bad-buffer}
 use Rattle.lingua.specs.Value.{allOf, pad}
 use Rattle.lingua.specs.Rows.{rowCount, tableCount}
@@ -160,7 +160,7 @@ room-enough profile file n e l = omega (arith, blocks-few profile file (file-pas
 room-enough limits file n e l = omega (arith, limits-one file (file-passes limits file e .sized))
 
 -- room for a profile is room for both
-pub room-most : (f : File) → roomFor f ≤ 8500
+pub room-most : (f : File) → roomFor f ≤ areas-length
 unfolding roomFor
 room-most profile = omega arith
 room-most limits = omega arith

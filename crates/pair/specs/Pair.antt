@@ -3,7 +3,7 @@ use mathlib.Core.Path.{_≡_}
 use mathlib.Core.List.{List}
 use Prim.Native.Nat.{ℕ, _≤_}
 use lib.ListN.{length, take}
-use Rattle.lingua.specs.Numbers.{type-section, limit-section}
+use Rattle.lingua.specs.Numbers.{type-section, limit-section, type-bodies-length}
 use Rattle.lingua.specs.Errors.{no-error}
 use Rattle.lingua.specs.Rows.{tableCount}
 use Rattle.lingua.specs.Format.{profile, limits, rowsOf}
@@ -17,7 +17,7 @@ use Rattle.pair.specs.declared.Pair.{Pair}
 pub record Room (areas others bodies : List ℕ) : Type 0 where
   pub for-rows : roomFor profile ≤ length areas
   pub for-limits : roomFor limits ≤ length others
-  pub for-bodies : length bodies ≡ 3072
+  pub for-bodies : length bodies ≡ type-bodies-length
 
 -- where no rule applies: both files' rows at the front of their areas, their tables, and the type rows' bodies
 pub record TakenPair (t : Pair) (prof lims areas others bodies : List ℕ) : Type 0 where

@@ -10,6 +10,7 @@ use rules::tables::tables_of;
 ghost use mathlib.Core.Path.{_≡_};
 ghost use Prim.Native.Nat.{_≤_};
 ghost use lib.ListN.{length};
+ghost use Rattle.lingua.specs.Numbers.{type-bodies-length};
 ghost use Rattle.lingua.specs.Answers.{fileMeaning};
 ghost use Rattle.pair.specs.Taken.{roomFor, TakenIs};
 
@@ -24,7 +25,7 @@ pub struct Taken {
 // profile's type rows.
 pub fn take(kind: FileKind, file: &[u8], areas: &mut [u8], bodies: &mut [u8]) -> Taken
     requires { ⌜ roomFor (fileMeaning kind) ≤ length (now areas) ⌝ }
-    requires { ⌜ length (now bodies) ≡ 3072 ⌝ }
+    requires { ⌜ length (now bodies) ≡ type-bodies-length ⌝ }
     ensures { λ r. ⌜ TakenIs r (fileMeaning kind) (now (file .entry)) (now (areas .exit)) (now (bodies .exit)) ⌝ }
 {
     let first = file_refusal(kind, file);

@@ -22,8 +22,7 @@ ghost use Rattle.report.specs.Memory.{memoryLine, memoryLines};
 fn declared_cells(rows: &[u8], t: Table, d: usize, bodies: &[u8]) -> usize
     requires { ⌜ IsTable (now rows) declaration-section t ⌝ }
     requires { ⌜ d < t .count / 2 ⌝ }
-    requires { ⌜ AcceptedRows (now rows) ⌝ }
-    requires { ⌜ BodiesBelow (now rows) (now bodies) (tableCount (now rows) type-section) ⌝ }
+    requires { ⌜ AcceptedRows (now rows) × BodiesBelow (now rows) (now bodies) (tableCount (now rows) type-section) ⌝ }
     ensures { λ r. ⌜ (r ≡ size (bodyOr (declaredBody (now (rows .entry)) d))) × (r ≤ 64) ⌝ }
 {
     let body = declared_body(rows, t, d, bodies);
@@ -44,10 +43,7 @@ fn put_line(
 ) -> usize
     requires { ⌜ IsTable (now rows) declaration-section t ⌝ }
     requires { ⌜ d < t .count / 2 ⌝ }
-    requires { ⌜ AcceptedRows (now rows) ⌝ }
-    requires { ⌜ BodiesBelow (now rows) (now bodies) (tableCount (now rows) type-section) ⌝ }
-    requires { ⌜ length (now cells) ≡ cells-length ⌝ }
-    requires { ⌜ length (now states) ≡ states-length ⌝ }
+    requires { ⌜ AcceptedRows (now rows) × (BodiesBelow (now rows) (now bodies) (tableCount (now rows) type-section) × ((length (now cells) ≡ cells-length) × (length (now states) ≡ states-length))) ⌝ }
     ensures { λ r. ⌜ Appended (now (out .entry)) at (memoryLine (now (rows .entry)) (now (cells .entry)) (now (states .entry)) d) (now (out .exit)) r ⌝ }
 {
     let start = t.start;
@@ -70,9 +66,7 @@ pub(crate) fn put_lines(
 ) -> usize
     requires { ⌜ IsTable (now rows) declaration-section t ⌝ }
     requires { ⌜ AcceptedRows (now rows) ⌝ }
-    requires { ⌜ BodiesBelow (now rows) (now bodies) (tableCount (now rows) type-section) ⌝ }
-    requires { ⌜ length (now cells) ≡ cells-length ⌝ }
-    requires { ⌜ length (now states) ≡ states-length ⌝ }
+    requires { ⌜ BodiesBelow (now rows) (now bodies) (tableCount (now rows) type-section) × ((length (now cells) ≡ cells-length) × (length (now states) ≡ states-length)) ⌝ }
     ensures { λ r. ⌜ Appended (now (out .entry)) at (memoryLines (now (rows .entry)) (now (cells .entry)) (now (states .entry)) 0 (pairCount (now (rows .entry)) declaration-section)) (now (out .exit)) r ⌝ }
 {
     let n = t.count / 2;

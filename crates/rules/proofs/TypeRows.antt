@@ -11,7 +11,7 @@ use lib.Dec.{ltb}
 use lib.ListN.{length}
 use lib.Seq.{paste, length-paste}
 use borrow.Author.Tests.{ltb-true}
-use Rattle.lingua.specs.Numbers.{type-section, attribute-numbers, most-types}
+use Rattle.lingua.specs.Numbers.{type-section, attribute-numbers, most-types, type-bodies-length}
 use Rattle.lingua.specs.Errors.{record-expected}
 use Rattle.lingua.specs.Outcome.{ok, fail, Result, isOk, _>>=_}
 use Rattle.lingua.specs.Body.{Body, boolean}
@@ -147,7 +147,7 @@ module _ (rows bodies : List ℕ) (t : Table) (r : ℕ) (h : IsTable rows type-s
   unknown-answers o e f = row-answers o (λ look p. answered o (typeBodyOf row look) (ok boolean) 0 (ap (λ (x : TypeRow). typeBodyOf x look) (sym e)) f)
 
 -- ---- the rows one after another
-pub none-yet : (rows bodies : List ℕ) → length bodies ≡ 3072 → BodiesBelow rows bodies 0
+pub none-yet : (rows bodies : List ℕ) → length bodies ≡ type-bodies-length → BodiesBelow rows bodies 0
 none-yet rows bodies l = record { long = l; each = λ p h. absurd (let k : ⊥ = omega arith in k) }
 
 pub one-more : (rows bodies after : List ℕ) (r : ℕ) (t : Typed) → r < most-types → BodiesBelow rows bodies r → Answers t (typeBody rows r) → t .error ≡ 0

@@ -16,7 +16,7 @@ use mir.Val.{toZ, ofZ}
 use mir.ValLaws.{toZ-ofZ}
 use lib.ListN.{length, take, drop, getD, set, replicate, length-set, length-replicate}
 use lib.Seq.{paste, length-paste, getD-set-same, getD-set-other}
-use Rattle.lingua.specs.Numbers.{most-variables, cells-length, declaration-section, limit-section}
+use Rattle.lingua.specs.Numbers.{most-variables, cells-length, declaration-section, limit-section, variable-bodies-length}
 use Rattle.lingua.specs.Outcome.{Result}
 use Rattle.lingua.specs.Body.{Body}
 use Rattle.lingua.specs.Rows.{bytesAt, pairCount}
@@ -45,7 +45,7 @@ use Rattle.run.specs.Kept.{BodiesKept, YokesKept, LimitsFrom}
 use Rattle.run.proofs.Unfilled.{few-variables, start-count, start-at, start-cells, start-states}
 
 -- ---- bodies
-pub bodies-none : (rows variables : List ℕ) → length variables ≡ 1536 → BodiesKept rows variables 0
+pub bodies-none : (rows variables : List ℕ) → length variables ≡ variable-bodies-length → BodiesKept rows variables 0
 bodies-none rows variables l = record { long = l; each = λ d h. absurd (let k : ⊥ = omega arith in k) }
 
 pub bodies-more : (rows variables after : List ℕ) (d : ℕ) (x : List ℕ) → d < most-variables → BodiesKept rows variables d → DeclaredIs rows d x

@@ -19,7 +19,7 @@ pub record Asked (rows : List ℕ) (t : Table) (limits : List ℕ) (u : Table) (
   pub accepted : AcceptedRows rows
   pub declared : IsTable rows declaration-section t
   pub limited : IsTable limits limit-section u
-  pub room : length kept ≡ 48
+  pub room : length kept ≡ limit-cells-length
   pub long-cells : length cells ≡ cells-length
   pub long-states : length states ≡ states-length
 

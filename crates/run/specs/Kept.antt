@@ -23,5 +23,5 @@ pub record YokesKept (rows states : List ℕ) (n : ℕ) : Type 0 where
 
 -- the limits of rows l and up are kept: for each variable the first of its name
 pub record LimitsFrom (rows limits : List ℕ) (kept : List ℤ) (l : ℕ) : Type 0 where
-  pub room : length kept ≡ 48
-  pub each : (d : ℕ) → d < pairCount rows declaration-section → LimitAt kept (3 * d) (limitFrom l (pairCount limits limit-section - l) limits (nameAt rows declaration-section d))
+  pub room : length kept ≡ limit-cells-length
+  pub each : (d : ℕ) → d < pairCount rows declaration-section → LimitAt kept (limit-cells * d) (limitFrom l (pairCount limits limit-section - l) limits (nameAt rows declaration-section d))

@@ -15,8 +15,7 @@ ghost use Rattle.run.specs.Kept.{BodiesKept};
 pub fn keep_bodies(rows: &[u8], t: Table, bodies: &[u8], variables: &mut [u8])
     requires { ⌜ AcceptedRows (now rows) ⌝ }
     requires { ⌜ IsTable (now rows) declaration-section t ⌝ }
-    requires { ⌜ BodiesBelow (now rows) (now bodies) (tableCount (now rows) type-section) ⌝ }
-    requires { ⌜ length (now variables) ≡ variable-bodies-length ⌝ }
+    requires { ⌜ BodiesBelow (now rows) (now bodies) (tableCount (now rows) type-section) × (length (now variables) ≡ variable-bodies-length) ⌝ }
     ensures { λ r. ⌜ BodiesKept (now (rows .entry)) (now (variables .exit)) (pairCount (now (rows .entry)) declaration-section) ⌝ }
 {
     let count = t.count / 2;

@@ -14,8 +14,7 @@ ghost use Rattle.lingua.specs.Store.{flagPlace, fillAt};
 pub fn put(cells: &mut [i64], states: &mut [u16], n: usize, value: &[i64], width: usize)
     requires { ⌜ body-cells * n + body-cells ≤ length (now cells) ⌝ }
     requires { ⌜ flagPlace n < length (now states) ⌝ }
-    requires { ⌜ width ≤ body-cells ⌝ }
-    requires { ⌜ width ≤ length (now value) ⌝ }
+    requires { ⌜ (width ≤ body-cells) × (width ≤ length (now value)) ⌝ }
     ensures { λ _. ⌜ now (cells .exit) ≡ take (body-cells * n) (now (cells .entry)) ++ (paste (take body-cells (drop (body-cells * n) (now (cells .entry)))) 0 (now (value .entry)) width ++ drop (body-cells * n + body-cells) (now (cells .entry))) ⌝ }
     ensures { λ _. ⌜ now (states .exit) ≡ fillAt (now (states .entry)) n ⌝ }
 {

@@ -1,6 +1,7 @@
 // The start of a run: no variable is filled, and each has its declared yoke and limit. Limits are three cells for each variable, so that a
 // run searches for no name: whether there is one, and its two ends.
 use crate::words::set_yoke;
+use lingua::sizes::LIMIT_CELLS;
 use lingua::sizes::STATES_LENGTH;
 use profile::declarations::declared_yoke;
 use profile::find::Found;
@@ -64,8 +65,7 @@ fn keep_yokes(rows: &[u8], t: Table, states: &mut [u16])
 fn keep_limit(rows: &[u8], t: Table, limits: &[u8], u: Table, l: usize, kept: &mut [i64])
     requires { ⌜ AcceptedRows (now rows) ⌝ }
     requires { ⌜ IsTable (now rows) declaration-section t × IsTable (now limits) limit-section u ⌝ }
-    requires { ⌜ l < u .count / 2 ⌝ }
-    requires { ⌜ LimitsFrom (now rows) (now limits) (now kept) (l + 1) ⌝ }
+    requires { ⌜ (l < u .count / 2) × LimitsFrom (now rows) (now limits) (now kept) (l + 1) ⌝ }
     ensures { λ r. ⌜ LimitsFrom (now (rows .entry)) (now (limits .entry)) (now (kept .exit)) l ⌝ }
 {
     let start = u.start;
@@ -75,7 +75,7 @@ fn keep_limit(rows: &[u8], t: Table, limits: &[u8], u: Table, l: usize, kept: &m
     };
     let low = limit_low(limits, u, l);
     let high = limit_high(limits, u, l);
-    let at = 3 * d;
+    let at = LIMIT_CELLS * d;
     kept[at] = 1;
     kept[at + 1] = low;
     kept[at + 2] = high;
@@ -85,8 +85,7 @@ fn keep_limit(rows: &[u8], t: Table, limits: &[u8], u: Table, l: usize, kept: &m
 fn keep_limits(rows: &[u8], t: Table, limits: &[u8], u: Table, kept: &mut [i64])
     requires { ⌜ AcceptedRows (now rows) ⌝ }
     requires { ⌜ IsTable (now rows) declaration-section t ⌝ }
-    requires { ⌜ IsTable (now limits) limit-section u ⌝ }
-    requires { ⌜ length (now kept) ≡ 48 ⌝ }
+    requires { ⌜ IsTable (now limits) limit-section u × (length (now kept) ≡ limit-cells-length) ⌝ }
     ensures { λ r. ⌜ LimitsFrom (now (rows .entry)) (now (limits .entry)) (now (kept .exit)) 0 ⌝ }
 {
     clear_cells(kept);

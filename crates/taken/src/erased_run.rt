@@ -104,8 +104,7 @@ fn erased_rows(
 ) -> RunAnswer
     requires { ⌜ Startable (now rows) (now who) (now numbers) (buffers (now cells) (now states)) ⌝ }
     requires { ⌜ AreTables (now rows) tables × IsTable (now limits) limit-section named ⌝ }
-    requires { ⌜ BodiesBelow (now rows) (now bodies) (tableCount (now rows) type-section) ⌝ }
-    requires { ⌜ (length (now layout) ≡ layout-length) × NumbersLimited (now rows) (now limits) ⌝ }
+    requires { ⌜ BodiesBelow (now rows) (now bodies) (tableCount (now rows) type-section) × ((length (now layout) ≡ layout-length) × NumbersLimited (now rows) (now limits)) ⌝ }
     ensures { λ r. ⌜ erasedResult r (now (cells .exit)) (now (states .exit)) (now (layout .exit)) ≡ erasedRows (now (rows .entry)) (now (limits .entry)) (now (who .entry)) (now (numbers .entry)) budget (buffers (now (cells .entry)) (now (states .entry))) (now (layout .entry)) ⌝ }
 {
     let mut table = [0u16; LAYOUT_LENGTH];
