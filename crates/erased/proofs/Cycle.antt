@@ -122,6 +122,12 @@ module _ {rows : List ℕ} {t : Table} {layout : List ℕ} {cells : List ℤ} {s
     pub binary-second : {o : Binary} → Ready rows t layout cells states now (binary row o (expressionTree rows a) (expressionTree rows b)) → Ready rows t layout cells states now (expressionTree rows b)
     binary-second r = ready-with r (binary-passed (r .passed) .passed-other)
 
+    -- the first operand stays, whatever was tried above it
+    pub first-under : (s above rest : List ℤ) → body-cells ≤ length s → {n : ℕ} → Evaluates rows t layout cells states now (expressionTree rows a) n s → Evaluates rows t layout cells states now (expressionTree rows a) n (take body-cells s ++ (above ++ rest))
+    first-under s above rest long h = record {
+      leaves = λ ds vs cur g x w c d. first-stays above rest (sizes w a (omega arith) c d .small) long (h .leaves ds vs cur g x w c d);
+    }
+
     module _ (s above rest : List ℤ) (long : body-cells ≤ length s) {n m : ℕ} (h : Evaluates rows t layout cells states now (expressionTree rows a) n s) (k : Evaluates rows t layout cells states now (expressionTree rows b) m above) where
       pub has-binary : {o : Binary} → Ready rows t layout cells states now (binary row o (expressionTree rows a) (expressionTree rows b)) → HasBinary layout o row a b n m (take body-cells s ++ (above ++ rest))
       has-binary r =

@@ -105,6 +105,14 @@ pub record EvaluatesPlain (rows : List ℕ) (t : Table) (layout : List ℕ) (cel
   pub leaves : (ds : List Declaration) (vs : List Variable) (b : Body) → World rows t layout cells states ds vs → Passed layout ds e no-current-body b
       → Leaves r stack b (evalErased e (valuesOf (contents vs)) (no-current .value))
 
+-- the number that says: not a leaf of one cell
+abbrev pub no-leaf : ℕ
+no-leaf = 255
+
+-- what evaluation gives, of any other number
+pub record EvaluatesUnless (rows : List ℕ) (t : Table) (layout : List ℕ) (cells : List ℤ) (states : List ℕ) (current : List ℤ) (e : Expression) (r : ℕ) (stack : List ℤ) : Type 0 where
+  pub evaluates : (r ≡ no-leaf → ⊥) → Evaluates rows t layout cells states current e r stack
+
 -- the first error of an all-list yoke's results, or whether all are true
 unfoldable pub allTold : List (Result Value) → Result Bool
 allTold rs = do

@@ -1,5 +1,6 @@
 // Evaluation descends the expression tree, the row number falling at each call. A value's cells lie at the stack's front;
-// the second operand of two is evaluated 64 cells further up. How many cells a value takes is read from the layout table.
+// the second operand of two is evaluated 64 cells further up, or put there at once if it is a leaf of one cell. How many cells a
+// value takes is read from the layout table.
 use crate::answer::truth_of;
 use crate::layout::second_at;
 use crate::leaves::constant;
@@ -7,6 +8,8 @@ use crate::leaves::copied;
 use crate::leaves::fetch;
 use crate::operate::binary;
 use crate::operate::unary;
+use crate::quick::NO_LEAF;
+use crate::quick::leaf;
 use crate::tally::concluded;
 use crate::tally::tallied;
 use lingua::errors::NO_ERROR;
@@ -50,6 +53,19 @@ pub fn eval(
         }
         ExpressionRow::Binary(o, a, b) => {
             let x = eval(a, rows, t, layout, cells, states, current, &mut *stack);
+            let quick = leaf(
+                b,
+                rows,
+                t,
+                layout,
+                cells,
+                states,
+                current,
+                &mut stack[BODY_CELLS..],
+            );
+            if quick != NO_LEAF {
+                return binary(o, x, quick, layout, row, a, b, stack);
+            }
             let y = eval(
                 b,
                 rows,

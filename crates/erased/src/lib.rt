@@ -7,6 +7,7 @@ mod holds; // holds.rt: whether a value satisfies a yoke
 pub mod layout; // layout.rt: a row's two numbers
 pub mod leaves; // leaves.rt: constants, variables and the current value
 pub mod operate; // operate.rt: an operation on evaluated operands
+mod quick; // quick.rt: a leaf of one cell, at once
 pub mod reading; // reading.rt: numbers from outside
 pub mod tally; // tally.rt: the results of an all-list yoke
 mod store; // store.rt: a value's yoke, its limit, and the store

@@ -1,10 +1,10 @@
 -- The cycle of evaluation meets its contracts: eval on a row calls the others at that row, and they call eval on lower rows.
 -- One law of Cycle.antt or Walking.antt for each way that a member ends. Assumes nothing.
 use mathlib.Core.Path.{_≡_, refl}
-use mathlib.Core.List.{List}
+use mathlib.Core.List.{List, _++_}
 use Prim.Native.Nat.{_+_, _-_, _*_, _≤_}
 use native.Mathlib.Omega.{arith}
-use lib.ListN.{length, length-take, length-drop}
+use lib.ListN.{length, take, drop, length-append, length-take, length-drop}
 use borrow.Author.Needs.{needs}
 use Rattle.lingua.specs.Body.{Body}
 use Rattle.lingua.specs.Value.{Value}
@@ -21,7 +21,7 @@ use Rattle.profile.specs.Facts.{says-as}
 use Rattle.cells.proofs.Operands.{both-long}
 use Rattle.cells.proofs.Walking.{turn-room, next-place}
 use Rattle.erased.proofs.Walking.{Listed, ready-listed, list-cell, list-walks, element-ready, firstResults, sees-more, all-evaluates}
-use Rattle.erased.proofs.Cycle.{facts, tree-is, ready-as, evaluates-as, constant-evaluates, has-variable, variable-evaluates, has-current, current-evaluates, unary-ready, has-unary, unary-evaluates, binary-first, binary-second, has-binary, binary-evaluates, lazy-first, lazy-next, lazy-error, lazy-settled, lazy-second, choice-test, choice-first, choice-other, choice-error, choice-yes, choice-no}
+use Rattle.erased.proofs.Cycle.{facts, tree-is, ready-as, evaluates-as, constant-evaluates, has-variable, variable-evaluates, has-current, current-evaluates, unary-ready, has-unary, unary-evaluates, binary-first, binary-second, first-under, has-binary, binary-evaluates, lazy-first, lazy-next, lazy-error, lazy-settled, lazy-second, choice-test, choice-first, choice-other, choice-error, choice-yes, choice-no}
 use Prim.Native.Nat.{ℕ, _<_}
 use borrow.Fn.Kinds.{In}
 use borrow.Fn.PlainCycle.{Measures, is, falls, and}
@@ -44,6 +44,7 @@ use Rattle.erased.proofs.leaves.copied.Reads as copied-reads
 use Rattle.erased.proofs.leaves.fetch.Reads as fetch-reads
 use Rattle.erased.proofs.operate.binary.Reads as binary-reads
 use Rattle.erased.proofs.operate.unary.Reads as unary-reads
+use Rattle.erased.proofs.quick.leaf.Reads as leaf-reads
 use Rattle.erased.proofs.tally.concluded.Reads as concluded-reads
 use Rattle.erased.proofs.tally.tallied.Reads as tallied-reads
 use Rattle.profile.proofs.row.expression_row.Reads as expression-row-reads
@@ -99,7 +100,7 @@ abbrev choice-calls : ℕ → choice-lts.Claims
 choice-calls t = (eval-below t, eval.Post, truth-of-reads.Asked, truth-of-reads.Learnt)
 
 abbrev eval-calls : ℕ → eval-lts.Claims
-eval-calls t = (expression-row-reads.Asked, expression-row-reads.Learnt, constant-reads.Asked, constant-reads.Learnt, fetch-reads.Asked, fetch-reads.Learnt, copied-reads.Asked, copied-reads.Learnt, eval-below t, eval.Post, unary-reads.Asked, unary-reads.Learnt, binary-reads.Asked, binary-reads.Learnt, lazy-below t, lazy.Post, choice-below t, choice.Post, all-below t, all.Post)
+eval-calls t = (expression-row-reads.Asked, expression-row-reads.Learnt, constant-reads.Asked, constant-reads.Learnt, fetch-reads.Asked, fetch-reads.Learnt, copied-reads.Asked, copied-reads.Learnt, eval-below t, eval.Post, unary-reads.Asked, unary-reads.Learnt, leaf-reads.Asked, leaf-reads.Learnt, binary-reads.Asked, binary-reads.Learnt, lazy-below t, lazy.Post, choice-below t, choice.Post, all-below t, all.Post)
 
 abbrev lazy-calls : ℕ → lazy-lts.Claims
 lazy-calls t = (eval-below t, eval.Post, truth-of-reads.Asked, truth-of-reads.Learnt)
@@ -273,6 +274,48 @@ eval-eval-requires-2 t c κs =
     let r = ready-as (tree-is (c .before .before .before .before .before .before .before .before .pre .1 .0 .world) (c .before .before .before .before .before .before .before .before .pre .1 .1 .0) s) (c .before .before .before .before .before .before .before .before .pre .1 .0) in
     (omega (arith, c .before .before .before .before .before .before .before .before .pre .0, f .0), (binary-first (c .before .before .before .before .before .before .before .before .pre .1 .1 .0) (f .0) (f .1) r, (omega (arith, f .0, c .before .before .before .before .before .before .before .before .pre .1 .1 .0), omega (arith, c .before .before .before .before .before .before .before .before .pre .1 .1 .1, f .0))))
 
+eval-sub-leaf : (t : ℕ) → eval-lts.Need-sub-leaf (eval-calls t) (eval-at t) eval.Post
+eval-sub-leaf t c = search needs
+
+eval-part-leaf-start : (t : ℕ) → eval-lts.Need-part-leaf-start (eval-calls t) (eval-at t) eval.Post
+eval-part-leaf-start t c = search needs
+
+eval-part-leaf-end : (t : ℕ) → eval-lts.Need-part-leaf-end (eval-calls t) (eval-at t) eval.Post
+eval-part-leaf-end t c = search needs
+
+eval-leaf-requires : (t : ℕ) → eval-lts.Need-leaf-requires (eval-calls t) (eval-at t) eval.Post
+unfolding RowFacts rowTree
+eval-leaf-requires t c κs =
+    let s = says-as (c .before .before .before .before .before .says3 .given .1) (c .before .before .before .before .before .before .before .expression-row .ensures) in
+    let f = facts (c .before .before .before .before .before .before .before .before .before .before .before .pre .1 .0 .world) (c .before .before .before .before .before .before .before .before .before .before .before .pre .1 .1 .0) s in
+    let r = ready-as (tree-is (c .before .before .before .before .before .before .before .before .before .before .before .pre .1 .0 .world) (c .before .before .before .before .before .before .before .before .before .before .before .pre .1 .1 .0) s) (c .before .before .before .before .before .before .before .before .before .before .before .pre .1 .0) in
+    (binary-second (c .before .before .before .before .before .before .before .before .before .before .before .pre .1 .1 .0) (f .0) (f .1) r, (omega (arith, f .1, c .before .before .before .before .before .before .before .before .before .before .before .pre .1 .1 .0), simp (length-take, length-drop) (omega (arith, c .before .before .before .before .before .before .before .before .before .before .before .pre .1 .1 .1, f .1, c .before .before .eval2 .kept .1 .1 .1 .1 .1 .1 .1 .0))))
+
+eval-binary-requires : (t : ℕ) → eval-lts.Need-binary-requires (eval-calls t) (eval-at t) eval.Post
+unfolding RowFacts rowTree
+eval-binary-requires t c κs =
+    let s = says-as (c .before .before .before .before .before .before .before .before .before .says3 .given .1) (c .before .before .before .before .before .before .before .before .before .before .before .expression-row .ensures) in
+    let f = facts (c .before .before .before .before .before .before .before .before .before .before .before .before .before .before .before .pre .1 .0 .world) (c .before .before .before .before .before .before .before .before .before .before .before .before .before .before .before .pre .1 .1 .0) s in
+    let r = ready-as (tree-is (c .before .before .before .before .before .before .before .before .before .before .before .before .before .before .before .pre .1 .0 .world) (c .before .before .before .before .before .before .before .before .before .before .before .before .before .before .before .pre .1 .1 .0) s) (c .before .before .before .before .before .before .before .before .before .before .before .before .before .before .before .pre .1 .0) in
+    let long : 64 ≤ length (c .before .before .before .before .before .before .eval2 .last .1 .1 .1 .1 .1 .1 .1 .0) = omega (arith, c .before .before .before .before .before .before .before .before .before .before .before .before .before .before .before .pre .1 .1 .1, c .before .before .before .before .before .before .eval2 .kept .1 .1 .1 .1 .1 .1 .1 .0) in (
+      has-binary (c .before .before .before .before .before .before .before .before .before .before .before .before .before .before .before .pre .1 .1 .0) (f .0) (f .1) (c .before .before .before .before .before .before .eval2 .last .1 .1 .1 .1 .1 .1 .1 .0) (c .before .before .before .leaf .last .1 .1 .1 .1 .1 .1 .1 .0) _ long (c .before .before .before .before .before .before .eval2 .ensures) (c .before .before .before .leaf .ensures .evaluates (c .before .if1 .taken)) r,
+      (
+        (layout-room (c .before .before .before .before .before .before .before .before .before .before .before .before .before .before .before .pre .1 .0 .world) (c .before .before .before .before .before .before .before .before .before .before .before .before .before .before .before .pre .1 .1 .0), layout-room (c .before .before .before .before .before .before .before .before .before .before .before .before .before .before .before .pre .1 .0 .world) (omega (arith, f .0, c .before .before .before .before .before .before .before .before .before .before .before .before .before .before .before .pre .1 .1 .0)), layout-room (c .before .before .before .before .before .before .before .before .before .before .before .before .before .before .before .pre .1 .0 .world) (omega (arith, f .1, c .before .before .before .before .before .before .before .before .before .before .before .before .before .before .before .pre .1 .1 .0))),
+        both-long (c .before .before .before .before .before .before .eval2 .last .1 .1 .1 .1 .1 .1 .1 .0) (c .before .before .before .leaf .last .1 .1 .1 .1 .1 .1 .1 .0) _ long (omega (arith, c .before .before .before .before .before .before .before .before .before .before .before .before .before .before .before .pre .1 .1 .1, c .before .before .before .before .before .before .eval2 .kept .1 .1 .1 .1 .1 .1 .1 .0, simp (length-take, length-drop) at (c .before .before .before .leaf .kept .1 .1 .1 .1 .1 .1 .1 .0))),
+      ),
+    )
+
+eval-same-length : (t : ℕ) → eval-lts.Need-same-length (eval-calls t) (eval-at t) eval.Post
+eval-same-length t c = search needs
+
+eval-returns : (t : ℕ) → eval-lts.Need-returns (eval-calls t) (eval-at t) eval.Post
+unfolding RowFacts rowTree
+eval-returns t c =
+    let s = says-as (c .before .before .before .before .before .before .before .before .before .before .before .says3 .given .1) (c .before .before .before .before .before .before .before .before .before .before .before .before .before .expression-row .ensures) in
+    let f = facts (c .before .before .before .before .before .before .before .before .before .before .before .before .before .before .before .before .before .pre .1 .0 .world) (c .before .before .before .before .before .before .before .before .before .before .before .before .before .before .before .before .before .pre .1 .1 .0) s in
+    let long : 64 ≤ length (c .before .before .before .before .before .before .before .before .eval2 .last .1 .1 .1 .1 .1 .1 .1 .0) = omega (arith, c .before .before .before .before .before .before .before .before .before .before .before .before .before .before .before .before .before .pre .1 .1 .1, c .before .before .before .before .before .before .before .before .eval2 .kept .1 .1 .1 .1 .1 .1 .1 .0) in
+    evaluates-as (tree-is (c .before .before .before .before .before .before .before .before .before .before .before .before .before .before .before .before .before .pre .1 .0 .world) (c .before .before .before .before .before .before .before .before .before .before .before .before .before .before .before .before .before .pre .1 .1 .0) s) (binary-evaluates (c .before .before .before .before .before .before .before .before .before .before .before .before .before .before .before .before .before .pre .1 .1 .0) (f .0) (f .1) (c .before .before .before .before .before .before .before .before .eval2 .last .1 .1 .1 .1 .1 .1 .1 .0) (c .before .before .before .before .before .leaf .last .1 .1 .1 .1 .1 .1 .1 .0) _ long (c .before .before .before .before .before .before .before .before .eval2 .ensures) (c .before .before .before .before .before .leaf .ensures .evaluates (c .before .before .before .if1 .taken)) (c .before .binary .ensures))
+
 eval-sub-eval : (t : ℕ) → eval-lts.Need-sub-eval (eval-calls t) (eval-at t) eval.Post
 eval-sub-eval t c = search needs
 
@@ -285,22 +328,26 @@ eval-part-eval-end t c = search needs
 eval-eval-requires-3 : (t : ℕ) → eval-lts.Need-eval-requires-3 (eval-calls t) (eval-at t) eval.Post
 unfolding RowFacts rowTree
 eval-eval-requires-3 t c κs =
-    let s = says-as (c .before .before .before .before .before .says3 .given .1) (c .before .before .before .before .before .before .before .expression-row .ensures) in
-    let f = facts (c .before .before .before .before .before .before .before .before .before .before .before .pre .1 .0 .world) (c .before .before .before .before .before .before .before .before .before .before .before .pre .1 .1 .0) s in
-    let r = ready-as (tree-is (c .before .before .before .before .before .before .before .before .before .before .before .pre .1 .0 .world) (c .before .before .before .before .before .before .before .before .before .before .before .pre .1 .1 .0) s) (c .before .before .before .before .before .before .before .before .before .before .before .pre .1 .0) in
-    (omega (arith, c .before .before .before .before .before .before .before .before .before .before .before .pre .0, f .1), (binary-second (c .before .before .before .before .before .before .before .before .before .before .before .pre .1 .1 .0) (f .0) (f .1) r, (omega (arith, f .1, c .before .before .before .before .before .before .before .before .before .before .before .pre .1 .1 .0), simp (length-take, length-drop) (omega (arith, c .before .before .before .before .before .before .before .before .before .before .before .pre .1 .1 .1, f .1, c .before .before .eval2 .kept .1 .1 .1 .1 .1 .1 .1 .0)))))
+    let s = says-as (c .before .before .before .before .before .before .before .before .before .says3 .given .1) (c .before .before .before .before .before .before .before .before .before .before .before .expression-row .ensures) in
+    let f = facts (c .before .before .before .before .before .before .before .before .before .before .before .before .before .before .before .pre .1 .0 .world) (c .before .before .before .before .before .before .before .before .before .before .before .before .before .before .before .pre .1 .1 .0) s in
+    let r = ready-as (tree-is (c .before .before .before .before .before .before .before .before .before .before .before .before .before .before .before .pre .1 .0 .world) (c .before .before .before .before .before .before .before .before .before .before .before .before .before .before .before .pre .1 .1 .0) s) (c .before .before .before .before .before .before .before .before .before .before .before .before .before .before .before .pre .1 .0) in
+    (omega (arith, c .before .before .before .before .before .before .before .before .before .before .before .before .before .before .before .pre .0, f .1), (binary-second (c .before .before .before .before .before .before .before .before .before .before .before .before .before .before .before .pre .1 .1 .0) (f .0) (f .1) r, (omega (arith, f .1, c .before .before .before .before .before .before .before .before .before .before .before .before .before .before .before .pre .1 .1 .0), simp (length-append, length-take, length-drop) (omega (arith, c .before .before .before .before .before .before .before .before .before .before .before .before .before .before .before .pre .1 .1 .1, f .1, c .before .before .before .before .before .before .eval2 .kept .1 .1 .1 .1 .1 .1 .1 .0, simp (length-take, length-drop) at (c .before .before .before .leaf .kept .1 .1 .1 .1 .1 .1 .1 .0))))))
 
-eval-binary-requires : (t : ℕ) → eval-lts.Need-binary-requires (eval-calls t) (eval-at t) eval.Post
+eval-binary-requires-2 : (t : ℕ) → eval-lts.Need-binary-requires-2 (eval-calls t) (eval-at t) eval.Post
 unfolding RowFacts rowTree
-eval-binary-requires t c κs =
-    let s = says-as (c .before .before .before .before .before .before .before .before .says3 .given .1) (c .before .before .before .before .before .before .before .before .before .before .expression-row .ensures) in
-    let f = facts (c .before .before .before .before .before .before .before .before .before .before .before .before .before .before .pre .1 .0 .world) (c .before .before .before .before .before .before .before .before .before .before .before .before .before .before .pre .1 .1 .0) s in
-    let r = ready-as (tree-is (c .before .before .before .before .before .before .before .before .before .before .before .before .before .before .pre .1 .0 .world) (c .before .before .before .before .before .before .before .before .before .before .before .before .before .before .pre .1 .1 .0) s) (c .before .before .before .before .before .before .before .before .before .before .before .before .before .before .pre .1 .0) in
-    let long : 64 ≤ length (c .before .before .before .before .before .eval2 .last .1 .1 .1 .1 .1 .1 .1 .0) = omega (arith, c .before .before .before .before .before .before .before .before .before .before .before .before .before .before .pre .1 .1 .1, c .before .before .before .before .before .eval2 .kept .1 .1 .1 .1 .1 .1 .1 .0) in (
-      has-binary (c .before .before .before .before .before .before .before .before .before .before .before .before .before .before .pre .1 .1 .0) (f .0) (f .1) (c .before .before .before .before .before .eval2 .last .1 .1 .1 .1 .1 .1 .1 .0) (c .before .before .eval3 .last .1 .1 .1 .1 .1 .1 .1 .0) _ long (c .before .before .before .before .before .eval2 .ensures) (c .before .before .eval3 .ensures) r,
+eval-binary-requires-2 t c κs =
+    let s = says-as (c .before .before .before .before .before .before .before .before .before .before .before .before .says3 .given .1) (c .before .before .before .before .before .before .before .before .before .before .before .before .before .before .expression-row .ensures) in
+    let f = facts (c .before .before .before .before .before .before .before .before .before .before .before .before .before .before .before .before .before .before .pre .1 .0 .world) (c .before .before .before .before .before .before .before .before .before .before .before .before .before .before .before .before .before .before .pre .1 .1 .0) s in
+    let r = ready-as (tree-is (c .before .before .before .before .before .before .before .before .before .before .before .before .before .before .before .before .before .before .pre .1 .0 .world) (c .before .before .before .before .before .before .before .before .before .before .before .before .before .before .before .before .before .before .pre .1 .1 .0) s) (c .before .before .before .before .before .before .before .before .before .before .before .before .before .before .before .before .before .before .pre .1 .0) in
+    let low : 64 ≤ length (c .before .before .before .before .before .before .before .before .before .eval2 .last .1 .1 .1 .1 .1 .1 .1 .0) = omega (arith, c .before .before .before .before .before .before .before .before .before .before .before .before .before .before .before .before .before .before .pre .1 .1 .1, c .before .before .before .before .before .before .before .before .before .eval2 .kept .1 .1 .1 .1 .1 .1 .1 .0) in
+    let tried = take 64 (c .before .before .before .before .before .before .before .before .before .eval2 .last .1 .1 .1 .1 .1 .1 .1 .0) ++ (c .before .before .before .before .before .before .leaf .last .1 .1 .1 .1 .1 .1 .1 .0 ++ drop (length (c .before .before .before .before .before .before .before .before .before .eval2 .last .1 .1 .1 .1 .1 .1 .1 .0) - 64) (drop 64 (c .before .before .before .before .before .before .before .before .before .eval2 .last .1 .1 .1 .1 .1 .1 .1 .0))) in
+    let both = both-long (c .before .before .before .before .before .before .before .before .before .eval2 .last .1 .1 .1 .1 .1 .1 .1 .0) (c .before .before .before .before .before .before .leaf .last .1 .1 .1 .1 .1 .1 .1 .0) (drop (length (c .before .before .before .before .before .before .before .before .before .eval2 .last .1 .1 .1 .1 .1 .1 .1 .0) - 64) (drop 64 (c .before .before .before .before .before .before .before .before .before .eval2 .last .1 .1 .1 .1 .1 .1 .1 .0))) low (omega (arith, c .before .before .before .before .before .before .before .before .before .before .before .before .before .before .before .before .before .before .pre .1 .1 .1, c .before .before .before .before .before .before .before .before .before .eval2 .kept .1 .1 .1 .1 .1 .1 .1 .0, simp (length-take, length-drop) at (c .before .before .before .before .before .before .leaf .kept .1 .1 .1 .1 .1 .1 .1 .0))) in
+    let long : 64 ≤ length tried = omega (arith, both) in
+    let first = first-under (c .before .before .before .before .before .before .before .before .before .before .before .before .before .before .before .before .before .before .pre .1 .1 .0) (f .0) (f .1) (c .before .before .before .before .before .before .before .before .before .eval2 .last .1 .1 .1 .1 .1 .1 .1 .0) (c .before .before .before .before .before .before .leaf .last .1 .1 .1 .1 .1 .1 .1 .0) _ low (c .before .before .before .before .before .before .before .before .before .eval2 .ensures) in (
+      has-binary (c .before .before .before .before .before .before .before .before .before .before .before .before .before .before .before .before .before .before .pre .1 .1 .0) (f .0) (f .1) tried (c .before .before .eval3 .last .1 .1 .1 .1 .1 .1 .1 .0) _ long first (c .before .before .eval3 .ensures) r,
       (
-        (layout-room (c .before .before .before .before .before .before .before .before .before .before .before .before .before .before .pre .1 .0 .world) (c .before .before .before .before .before .before .before .before .before .before .before .before .before .before .pre .1 .1 .0), layout-room (c .before .before .before .before .before .before .before .before .before .before .before .before .before .before .pre .1 .0 .world) (omega (arith, f .0, c .before .before .before .before .before .before .before .before .before .before .before .before .before .before .pre .1 .1 .0)), layout-room (c .before .before .before .before .before .before .before .before .before .before .before .before .before .before .pre .1 .0 .world) (omega (arith, f .1, c .before .before .before .before .before .before .before .before .before .before .before .before .before .before .pre .1 .1 .0))),
-        both-long (c .before .before .before .before .before .eval2 .last .1 .1 .1 .1 .1 .1 .1 .0) (c .before .before .eval3 .last .1 .1 .1 .1 .1 .1 .1 .0) _ long (omega (arith, c .before .before .before .before .before .before .before .before .before .before .before .before .before .before .pre .1 .1 .1, c .before .before .before .before .before .eval2 .kept .1 .1 .1 .1 .1 .1 .1 .0, simp (length-take, length-drop) at (c .before .before .eval3 .kept .1 .1 .1 .1 .1 .1 .1 .0))),
+        (layout-room (c .before .before .before .before .before .before .before .before .before .before .before .before .before .before .before .before .before .before .pre .1 .0 .world) (c .before .before .before .before .before .before .before .before .before .before .before .before .before .before .before .before .before .before .pre .1 .1 .0), layout-room (c .before .before .before .before .before .before .before .before .before .before .before .before .before .before .before .before .before .before .pre .1 .0 .world) (omega (arith, f .0, c .before .before .before .before .before .before .before .before .before .before .before .before .before .before .before .before .before .before .pre .1 .1 .0)), layout-room (c .before .before .before .before .before .before .before .before .before .before .before .before .before .before .before .before .before .before .pre .1 .0 .world) (omega (arith, f .1, c .before .before .before .before .before .before .before .before .before .before .before .before .before .before .before .before .before .before .pre .1 .1 .0))),
+        both-long tried (c .before .before .eval3 .last .1 .1 .1 .1 .1 .1 .1 .0) _ long (omega (arith, both, simp (length-take, length-drop) at (c .before .before .eval3 .kept .1 .1 .1 .1 .1 .1 .1 .0))),
       ),
     )
 
@@ -337,43 +384,33 @@ eval-all-requires t c κs =
     let r = ready-as (tree-is (c .before .before .before .before .before .before .before .before .pre .1 .0 .world) (c .before .before .before .before .before .before .before .before .pre .1 .1 .0) s) (c .before .before .before .before .before .before .before .before .pre .1 .0) in
     (omega (arith, c .before .before .before .before .before .before .before .before .pre .0), (r, ((f, c .before .before .before .before .before .before .before .before .pre .1 .1 .0), omega (arith, c .before .before .before .before .before .before .before .before .pre .1 .1 .1))))
 
-eval-same-length : (t : ℕ) → eval-lts.Need-same-length (eval-calls t) (eval-at t) eval.Post
-eval-same-length t c = search needs
-
-eval-returns : (t : ℕ) → eval-lts.Need-returns (eval-calls t) (eval-at t) eval.Post
-unfolding rowTree
-eval-returns t c =
-    let s = says-as (c .before .before .before .enum-told .given .1) (c .before .before .before .before .before .expression-row .ensures) in
-    evaluates-as (tree-is (c .before .before .before .before .before .before .before .before .before .pre .1 .0 .world) (c .before .before .before .before .before .before .before .before .before .pre .1 .1 .0) s) (constant-evaluates (c .before .constant .ensures))
-
 eval-same-length-2 : (t : ℕ) → eval-lts.Need-same-length-2 (eval-calls t) (eval-at t) eval.Post
 eval-same-length-2 t c = search needs
 
 eval-returns-2 : (t : ℕ) → eval-lts.Need-returns-2 (eval-calls t) (eval-at t) eval.Post
-unfolding RowFacts rowTree
+unfolding rowTree
 eval-returns-2 t c =
-    let s = says-as (c .before .before .before .before .says .given .1) (c .before .before .before .before .before .before .expression-row .ensures) in
-    let f = facts (c .before .before .before .before .before .before .before .before .before .before .pre .1 .0 .world) (c .before .before .before .before .before .before .before .before .before .before .pre .1 .1 .0) s in
-    evaluates-as (tree-is (c .before .before .before .before .before .before .before .before .before .before .pre .1 .0 .world) (c .before .before .before .before .before .before .before .before .before .before .pre .1 .1 .0) s) (variable-evaluates f (c .before .fetch .ensures))
+    let s = says-as (c .before .before .before .enum-told .given .1) (c .before .before .before .before .before .expression-row .ensures) in
+    evaluates-as (tree-is (c .before .before .before .before .before .before .before .before .before .pre .1 .0 .world) (c .before .before .before .before .before .before .before .before .before .pre .1 .1 .0) s) (constant-evaluates (c .before .constant .ensures))
 
 eval-same-length-3 : (t : ℕ) → eval-lts.Need-same-length-3 (eval-calls t) (eval-at t) eval.Post
 eval-same-length-3 t c = search needs
 
 eval-returns-3 : (t : ℕ) → eval-lts.Need-returns-3 (eval-calls t) (eval-at t) eval.Post
-unfolding rowTree
+unfolding RowFacts rowTree
 eval-returns-3 t c =
-    let s = says-as (c .before .before .before .enum-told2 .given .1) (c .before .before .before .before .before .expression-row .ensures) in
-    evaluates-as (tree-is (c .before .before .before .before .before .before .before .before .before .pre .1 .0 .world) (c .before .before .before .before .before .before .before .before .before .pre .1 .1 .0) s) (current-evaluates (c .before .copied .ensures))
+    let s = says-as (c .before .before .before .before .says .given .1) (c .before .before .before .before .before .before .expression-row .ensures) in
+    let f = facts (c .before .before .before .before .before .before .before .before .before .before .pre .1 .0 .world) (c .before .before .before .before .before .before .before .before .before .before .pre .1 .1 .0) s in
+    evaluates-as (tree-is (c .before .before .before .before .before .before .before .before .before .before .pre .1 .0 .world) (c .before .before .before .before .before .before .before .before .before .before .pre .1 .1 .0) s) (variable-evaluates f (c .before .fetch .ensures))
 
 eval-same-length-4 : (t : ℕ) → eval-lts.Need-same-length-4 (eval-calls t) (eval-at t) eval.Post
 eval-same-length-4 t c = search needs
 
 eval-returns-4 : (t : ℕ) → eval-lts.Need-returns-4 (eval-calls t) (eval-at t) eval.Post
-unfolding RowFacts rowTree
+unfolding rowTree
 eval-returns-4 t c =
-    let s = says-as (c .before .before .before .before .before .before .before .says2 .given .1) (c .before .before .before .before .before .before .before .before .before .expression-row .ensures) in
-    let f = facts (c .before .before .before .before .before .before .before .before .before .before .before .before .before .pre .1 .0 .world) (c .before .before .before .before .before .before .before .before .before .before .before .before .before .pre .1 .1 .0) s in
-    evaluates-as (tree-is (c .before .before .before .before .before .before .before .before .before .before .before .before .before .pre .1 .0 .world) (c .before .before .before .before .before .before .before .before .before .before .before .before .before .pre .1 .1 .0) s) (unary-evaluates (c .before .before .before .before .before .before .before .before .before .before .before .before .before .pre .1 .1 .0) f (c .before .before .before .before .eval .ensures) (c .before .unary .ensures))
+    let s = says-as (c .before .before .before .enum-told2 .given .1) (c .before .before .before .before .before .expression-row .ensures) in
+    evaluates-as (tree-is (c .before .before .before .before .before .before .before .before .before .pre .1 .0 .world) (c .before .before .before .before .before .before .before .before .before .pre .1 .1 .0) s) (current-evaluates (c .before .copied .ensures))
 
 eval-same-length-5 : (t : ℕ) → eval-lts.Need-same-length-5 (eval-calls t) (eval-at t) eval.Post
 eval-same-length-5 t c = search needs
@@ -381,19 +418,24 @@ eval-same-length-5 t c = search needs
 eval-returns-5 : (t : ℕ) → eval-lts.Need-returns-5 (eval-calls t) (eval-at t) eval.Post
 unfolding RowFacts rowTree
 eval-returns-5 t c =
-    let s = says-as (c .before .before .before .before .before .before .before .before .before .before .says3 .given .1) (c .before .before .before .before .before .before .before .before .before .before .before .before .expression-row .ensures) in
-    let f = facts (c .before .before .before .before .before .before .before .before .before .before .before .before .before .before .before .before .pre .1 .0 .world) (c .before .before .before .before .before .before .before .before .before .before .before .before .before .before .before .before .pre .1 .1 .0) s in
-    let long : 64 ≤ length (c .before .before .before .before .before .before .before .eval2 .last .1 .1 .1 .1 .1 .1 .1 .0) = omega (arith, c .before .before .before .before .before .before .before .before .before .before .before .before .before .before .before .before .pre .1 .1 .1, c .before .before .before .before .before .before .before .eval2 .kept .1 .1 .1 .1 .1 .1 .1 .0) in
-    evaluates-as (tree-is (c .before .before .before .before .before .before .before .before .before .before .before .before .before .before .before .before .pre .1 .0 .world) (c .before .before .before .before .before .before .before .before .before .before .before .before .before .before .before .before .pre .1 .1 .0) s) (binary-evaluates (c .before .before .before .before .before .before .before .before .before .before .before .before .before .before .before .before .pre .1 .1 .0) (f .0) (f .1) (c .before .before .before .before .before .before .before .eval2 .last .1 .1 .1 .1 .1 .1 .1 .0) (c .before .before .before .before .eval3 .last .1 .1 .1 .1 .1 .1 .1 .0) _ long (c .before .before .before .before .before .before .before .eval2 .ensures) (c .before .before .before .before .eval3 .ensures) (c .before .binary .ensures))
+    let s = says-as (c .before .before .before .before .before .before .before .says2 .given .1) (c .before .before .before .before .before .before .before .before .before .expression-row .ensures) in
+    let f = facts (c .before .before .before .before .before .before .before .before .before .before .before .before .before .pre .1 .0 .world) (c .before .before .before .before .before .before .before .before .before .before .before .before .before .pre .1 .1 .0) s in
+    evaluates-as (tree-is (c .before .before .before .before .before .before .before .before .before .before .before .before .before .pre .1 .0 .world) (c .before .before .before .before .before .before .before .before .before .before .before .before .before .pre .1 .1 .0) s) (unary-evaluates (c .before .before .before .before .before .before .before .before .before .before .before .before .before .pre .1 .1 .0) f (c .before .before .before .before .eval .ensures) (c .before .unary .ensures))
 
 eval-same-length-6 : (t : ℕ) → eval-lts.Need-same-length-6 (eval-calls t) (eval-at t) eval.Post
 eval-same-length-6 t c = search needs
 
 eval-returns-6 : (t : ℕ) → eval-lts.Need-returns-6 (eval-calls t) (eval-at t) eval.Post
-unfolding rowTree
+unfolding RowFacts rowTree
 eval-returns-6 t c =
-    let s = says-as (c .before .before .before .before .says4 .given .1) (c .before .before .before .before .before .before .expression-row .ensures) in
-    evaluates-as (tree-is (c .before .before .before .before .before .before .before .before .before .before .pre .1 .0 .world) (c .before .before .before .before .before .before .before .before .before .before .pre .1 .1 .0) s) (c .before .lazy .ensures)
+    let s = says-as (c .before .before .before .before .before .before .before .before .before .before .before .before .before .before .says3 .given .1) (c .before .before .before .before .before .before .before .before .before .before .before .before .before .before .before .before .expression-row .ensures) in
+    let f = facts (c .before .before .before .before .before .before .before .before .before .before .before .before .before .before .before .before .before .before .before .before .pre .1 .0 .world) (c .before .before .before .before .before .before .before .before .before .before .before .before .before .before .before .before .before .before .before .before .pre .1 .1 .0) s in
+    let low : 64 ≤ length (c .before .before .before .before .before .before .before .before .before .before .before .eval2 .last .1 .1 .1 .1 .1 .1 .1 .0) = omega (arith, c .before .before .before .before .before .before .before .before .before .before .before .before .before .before .before .before .before .before .before .before .pre .1 .1 .1, c .before .before .before .before .before .before .before .before .before .before .before .eval2 .kept .1 .1 .1 .1 .1 .1 .1 .0) in
+    let tried = take 64 (c .before .before .before .before .before .before .before .before .before .before .before .eval2 .last .1 .1 .1 .1 .1 .1 .1 .0) ++ (c .before .before .before .before .before .before .before .before .leaf .last .1 .1 .1 .1 .1 .1 .1 .0 ++ drop (length (c .before .before .before .before .before .before .before .before .before .before .before .eval2 .last .1 .1 .1 .1 .1 .1 .1 .0) - 64) (drop 64 (c .before .before .before .before .before .before .before .before .before .before .before .eval2 .last .1 .1 .1 .1 .1 .1 .1 .0))) in
+    let both = both-long (c .before .before .before .before .before .before .before .before .before .before .before .eval2 .last .1 .1 .1 .1 .1 .1 .1 .0) (c .before .before .before .before .before .before .before .before .leaf .last .1 .1 .1 .1 .1 .1 .1 .0) (drop (length (c .before .before .before .before .before .before .before .before .before .before .before .eval2 .last .1 .1 .1 .1 .1 .1 .1 .0) - 64) (drop 64 (c .before .before .before .before .before .before .before .before .before .before .before .eval2 .last .1 .1 .1 .1 .1 .1 .1 .0))) low (omega (arith, c .before .before .before .before .before .before .before .before .before .before .before .before .before .before .before .before .before .before .before .before .pre .1 .1 .1, c .before .before .before .before .before .before .before .before .before .before .before .eval2 .kept .1 .1 .1 .1 .1 .1 .1 .0, simp (length-take, length-drop) at (c .before .before .before .before .before .before .before .before .leaf .kept .1 .1 .1 .1 .1 .1 .1 .0))) in
+    let long : 64 ≤ length tried = omega (arith, both) in
+    let first = first-under (c .before .before .before .before .before .before .before .before .before .before .before .before .before .before .before .before .before .before .before .before .pre .1 .1 .0) (f .0) (f .1) (c .before .before .before .before .before .before .before .before .before .before .before .eval2 .last .1 .1 .1 .1 .1 .1 .1 .0) (c .before .before .before .before .before .before .before .before .leaf .last .1 .1 .1 .1 .1 .1 .1 .0) _ low (c .before .before .before .before .before .before .before .before .before .before .before .eval2 .ensures) in
+    evaluates-as (tree-is (c .before .before .before .before .before .before .before .before .before .before .before .before .before .before .before .before .before .before .before .before .pre .1 .0 .world) (c .before .before .before .before .before .before .before .before .before .before .before .before .before .before .before .before .before .before .before .before .pre .1 .1 .0) s) (binary-evaluates (c .before .before .before .before .before .before .before .before .before .before .before .before .before .before .before .before .before .before .before .before .pre .1 .1 .0) (f .0) (f .1) tried (c .before .before .before .before .eval3 .last .1 .1 .1 .1 .1 .1 .1 .0) _ long first (c .before .before .before .before .eval3 .ensures) (c .before .binary2 .ensures))
 
 eval-same-length-7 : (t : ℕ) → eval-lts.Need-same-length-7 (eval-calls t) (eval-at t) eval.Post
 eval-same-length-7 t c = search needs
@@ -401,8 +443,8 @@ eval-same-length-7 t c = search needs
 eval-returns-7 : (t : ℕ) → eval-lts.Need-returns-7 (eval-calls t) (eval-at t) eval.Post
 unfolding rowTree
 eval-returns-7 t c =
-    let s = says-as (c .before .before .before .before .says5 .given .1) (c .before .before .before .before .before .before .expression-row .ensures) in
-    evaluates-as (tree-is (c .before .before .before .before .before .before .before .before .before .before .pre .1 .0 .world) (c .before .before .before .before .before .before .before .before .before .before .pre .1 .1 .0) s) (c .before .choice .ensures)
+    let s = says-as (c .before .before .before .before .says4 .given .1) (c .before .before .before .before .before .before .expression-row .ensures) in
+    evaluates-as (tree-is (c .before .before .before .before .before .before .before .before .before .before .pre .1 .0 .world) (c .before .before .before .before .before .before .before .before .before .before .pre .1 .1 .0) s) (c .before .lazy .ensures)
 
 eval-same-length-8 : (t : ℕ) → eval-lts.Need-same-length-8 (eval-calls t) (eval-at t) eval.Post
 eval-same-length-8 t c = search needs
@@ -410,6 +452,15 @@ eval-same-length-8 t c = search needs
 eval-returns-8 : (t : ℕ) → eval-lts.Need-returns-8 (eval-calls t) (eval-at t) eval.Post
 unfolding rowTree
 eval-returns-8 t c =
+    let s = says-as (c .before .before .before .before .says5 .given .1) (c .before .before .before .before .before .before .expression-row .ensures) in
+    evaluates-as (tree-is (c .before .before .before .before .before .before .before .before .before .before .pre .1 .0 .world) (c .before .before .before .before .before .before .before .before .before .before .pre .1 .1 .0) s) (c .before .choice .ensures)
+
+eval-same-length-9 : (t : ℕ) → eval-lts.Need-same-length-9 (eval-calls t) (eval-at t) eval.Post
+eval-same-length-9 t c = search needs
+
+eval-returns-9 : (t : ℕ) → eval-lts.Need-returns-9 (eval-calls t) (eval-at t) eval.Post
+unfolding rowTree
+eval-returns-9 t c =
     let s = says-as (c .before .before .before .before .says6 .given .1) (c .before .before .before .before .before .before .expression-row .ensures) in
     evaluates-as (tree-is (c .before .before .before .before .before .before .before .before .before .before .pre .1 .0 .world) (c .before .before .before .before .before .before .before .before .before .before .pre .1 .1 .0) s) (c .before .all .ensures)
 
@@ -489,19 +540,24 @@ pub +all+choice+eval+lazy-spec : {M : Type 1} → statement M
     (eval-unary-requires t)
     (eval-enum-known-says-3 t)
     (eval-eval-requires-2 t)
+    (eval-sub-leaf t)
+    (eval-part-leaf-start t)
+    (eval-part-leaf-end t)
+    (eval-leaf-requires t)
+    (eval-binary-requires t)
+    (eval-same-length t)
+    (eval-returns t)
     (eval-sub-eval t)
     (eval-part-eval-start t)
     (eval-part-eval-end t)
     (eval-eval-requires-3 t)
-    (eval-binary-requires t)
+    (eval-binary-requires-2 t)
     (eval-enum-known-says-4 t)
     (eval-lazy-requires t)
     (eval-enum-known-says-5 t)
     (eval-choice-requires t)
     (eval-enum-known-says-6 t)
     (eval-all-requires t)
-    (eval-same-length t)
-    (eval-returns t)
     (eval-same-length-2 t)
     (eval-returns-2 t)
     (eval-same-length-3 t)
@@ -515,7 +571,9 @@ pub +all+choice+eval+lazy-spec : {M : Type 1} → statement M
     (eval-same-length-7 t)
     (eval-returns-7 t)
     (eval-same-length-8 t)
-    (eval-returns-8 t))
+    (eval-returns-8 t)
+    (eval-same-length-9 t)
+    (eval-returns-9 t))
     λ t. lazy-lts.spec (lazy-calls t) (lazy-at t)
     lazy.Post
     (lazy-eval-requires t)
