@@ -89,13 +89,7 @@ fn simple_of(row: ExpressionRow) -> Simple
 {
     match row {
         ExpressionRow::Constant(s) => s,
-        ExpressionRow::Variable(_) => Simple::Boolean,
-        ExpressionRow::Current => Simple::Boolean,
-        ExpressionRow::Unary(_, _) => Simple::Boolean,
-        ExpressionRow::Binary(_, _, _) => Simple::Boolean,
-        ExpressionRow::Lazy(_, _, _) => Simple::Boolean,
-        ExpressionRow::Choice(_, _, _) => Simple::Boolean,
-        ExpressionRow::AllList(_) => Simple::Boolean,
+        _ => Simple::Boolean,
     }
 }
 

@@ -137,15 +137,13 @@ pub fn check_instruction(
     let table = tables.instructions;
     let i = instruction_row(rows, table, row);
     match i {
-        Row::Skip => settled(0, 0),
         Row::Assign(n, e) => check_assignment(rows, tables, bodies, row, n, e, layout),
         Row::SetYoke(n, y) => {
             let declared = variable_body(rows, tables, bodies, n);
             check_yoke(rows, tables, bodies, y, declared, place, layout)
         }
-        Row::Sequence(_, _) => settled(0, 0),
         Row::Branch(e, _, _) => check_test(rows, tables, bodies, e, place, layout),
         Row::Loop(e, _) => check_test(rows, tables, bodies, e, place, layout),
-        Row::Handle(_, _) => settled(0, 0),
+        _ => settled(0, 0),
     }
 }
