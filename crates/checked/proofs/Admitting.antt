@@ -16,7 +16,7 @@ use Rattle.lingua.specs.Evaluation.{truthOr, evalYoke}
 use Rattle.lingua.specs.Store.{Variable, variableAt, contents, within, admitted, yokeAt}
 use Rattle.lingua.specs.Trees.{yokeTree}
 use Rattle.laws.specs.Outcomes.{is-number, false-is-true}
-use Rattle.rules.specs.declared.tables.Table.{Table}
+use Rattle.decoder.specs.declared.tables.Table.{Table}
 use Rattle.profile.specs.Yokes.{always-is}
 use Rattle.body.specs.Encode.{Holds}
 use Rattle.body.proofs.Tags as tags

@@ -11,7 +11,7 @@ use Rattle.lingua.specs.Outcome.{ok, fail, Result, _>>=_, _>>_}
 use Rattle.lingua.specs.Value.{Composite}
 use Rattle.lingua.specs.Store.{Variable, variableAt, withContent, admitted, assigned, fillAt}
 use Rattle.safety.specs.Stored.{admitted-shows}
-use Rattle.rules.specs.declared.tables.Table.{Table}
+use Rattle.decoder.specs.declared.tables.Table.{Table}
 use Rattle.checked.specs.declared.answer.Evaluated.{Evaluated}
 use Rattle.run.specs.Reached.{lent}
 use Rattle.run.specs.Memory.{Admits}

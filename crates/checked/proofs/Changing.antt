@@ -8,7 +8,7 @@ use lib.ListN.{length, set}
 use Rattle.lingua.specs.Outcome.{ok, Result, _>>_}
 use Rattle.lingua.specs.Store.{Variable, variableAt, withYoke, yokeHolds, yokeChanged, setYokeAt}
 use Rattle.lingua.specs.Trees.{yokeTree}
-use Rattle.rules.specs.declared.tables.Table.{Table}
+use Rattle.decoder.specs.declared.tables.Table.{Table}
 use Rattle.run.specs.Reached.{lent}
 use Rattle.run.specs.Memory.{Admits}
 use Rattle.run.proofs.Storing.{cells-kept, words-changed}

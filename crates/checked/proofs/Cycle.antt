@@ -14,11 +14,11 @@ use Rattle.lingua.specs.Evaluation.{Variables, truthOr, booleanOf, eval}
 use Rattle.lingua.specs.Rows.{tableCount}
 use Rattle.lingua.specs.Store.{Variable, contents}
 use Rattle.lingua.specs.Trees.{expressionTree}
-use Rattle.rules.specs.declared.decode.ExpressionRow.{ExpressionRow as CodeRow}
-use Rattle.rules.specs.Decoded.{connective}
+use Rattle.decoder.specs.declared.decode.ExpressionRow.{ExpressionRow as CodeRow}
+use Rattle.decoder.specs.Decoded.{connective}
 use Rattle.profile.specs.Row.{RowSays}
 use Rattle.profile.specs.Facts.{RowFacts, row-facts, rowTree, row-tree, settled-by}
-use Rattle.rules.specs.declared.tables.Table.{Table}
+use Rattle.decoder.specs.declared.tables.Table.{Table}
 use Rattle.checked.specs.declared.answer.Evaluated.{Evaluated}
 use Rattle.run.specs.declared.steps.Truth.{Truth}
 use Rattle.run.specs.Reached.{Tells}

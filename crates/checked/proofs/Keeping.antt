@@ -13,7 +13,7 @@ use Rattle.lingua.specs.Expression.{Yoke}
 use Rattle.lingua.specs.Store.{Variable, variableAt, withContent, withYoke, cellsIn, statesIn}
 use Rattle.safety.specs.Constants.{Fitting}
 use Rattle.safety.specs.Stored.{replaced}
-use Rattle.rules.specs.declared.tables.Table.{Table}
+use Rattle.decoder.specs.declared.tables.Table.{Table}
 use Rattle.body.specs.Encode.{Holds}
 use Rattle.profile.specs.Yokes.{YokeOf}
 use Rattle.run.specs.Reached.{lent}

@@ -16,8 +16,8 @@ use Rattle.lingua.specs.Evaluation.{eval}
 use Rattle.lingua.specs.Rows.{pairCount}
 use Rattle.lingua.specs.Store.{Variable, variableAt, contents, filledAt}
 use Rattle.lingua.specs.Trees.{expressionTree}
-use Rattle.rules.specs.declared.tables.Table.{Table}
-use Rattle.rules.specs.declared.decode.ExpressionRow.{ExpressionRow as CodeRow}
+use Rattle.decoder.specs.declared.tables.Table.{Table}
+use Rattle.decoder.specs.declared.decode.ExpressionRow.{ExpressionRow as CodeRow}
 use Rattle.profile.specs.Row.{constantOf, RowSays}
 use Rattle.profile.specs.Facts.{rowTree}
 use Rattle.profile.specs.Constants.{ConstantRow, IsCell}

@@ -15,10 +15,10 @@ use Rattle.lingua.specs.Rows.{pairCount}
 use Rattle.lingua.specs.Store.{Variable, variableAt, cellsIn, statesIn}
 use Rattle.safety.specs.Accepted.{AcceptedRows}
 use Rattle.safety.specs.Constants.{Fitting}
-use Rattle.rules.specs.Tables.{IsTable}
+use Rattle.decoder.specs.Tables.{IsTable}
 use Rattle.profile.specs.Variables.{LimitAt}
 use Rattle.profile.specs.Yokes.{YokeOf}
-use Rattle.rules.specs.declared.tables.Table.{Table}
+use Rattle.decoder.specs.declared.tables.Table.{Table}
 use Rattle.body.specs.Encode.{Holds}
 use Rattle.cells.specs.Stack.{Lies, first-place}
 use Rattle.run.specs.Reached.{Lent, Settles}

@@ -2,9 +2,9 @@
 use crate::admit::admitted;
 use crate::admit::unyoked;
 use crate::answer::Evaluated;
+use decoder::tables::Table;
 use lingua::errors::NO_ERROR;
 use lingua::sizes::BODY_CELLS;
-use rules::tables::Table;
 use run::copies::copy;
 use run::part::put;
 use run::words::yoke_of;

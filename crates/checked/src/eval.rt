@@ -17,14 +17,14 @@ use crate::tally::tallied;
 use body::make::element;
 use body::walk::LIST;
 use body::walk::measure_body;
+use decoder::decode::ExpressionRow;
+use decoder::tables::Table;
 use lingua::errors::BOOLEAN_EXPECTED;
 use lingua::errors::LIST_EXPECTED;
 use lingua::errors::NO_ERROR;
 use lingua::sizes::BODY_BYTES;
 use lingua::sizes::BODY_CELLS;
 use profile::row::expression_row;
-use rules::decode::ExpressionRow;
-use rules::tables::Table;
 ghost use mathlib.Core.List.{List};
 ghost use Prim.Native.Nat.{_<_};
 ghost use Rattle.lingua.specs.Value.{Composite};
@@ -32,7 +32,7 @@ ghost use Rattle.lingua.specs.Store.{Variable, contents};
 ghost use Rattle.lingua.specs.Trees.{expressionTree};
 ghost use Rattle.lingua.specs.Evaluation.{eval as meaning};
 ghost use Rattle.lingua.specs.Expression.{lazy as lazyTree, choice as choiceTree, all-list};
-ghost use Rattle.rules.specs.Decoded.{connective};
+ghost use Rattle.decoder.specs.Decoded.{connective};
 ghost use Rattle.checked.specs.Meaning.{World, Current, Asked, Gives};
 
 // What the expression of a row gives, for a current value of a body.

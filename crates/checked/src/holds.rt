@@ -2,11 +2,11 @@
 use crate::answer::truth_of;
 use crate::leaves::declared;
 use crate::yoke::eval_yoke;
+use decoder::tables::Table;
 use lingua::errors::NO_ERROR;
 use lingua::errors::YOKE_EXPECTED;
 use lingua::errors::YOKE_NOT_SATISFIED;
 use lingua::sizes::BODY_CELLS;
-use rules::tables::Table;
 use run::words::is_filled;
 ghost use mathlib.Core.List.{List};
 ghost use Prim.Native.Nat.{_+_, _*_, _<_, _≤_};

@@ -3,6 +3,8 @@
 use body::make::simple;
 use body::operation::simple_binary;
 use body::walk::WORD;
+use decoder::decode::ExpressionRow;
+use decoder::tables::Table;
 use lingua::errors::NO_ERROR;
 use lingua::operations::BinaryOperation;
 use lingua::sizes::BODY_BYTES;
@@ -10,8 +12,6 @@ use lingua::sizes::BODY_CELLS;
 use profile::constants::constant_body;
 use profile::constants::constant_cell;
 use profile::row::expression_row;
-use rules::decode::ExpressionRow;
-use rules::tables::Table;
 use run::words::is_filled;
 ghost use mathlib.Core.Path.{_≡_};
 ghost use mathlib.Core.List.{List};

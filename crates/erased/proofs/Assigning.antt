@@ -25,7 +25,7 @@ use Rattle.safety.specs.Layout.{HoldsIn}
 use Rattle.safety.specs.Programs.{YokesDerived}
 use Rattle.profile.specs.Variables.{LimitAt}
 use Rattle.profile.specs.Yokes.{always-is}
-use Rattle.rules.specs.declared.tables.Table.{Table}
+use Rattle.decoder.specs.declared.tables.Table.{Table}
 use Rattle.cells.proofs.Operands.{lies-as, lies-long}
 use Rattle.cells.proofs.Singles.{number-cell}
 use Rattle.run.specs.Reached.{lent, Settles}

@@ -20,11 +20,11 @@ use Rattle.lingua.specs.Store.{Variable, contents}
 use Rattle.lingua.specs.Trees.{expressionTree}
 use Rattle.lingua.specs.Typing.{Bodies, bodiesOf}
 use Rattle.lingua.specs.Erased.{valuesOf, evalErased}
-use Rattle.rules.specs.declared.decode.ExpressionRow.{ExpressionRow as CodeRow}
-use Rattle.rules.specs.Decoded.{connective}
+use Rattle.decoder.specs.declared.decode.ExpressionRow.{ExpressionRow as CodeRow}
+use Rattle.decoder.specs.Decoded.{connective}
 use Rattle.profile.specs.Row.{constantOf, RowSays}
 use Rattle.profile.specs.Facts.{RowFacts, row-facts, rowTree, row-tree, settled-by}
-use Rattle.rules.specs.declared.tables.Table.{Table}
+use Rattle.decoder.specs.declared.tables.Table.{Table}
 use Rattle.cells.specs.Stack.{Leaves}
 use Rattle.cells.proofs.Operands.{leaves-as}
 use Rattle.run.specs.declared.steps.Truth.{Truth}

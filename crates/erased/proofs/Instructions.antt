@@ -26,7 +26,7 @@ use Rattle.safety.specs.Erasure.{withBody, eval-erased}
 use Rattle.safety.specs.ErasedSteps.{test-erased, changed-erased}
 use Rattle.safety.specs.Invariant.{WellMade}
 use Rattle.safety.specs.Layout.{HoldsIn}
-use Rattle.rules.specs.declared.tables.Table.{Table}
+use Rattle.decoder.specs.declared.tables.Table.{Table}
 use Rattle.cells.specs.Stack.{Leaves}
 use Rattle.cells.proofs.Singles.{put-number}
 use Rattle.run.specs.declared.steps.Truth.{Truth}

@@ -19,7 +19,7 @@ use Rattle.safety.specs.Layout.{HoldsIn}
 use Rattle.safety.specs.Programs.{YokesDerived, variables-fit, assigned-yokes, changed-yokes}
 use Rattle.safety.specs.Stored.{StoreKept, replaced, assigned-kept, changed-kept}
 use Rattle.profile.specs.Yokes.{YokeOf}
-use Rattle.rules.specs.declared.tables.Table.{Table}
+use Rattle.decoder.specs.declared.tables.Table.{Table}
 use Rattle.run.specs.Reached.{lent}
 use Rattle.run.proofs.Storing.{limits-kept, yokes-kept}
 use Rattle.erased.specs.Meaning.{Running}

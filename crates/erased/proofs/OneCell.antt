@@ -15,7 +15,7 @@ use Rattle.lingua.specs.Expression.{Expression}
 use Rattle.lingua.specs.Store.{Variable, contents, filledAt}
 use Rattle.lingua.specs.Typing.{Bodies}
 use Rattle.lingua.specs.Erased.{valuesOf}
-use Rattle.rules.specs.declared.tables.Table.{Table}
+use Rattle.decoder.specs.declared.tables.Table.{Table}
 use Rattle.cells.specs.Stack.{Leaves}
 use Rattle.run.specs.Memory.{Memory}
 use Rattle.run.proofs.Copying.{one-cell}

@@ -24,7 +24,7 @@ use Rattle.safety.specs.Derivation.{Derived, of-constant, of-variable, of-curre
 use Rattle.safety.specs.Layout.{HoldsIn}
 use Rattle.safety.specs.Sizes.{Small, derived-size, tree-small}
 use Rattle.safety.specs.Named.{number-of}
-use Rattle.rules.specs.declared.tables.Table.{Table}
+use Rattle.decoder.specs.declared.tables.Table.{Table}
 use Rattle.erased.specs.Meaning.{World, Current, Passed}
 
 -- ---- by kinds

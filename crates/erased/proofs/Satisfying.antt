@@ -17,7 +17,7 @@ use Rattle.lingua.specs.Run.{Declaration}
 use Rattle.lingua.specs.Store.{Variable, variableAt, contents, filledAt}
 use Rattle.lingua.specs.Typing.{bodiesOf}
 use Rattle.lingua.specs.Erased.{valueIn, valuesOf, yokeErased, yokeHoldsErased}
-use Rattle.rules.specs.declared.tables.Table.{Table}
+use Rattle.decoder.specs.declared.tables.Table.{Table}
 use Rattle.cells.specs.Stack.{Leaves}
 use Rattle.cells.proofs.Operands.{lies-as}
 use Rattle.run.specs.declared.steps.Truth.{Truth}

@@ -14,7 +14,7 @@ use Rattle.lingua.specs.Run.{Declaration}
 use Rattle.lingua.specs.Store.{Variable, contents}
 use Rattle.laws.specs.Outcomes.{is-list}
 use Rattle.lingua.specs.Erased.{valuesOf, evalErased}
-use Rattle.rules.specs.declared.tables.Table.{Table}
+use Rattle.decoder.specs.declared.tables.Table.{Table}
 use Rattle.cells.specs.Stack.{Lies, Leaves}
 use Rattle.cells.proofs.Elements.{list-size}
 use Rattle.cells.proofs.Operands.{leaves-as}

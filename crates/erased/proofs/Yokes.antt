@@ -12,7 +12,7 @@ use Rattle.lingua.specs.Expression.{Expression, Yoke, always, yoke}
 use Rattle.lingua.specs.Typing.{no-current-body}
 use Rattle.safety.specs.Derivation.{DerivedYoke}
 use Rattle.lingua.specs.Erased.{yokeErased}
-use Rattle.rules.specs.declared.tables.Table.{Table}
+use Rattle.decoder.specs.declared.tables.Table.{Table}
 use Rattle.cells.specs.Stack.{Lies}
 use Rattle.erased.specs.Meaning.{Current, Ready, ReadyYoke, ReadyPlain, Evaluates, EvaluatesYoke, EvaluatesPlain}
 use Rattle.erased.proofs.Leaving.{leaves-ok}

@@ -29,8 +29,8 @@ use Rattle.safety.specs.TypeSound.{VariablesFit}
 use Rattle.lingua.specs.Erased.{valuesOf, evalErased, yokeErased, yokeHoldsErased}
 use Rattle.profile.specs.Variables.{LimitAt}
 use Rattle.profile.specs.Yokes.{YokeOf}
-use Rattle.rules.specs.Tables.{IsTable}
-use Rattle.rules.specs.declared.tables.Table.{Table}
+use Rattle.decoder.specs.Tables.{IsTable}
+use Rattle.decoder.specs.declared.tables.Table.{Table}
 use Rattle.cells.specs.Stack.{Lies, Leaves, first-place}
 use Rattle.run.specs.Memory.{Memory, Admits}
 use Rattle.run.specs.Reached.{Lent}

@@ -2,8 +2,8 @@
 use crate::layout::size_at;
 use crate::store::store;
 use crate::yoke::eval_plain;
+use decoder::tables::Table;
 use lingua::errors::NO_ERROR;
-use rules::tables::Table;
 ghost use mathlib.Core.List.{List};
 ghost use Prim.Native.Nat.{_+_, _*_, _<_, _≤_};
 ghost use lib.ListN.{length};

@@ -12,18 +12,18 @@ use crate::quick::NO_LEAF;
 use crate::quick::leaf;
 use crate::tally::concluded;
 use crate::tally::tallied;
+use decoder::decode::ExpressionRow;
+use decoder::tables::Table;
 use lingua::errors::NO_ERROR;
 use lingua::sizes::BODY_CELLS;
 use profile::row::expression_row;
-use rules::decode::ExpressionRow;
-use rules::tables::Table;
 use run::steps::Truth;
 ghost use Prim.Native.Nat.{_+_, _*_, _<_, _≤_};
 ghost use lib.ListN.{length};
 ghost use Rattle.lingua.specs.Numbers.{body-cells};
 ghost use Rattle.lingua.specs.Trees.{expressionTree};
 ghost use Rattle.lingua.specs.Expression.{lazy as lazyTree, choice as choiceTree, all-list};
-ghost use Rattle.rules.specs.Decoded.{connective};
+ghost use Rattle.decoder.specs.Decoded.{connective};
 ghost use Rattle.erased.specs.Meaning.{Ready, Evaluates};
 
 // What the expression of a row gives on a current value: 0 and a value at the stack's front, or its error.

@@ -1,10 +1,10 @@
 // Whether a value satisfies a yoke, which is evaluated on the stack; and whether a variable takes a new one.
 use crate::answer::truth_of;
 use crate::yoke::eval_yoke;
+use decoder::tables::Table;
 use lingua::errors::NO_ERROR;
 use lingua::errors::YOKE_NOT_SATISFIED;
 use lingua::sizes::BODY_CELLS;
-use rules::tables::Table;
 use run::words::is_filled;
 ghost use Prim.Native.Nat.{_+_, _*_, _≤_};
 ghost use lib.ListN.{length};

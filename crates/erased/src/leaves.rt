@@ -1,10 +1,10 @@
 // Expressions without operands: a constant, a variable, the current value. Each puts its cells at the stack's front.
 use crate::layout::size_at;
+use decoder::tables::Table;
 use lingua::errors::NO_ERROR;
 use lingua::errors::NOT_FILLED;
 use lingua::sizes::BODY_CELLS;
 use profile::constants::constant_cell;
-use rules::tables::Table;
 use run::copies::copy;
 use run::words::is_filled;
 ghost use mathlib.Core.Path.{_≡_};
@@ -19,7 +19,7 @@ ghost use Rattle.lingua.specs.Value.{Value};
 ghost use Rattle.lingua.specs.Store.{Variable, contents};
 ghost use Rattle.lingua.specs.Typing.{Bodies};
 ghost use Rattle.lingua.specs.Erased.{valuesOf};
-ghost use Rattle.rules.specs.Tables.{IsTable};
+ghost use Rattle.decoder.specs.Tables.{IsTable};
 ghost use Rattle.profile.specs.Row.{constantOf};
 ghost use Rattle.profile.specs.Constants.{ConstantRow};
 ghost use Rattle.cells.specs.Stack.{Leaves};

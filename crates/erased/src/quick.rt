@@ -1,13 +1,13 @@
 // A leaf of one cell, at once. Most second operands are such, and an evaluation's call costs more than the leaf: its cell goes to the stack's front
 // without one. Whatever is not such a leaf is left to the evaluation.
 use crate::layout::size_at;
+use decoder::decode::ExpressionRow;
+use decoder::tables::Table;
 use lingua::errors::NO_ERROR;
 use lingua::errors::NOT_FILLED;
 use lingua::sizes::BODY_CELLS;
 use profile::constants::constant_cell;
 use profile::row::expression_row;
-use rules::decode::ExpressionRow;
-use rules::tables::Table;
 use run::words::is_filled;
 ghost use Prim.Native.Nat.{_+_, _*_, _<_, _≤_};
 ghost use lib.ListN.{length};

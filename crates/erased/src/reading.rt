@@ -1,9 +1,9 @@
 // Readings (document 01): a number from outside, in range or an overflow, is stored in its variable.
 use crate::store::store;
+use decoder::tables::Table;
 use lingua::errors::OVERFLOW;
 use lingua::sizes::HIGHEST_NUMBER;
 use lingua::sizes::LOWEST_NUMBER;
-use rules::tables::Table;
 use run::limits::between;
 ghost use mathlib.Core.Path.{_≡_};
 ghost use mathlib.Core.Bool.{true};

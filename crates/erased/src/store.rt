@@ -1,9 +1,9 @@
 // A value of a variable's declared body: its yoke, its limit, and then the store. A value moves as many cells as it has.
 use crate::holds::satisfies;
+use decoder::tables::Table;
 use lingua::errors::NO_ERROR;
 use lingua::errors::YOKE_NOT_SATISFIED;
 use lingua::sizes::BODY_CELLS;
-use rules::tables::Table;
 use run::copies::copy;
 use run::limits::in_limits;
 use run::part::put;
@@ -14,7 +14,7 @@ ghost use lib.ListN.{length};
 ghost use Rattle.lingua.specs.Numbers.{body-cells};
 ghost use Rattle.lingua.specs.Value.{Composite};
 ghost use Rattle.lingua.specs.Store.{Variable, assigned};
-ghost use Rattle.rules.specs.declared.tables.Table.{Table};
+ghost use Rattle.decoder.specs.declared.tables.Table.{Table};
 ghost use Rattle.run.specs.Reached.{lent, Settles};
 ghost use Rattle.erased.specs.Meaning.{Running, ValueFor, Storable, StoreRoom, Satisfies};
 

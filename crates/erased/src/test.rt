@@ -1,7 +1,7 @@
 // A test's value: an expression outside yokes, of which the type check found a Boolean.
 use crate::answer::truth_of;
 use crate::yoke::eval_plain;
-use rules::tables::Table;
+use decoder::tables::Table;
 use run::steps::Truth;
 ghost use mathlib.Core.List.{List};
 ghost use Prim.Native.Nat.{_+_, _*_, _<_, _≤_};

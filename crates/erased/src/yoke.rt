@@ -1,8 +1,8 @@
 // Yokes, and expressions outside yokes.
 use crate::answer::put_truth;
 use crate::eval::eval;
+use decoder::tables::Table;
 use lingua::errors::NO_ERROR;
-use rules::tables::Table;
 ghost use Prim.Native.Nat.{_+_, _*_, _<_, _≤_};
 ghost use lib.ListN.{length};
 ghost use Rattle.lingua.specs.Numbers.{body-cells};

@@ -8,7 +8,7 @@ use Rattle.lingua.specs.Numbers.{type-section, limit-section, areas-length, are
 use Rattle.lingua.specs.Rows.{tableCount}
 use Rattle.lingua.specs.Refusal.{lowest, pairRules}
 use Rattle.safety.specs.Accepted.{AcceptedRows, accepted-pair}
-use Rattle.rules.specs.Tables.{IsTable, AreTables}
+use Rattle.decoder.specs.Tables.{IsTable, AreTables}
 use Rattle.rules.specs.Types.{BodiesBelow}
 use Rattle.pair.specs.Taken.{roomFor}
 use Rattle.pair.specs.declared.Pair.{Pair}

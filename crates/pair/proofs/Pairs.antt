@@ -20,7 +20,7 @@ use Rattle.safety.specs.Accepted.{AcceptedRows, accepted-rows}
 use Rattle.pair.proofs.Returns.{none-of-either, header-there}
 use Rattle.pair.specs.Taken.{RowsTaken, TakenIs}
 use Rattle.pair.specs.declared.file.Taken.{Taken}
-use Rattle.rules.specs.Tables.{IsTable}
+use Rattle.decoder.specs.Tables.{IsTable}
 use Rattle.rules.specs.Types.{BodiesBelow}
 use Rattle.pair.specs.declared.Pair.{Pair}
 use Rattle.pair.specs.Pair.{PairIs}

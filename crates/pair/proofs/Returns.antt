@@ -20,7 +20,7 @@ use Rattle.lingua.specs.declared.WriteAnswer.the-variants as write-answer
 use Rattle.lingua.specs.Calls.{readUnless, readCall, readResult, writeUnless, writeCall, writeResult}
 use Rattle.laws.specs.Files.{blocks-few, file-passes, length-whole, limits-one, profile-some}
 use Rattle.blocks.specs.Blocks.{Gathered}
-use Rattle.rules.specs.Tables.{AreTables}
+use Rattle.decoder.specs.Tables.{AreTables}
 use Rattle.rules.specs.Types.{BodiesBelow}
 use Rattle.rules.specs.Refusals.{Judged}
 use Rattle.pair.specs.Taken.{roomFor, TakenIs}

@@ -8,7 +8,7 @@ use Rattle.lingua.specs.Errors.{no-error}
 use Rattle.lingua.specs.Rows.{tableCount}
 use Rattle.lingua.specs.Format.{File, profile, limits, rowsOf}
 use Rattle.lingua.specs.Refusal.{lowest, wholeFileRules}
-use Rattle.rules.specs.Tables.{AreTables}
+use Rattle.decoder.specs.Tables.{AreTables}
 use Rattle.rules.specs.Types.{BodiesBelow}
 use Rattle.pair.specs.declared.file.Taken.{Taken}
 

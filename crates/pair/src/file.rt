@@ -1,12 +1,12 @@
 // One whole file: the lowest of its own rules, or its rows gathered.
 use blocks::rows::gather_rows;
 use blocks::rules::file_refusal;
+use decoder::tables::Tables;
+use decoder::tables::no_tables;
+use decoder::tables::tables_of;
 use lingua::FileKind;
 use lingua::errors::NO_ERROR;
 use rules::refusal::rows_refusal;
-use rules::tables::Tables;
-use rules::tables::no_tables;
-use rules::tables::tables_of;
 ghost use mathlib.Core.Path.{_≡_};
 ghost use Prim.Native.Nat.{_≤_};
 ghost use lib.ListN.{length};

@@ -1,14 +1,14 @@
 // Both files taken whole: the lowest number over both, or their rows and the bodies of the profile's types.
 use crate::file::take;
 use blocks::words::word16_at;
+use decoder::tables::Table;
+use decoder::tables::Tables;
+use decoder::tables::no_tables;
 use lingua::FileKind;
 use lingua::errors::BAD_LIMIT;
 use lingua::errors::MODELS_DIFFER;
 use lingua::errors::NO_ERROR;
 use profile::agreement::limit_wrong;
-use rules::tables::Table;
-use rules::tables::Tables;
-use rules::tables::no_tables;
 ghost use mathlib.Core.Path.{_≡_};
 ghost use Rattle.laws.specs.Lowest.{lesser};
 ghost use Rattle.pair.specs.Pair.{Room, PairIs};

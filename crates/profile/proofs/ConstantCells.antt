@@ -20,17 +20,17 @@ use Rattle.laws.specs.Outcomes.{and-right, false-is-true}
 use Rattle.laws.specs.Sound.{fit-word}
 use Rattle.body.specs.Encode.{bytes, encoded, Holds}
 use Rattle.safety.specs.Constants.{Fitting}
-use Rattle.rules.specs.Tables.{IsTable}
-use Rattle.rules.specs.Decoded.{simpleMeaning, constantMeaning, expressionMeaning, expressionDecoded, inBytes, ExpressionSays}
-use Rattle.rules.specs.declared.tables.Table.{Table}
-use Rattle.rules.specs.declared.decode.Simple.{Simple}
-use Rattle.rules.specs.declared.decode.Simple.the-variants as simple
-use Rattle.rules.specs.declared.decode.ExpressionRow.{ExpressionRow as CodeRow}
-use Rattle.rules.specs.declared.decode.DecodedExpression.{DecodedExpression}
-use Rattle.rules.specs.declared.decode.DecodedExpression.the-variants as decoded
+use Rattle.decoder.specs.Tables.{IsTable}
+use Rattle.decoder.specs.Decoded.{simpleMeaning, constantMeaning, expressionMeaning, expressionDecoded, inBytes, ExpressionSays}
+use Rattle.decoder.specs.declared.tables.Table.{Table}
+use Rattle.decoder.specs.declared.decode.Simple.{Simple}
+use Rattle.decoder.specs.declared.decode.Simple.the-variants as simple
+use Rattle.decoder.specs.declared.decode.ExpressionRow.{ExpressionRow as CodeRow}
+use Rattle.decoder.specs.declared.decode.DecodedExpression.{DecodedExpression}
+use Rattle.decoder.specs.declared.decode.DecodedExpression.the-variants as decoded
 use Rattle.profile.specs.Row.{valueOf, constantOf}
 use Rattle.profile.specs.Constants.{SimpleIn, ConstantSays, ConstantRow, IsCell}
-use Rattle.rules.proofs.Decoding.{place}
+use Rattle.decoder.proofs.Decoding.{place}
 
 -- ---- which constant a row has
 unfoldable pub isConstant : ExpressionRow → Bool

@@ -21,8 +21,8 @@ use Rattle.lingua.specs.Trees.{typeBody, declaredBody, nameAt}
 use Rattle.lingua.specs.References.{declaredYoke}
 use Rattle.lingua.specs.Refusal.{isNumberBody, isNumberVariable}
 use Rattle.safety.specs.Accepted.{AcceptedRows, declared-type}
-use Rattle.rules.specs.Tables.{IsTable}
-use Rattle.rules.specs.declared.tables.Table.{Table}
+use Rattle.decoder.specs.Tables.{IsTable}
+use Rattle.decoder.specs.declared.tables.Table.{Table}
 use Rattle.body.specs.Encode.{Holds}
 use Rattle.body.proofs.Tags.{is-number, not-number}
 use Rattle.rules.specs.Accepted.{counts}

@@ -13,17 +13,17 @@ use Rattle.lingua.specs.Operation.{Unary, Binary}
 use Rattle.lingua.specs.Rows.{kindAt, rowIn, numbered, usedOf, TypeRow, typeAt, typeRow, ExpressionRow, constant-row, variable-row, current-row, unary-row, binary-row, lazy-row, choice-row, all-list-row, unknown-expression, expressionKinds, expressionAt, expressionRow, InstructionRow, instructionKinds, instructionAt, instructionRow}
 use Rattle.lingua.specs.Rules.{attributesFit, expressionAttributes}
 use Rattle.laws.specs.Outcomes.{and-left, false-is-true}
-use Rattle.rules.specs.Tables.{IsTable}
-use Rattle.rules.specs.Decoded.{byte, Naming, names-none, names-one, unaryNaming, binaryNaming, renamed, typeDecoded, TypeSays, expressionMeaning, expressionDecoded, expressionUses, unaryInBytes, binaryInBytes, inBytes, ExpressionSays, instructionMeaning, instructionDecoded, instructionUses, InstructionSays}
-use Rattle.rules.specs.declared.tables.Table.{Table}
-use Rattle.rules.specs.declared.decode.ExpressionRow.{ExpressionRow as CodeRow}
-use Rattle.rules.specs.declared.decode.InstructionRow.{InstructionRow as CodeInstruction}
-use Rattle.rules.specs.declared.decode.DecodedType.{DecodedType}
-use Rattle.rules.specs.declared.decode.DecodedExpression.{DecodedExpression}
-use Rattle.rules.specs.declared.decode.DecodedExpression.the-variants as decoded
-use Rattle.rules.specs.declared.decode.DecodedInstruction.{DecodedInstruction}
-use Rattle.rules.specs.declared.decode.DecodedInstruction.the-variants as decoded-instruction
-use Rattle.rules.proofs.Decoding.{place}
+use Rattle.decoder.specs.Tables.{IsTable}
+use Rattle.decoder.specs.Decoded.{byte, Naming, names-none, names-one, unaryNaming, binaryNaming, renamed, typeDecoded, TypeSays, expressionMeaning, expressionDecoded, expressionUses, unaryInBytes, binaryInBytes, inBytes, ExpressionSays, instructionMeaning, instructionDecoded, instructionUses, InstructionSays}
+use Rattle.decoder.specs.declared.tables.Table.{Table}
+use Rattle.decoder.specs.declared.decode.ExpressionRow.{ExpressionRow as CodeRow}
+use Rattle.decoder.specs.declared.decode.InstructionRow.{InstructionRow as CodeInstruction}
+use Rattle.decoder.specs.declared.decode.DecodedType.{DecodedType}
+use Rattle.decoder.specs.declared.decode.DecodedExpression.{DecodedExpression}
+use Rattle.decoder.specs.declared.decode.DecodedExpression.the-variants as decoded
+use Rattle.decoder.specs.declared.decode.DecodedInstruction.{DecodedInstruction}
+use Rattle.decoder.specs.declared.decode.DecodedInstruction.the-variants as decoded-instruction
+use Rattle.decoder.proofs.Decoding.{place}
 use Rattle.rules.proofs.TypeRows.{one-fits}
 use Rattle.profile.specs.Row.{KnownExpression, KnownInstruction, RowSays}
 

@@ -11,9 +11,9 @@ use Rattle.lingua.specs.Rules.{constantFits, rowConstantFits}
 use Rattle.safety.specs.Constants.{Fitting}
 use Rattle.safety.specs.Forest.{ConstantHas}
 use Rattle.safety.specs.Accepted.{AcceptedRows, Plain, constant-row-fits, constant-holds}
-use Rattle.rules.specs.declared.decode.Simple.{Simple}
-use Rattle.rules.specs.declared.decode.ExpressionRow.the-variants as code
-use Rattle.rules.specs.Decoded.{simpleMeaning, constantMeaning, expressionMeaning}
+use Rattle.decoder.specs.declared.decode.Simple.{Simple}
+use Rattle.decoder.specs.declared.decode.ExpressionRow.the-variants as code
+use Rattle.decoder.specs.Decoded.{simpleMeaning, constantMeaning, expressionMeaning}
 use Rattle.profile.specs.Row.{valueOf, constantOf, RowSays}
 
 -- the one cell of a composite with a simple body

@@ -14,12 +14,12 @@ use Rattle.lingua.specs.Rules.{handledErrors}
 use Rattle.lingua.specs.References.{expressionVariables, instructionVariables}
 use Rattle.safety.specs.Every.{Every, every-none, every-more}
 use Rattle.safety.specs.Accepted.{AcceptedRows, instruction-roots}
-use Rattle.rules.specs.declared.decode.ExpressionRow.the-variants as code
-use Rattle.rules.specs.declared.decode.ExpressionRow.{ExpressionRow as CodeRow}
-use Rattle.rules.specs.declared.decode.InstructionRow.the-variants as does
-use Rattle.rules.specs.declared.decode.InstructionRow.{InstructionRow as CodeInstruction}
-use Rattle.rules.specs.declared.decode.Simple.{Simple}
-use Rattle.rules.specs.Decoded.{connective, expressionMeaning, instructionMeaning}
+use Rattle.decoder.specs.declared.decode.ExpressionRow.the-variants as code
+use Rattle.decoder.specs.declared.decode.ExpressionRow.{ExpressionRow as CodeRow}
+use Rattle.decoder.specs.declared.decode.InstructionRow.the-variants as does
+use Rattle.decoder.specs.declared.decode.InstructionRow.{InstructionRow as CodeInstruction}
+use Rattle.decoder.specs.declared.decode.Simple.{Simple}
+use Rattle.decoder.specs.Decoded.{connective, expressionMeaning, instructionMeaning}
 use Rattle.profile.specs.Row.{valueOf, constantOf, RowSays}
 use Rattle.rules.specs.Accepted.{expression-operands, expression-variables, instruction-parts, instruction-variables, handled-errors}
 use Rattle.profile.specs.Constants.{ConstantRow, constant-row-is}

@@ -9,8 +9,8 @@ use Rattle.lingua.specs.Evaluation.{no-current}
 use Rattle.lingua.specs.Rows.{kindAt, rowIn, constantValue, ExpressionRow, constant-row, variable-row, current-row, unary-row, binary-row, lazy-row, choice-row, all-list-row, unknown-expression, expressionKinds, expressionRow, instructionKinds}
 use Rattle.lingua.specs.Rules.{attributesFit, expressionAttributes}
 use Rattle.safety.specs.Accepted.{Known}
-use Rattle.rules.specs.Decoded.{expressionMeaning}
-use Rattle.rules.specs.declared.decode.ExpressionRow.{ExpressionRow as CodeRow}
+use Rattle.decoder.specs.Decoded.{expressionMeaning}
+use Rattle.decoder.specs.declared.decode.ExpressionRow.{ExpressionRow as CodeRow}
 
 -- row r of the expressions is of a known kind, and its attributes are numbered below 64
 pub record KnownExpression (rows : List ℕ) (r : ℕ) : Type 0 where

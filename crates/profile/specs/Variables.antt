@@ -13,9 +13,9 @@ use Rattle.lingua.specs.Rows.{tableCount}
 use Rattle.lingua.specs.Trees.{declaredBody}
 use Rattle.safety.specs.Accepted.{AcceptedRows}
 use Rattle.body.specs.Encode.{Holds}
-use Rattle.rules.specs.Tables.{IsTable}
+use Rattle.decoder.specs.Tables.{IsTable}
 use Rattle.rules.specs.Types.{BodiesBelow}
-use Rattle.rules.specs.declared.tables.Table.{Table}
+use Rattle.decoder.specs.declared.tables.Table.{Table}
 
 -- what is known of an accepted profile where its declarations are read: their table, and the bodies of the type rows
 pub record DeclarationsKnown (rows : List ℕ) (t : Table) (bodies : List ℕ) : Type 0 where

@@ -1,9 +1,9 @@
 // Declarations: the type, body and yoke of variable d.
 use body::walk::NUMBER;
+use decoder::fields::a_at;
+use decoder::fields::b_at;
+use decoder::tables::Table;
 use lingua::sizes::BODY_BYTES;
-use rules::fields::a_at;
-use rules::fields::b_at;
-use rules::tables::Table;
 use rules::types::type_body;
 ghost use mathlib.Core.Path.{_≡_};
 ghost use Prim.Native.Nat.{_/_, _<_};
@@ -12,7 +12,7 @@ ghost use Rattle.lingua.specs.Rows.{aAt, tableCount, detailRow};
 ghost use Rattle.lingua.specs.References.{declaredYoke};
 ghost use Rattle.lingua.specs.Refusal.{isNumberVariable};
 ghost use Rattle.safety.specs.Accepted.{AcceptedRows};
-ghost use Rattle.rules.specs.Tables.{IsTable};
+ghost use Rattle.decoder.specs.Tables.{IsTable};
 ghost use Rattle.rules.specs.Types.{BodiesBelow};
 ghost use Rattle.profile.specs.Variables.{DeclarationsKnown, DeclaredIs};
 

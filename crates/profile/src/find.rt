@@ -1,11 +1,11 @@
 // The one search for a variable by its name.
-use rules::fields::bytes_at;
+use decoder::fields::bytes_at;
+use decoder::tables::Table;
 use rules::names::same_bytes;
-use rules::tables::Table;
 ghost use mathlib.Core.Path.{_≡_};
 ghost use lib.ListN.{length};
 ghost use Rattle.lingua.specs.Numbers.{declaration-section};
-ghost use Rattle.rules.specs.Tables.{IsTable};
+ghost use Rattle.decoder.specs.Tables.{IsTable};
 ghost use Rattle.profile.specs.Find.{FoundIs};
 
 // The declaration that has a name, if there is one.

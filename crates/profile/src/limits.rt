@@ -1,8 +1,8 @@
 // The motor maker's limits: the two ends of each.
 use crate::constants::signed32;
+use decoder::fields::word32_at;
+use decoder::tables::Table;
 use lingua::sizes::ROW_BYTES;
-use rules::fields::word32_at;
-use rules::tables::Table;
 ghost use mathlib.Core.Path.{_≡_};
 ghost use Prim.Native.Nat.{_+_, _*_, _/_, _≤_, _<_};
 ghost use mir.Syntax.{w32};
@@ -10,7 +10,7 @@ ghost use mir.Val.{toZ};
 ghost use Rattle.lingua.specs.Numbers.{row-bytes, limit-section};
 ghost use Rattle.lingua.specs.Rows.{word32, detailRow};
 ghost use Rattle.lingua.specs.Trees.{limitRow};
-ghost use Rattle.rules.specs.Tables.{IsTable};
+ghost use Rattle.decoder.specs.Tables.{IsTable};
 
 // An end of limit l: the number with a sign that begins at a byte of its second row.
 fn end_at(limits: &[u8], t: Table, l: usize, from: usize) -> i64

@@ -1,17 +1,17 @@
 // What an accepted row says: its kind is known, and its attributes are in range.
-use rules::decode::DecodedExpression;
-use rules::decode::DecodedInstruction;
-use rules::decode::ExpressionRow;
-use rules::decode::InstructionRow;
-use rules::decode::expression_at;
-use rules::decode::instruction_at;
-use rules::tables::Table;
+use decoder::decode::DecodedExpression;
+use decoder::decode::DecodedInstruction;
+use decoder::decode::ExpressionRow;
+use decoder::decode::InstructionRow;
+use decoder::decode::expression_at;
+use decoder::decode::instruction_at;
+use decoder::tables::Table;
 ghost use mathlib.Core.Path.{_≡_};
 ghost use Prim.Native.Nat.{_<_};
 ghost use Rattle.lingua.specs.Numbers.{expression-section, instruction-section};
 ghost use Rattle.lingua.specs.Rows.{instructionRow};
-ghost use Rattle.rules.specs.Tables.{IsTable};
-ghost use Rattle.rules.specs.Decoded.{instructionMeaning};
+ghost use Rattle.decoder.specs.Tables.{IsTable};
+ghost use Rattle.decoder.specs.Decoded.{instructionMeaning};
 ghost use Rattle.profile.specs.Row.{KnownExpression, KnownInstruction, RowSays};
 
 // Row r of the expressions.

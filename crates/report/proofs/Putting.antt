@@ -17,8 +17,8 @@ use Rattle.lingua.specs.Trees.{declaredBody, bodyOr, nameAt}
 use Rattle.safety.specs.Accepted.{AcceptedRows}
 use Rattle.body.specs.Walk.{Measured}
 use Rattle.body.specs.declared.walk.Measure.{Measure}
-use Rattle.rules.specs.Tables.{IsTable}
-use Rattle.rules.specs.declared.tables.Table.{Table}
+use Rattle.decoder.specs.Tables.{IsTable}
+use Rattle.decoder.specs.declared.tables.Table.{Table}
 use Rattle.rules.specs.Accepted.{counts}
 use Rattle.profile.specs.Variables.{DeclaredIs}
 use Rattle.profile.proofs.Declaring.{name-place, pairs}

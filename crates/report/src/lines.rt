@@ -1,8 +1,8 @@
 // The variables' lines, from the memory that a run leaves.
 use body::walk::measure_body;
+use decoder::fields::bytes_at;
+use decoder::tables::Table;
 use profile::declarations::declared_body;
-use rules::fields::bytes_at;
-use rules::tables::Table;
 use run::words::is_filled;
 use text::report::put_variable_line;
 ghost use mathlib.Core.Path.{_≡_};
@@ -13,7 +13,7 @@ ghost use Rattle.lingua.specs.Body.{size};
 ghost use Rattle.lingua.specs.Trees.{declaredBody, bodyOr};
 ghost use Rattle.lingua.specs.Rows.{tableCount, pairCount};
 ghost use Rattle.safety.specs.Accepted.{AcceptedRows};
-ghost use Rattle.rules.specs.Tables.{IsTable};
+ghost use Rattle.decoder.specs.Tables.{IsTable};
 ghost use Rattle.rules.specs.Types.{BodiesBelow};
 ghost use Rattle.text.specs.Appended.{Appended};
 ghost use Rattle.report.specs.Memory.{memoryLine, memoryLines};

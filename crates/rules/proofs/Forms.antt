@@ -15,10 +15,10 @@ use Rattle.lingua.specs.Format.{File, profile, limits, allZero, everyBelow}
 use Rattle.lingua.specs.Compute.{sameText}
 use Rattle.lingua.specs.Trees.{nameAt}
 use Rattle.lingua.specs.Rules.{namedSection, isName, isNew, nameWrong, usedBytes, sectionBelongs, bytesFit, rowFits, paired, between, countWrong}
-use Rattle.rules.specs.Tables.{IsTable, AreTables}
-use Rattle.rules.specs.declared.tables.Table.{Table}
-use Rattle.rules.specs.declared.tables.Tables.{Tables}
-use Rattle.rules.proofs.Counting.{order}
+use Rattle.decoder.specs.Tables.{IsTable, AreTables}
+use Rattle.decoder.specs.declared.tables.Table.{Table}
+use Rattle.decoder.specs.declared.tables.Tables.{Tables}
+use Rattle.decoder.proofs.Counting.{order}
 use Rattle.rules.specs.Form.{usedNumber}
 
 -- ---- used bytes

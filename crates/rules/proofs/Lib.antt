@@ -1,10 +1,5 @@
-pub mod Counting
 pub mod Every
-pub mod Runs
 pub mod Forms
-pub mod Decoding
-pub mod Short
-pub mod Constant
 pub mod Refers
 pub mod Usage
 pub mod Reading

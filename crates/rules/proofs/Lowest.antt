@@ -16,9 +16,9 @@ use Rattle.lingua.specs.Errors.{bad-form, bad-count, bad-name, bad-constant}
 use Rattle.lingua.specs.Format.{File, profile, limits}
 use Rattle.lingua.specs.Rules.{between, formWrong, countWrong, nameWrong, constantWrong}
 use Rattle.lingua.specs.Refusal.{Rule, rule, lower-of, lowest, rowRules}
-use Rattle.rules.specs.Tables.{AreTables, Sized}
+use Rattle.decoder.specs.Tables.{AreTables, Sized}
 use Rattle.rules.specs.Refusals.{linkRules, Linked, Judged}
-use Rattle.rules.specs.declared.tables.Tables.{Tables}
+use Rattle.decoder.specs.declared.tables.Tables.{Tables}
 use Rattle.rules.proofs.Every.{and-left, and-right}
 use Rattle.rules.proofs.Forms.{counts-profile}
 

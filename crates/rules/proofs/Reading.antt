@@ -19,10 +19,10 @@ use Rattle.lingua.specs.Trees.{below, lower, no-expression, expressionOf, expre
 use Rattle.lingua.specs.Typing.{joined}
 use Rattle.lingua.specs.Format.{everyBelow}
 use Rattle.lingua.specs.References.{allBelow, typeParts, instructionVariables, expressionRefers, readsVariable, readsCurrent, declaredYoke, declarationRefers, instructionRefers, referenceWrong, yokeRoots, plainRoots, placeWrong}
-use Rattle.rules.specs.Reads.{reads, readsRow, Marked}
-use Rattle.rules.proofs.Counting.{order}
+use Rattle.decoder.specs.Reads.{reads, readsRow, Marked}
+use Rattle.decoder.proofs.Counting.{order}
 use Rattle.rules.proofs.Every.{every-at, and-left, and-right, first-true, last-true}
-use Rattle.rules.proofs.Short.{all-ext, all-append}
+use Rattle.decoder.proofs.Short.{all-ext, all-append}
 use Rattle.rules.proofs.Usage.{joined-snoc}
 
 -- ---- trees

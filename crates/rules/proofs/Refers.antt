@@ -7,10 +7,10 @@ use lib.Dec.{ltb}
 use Rattle.lingua.specs.Rows.{aAt, bAt, rowIn, detailRow, pairCount, expressionRow, operands, instructionRow, parts, evaluated, yokeRoot, yokeSet}
 use Rattle.lingua.specs.References.{allBelow, expressionVariables, instructionVariables, declaredYoke, declarationRefers, expressionRefers, instructionRefers}
 use Rattle.lingua.specs.Numbers.{declaration-section}
-use Rattle.rules.specs.Tables.{IsTable, AreTables}
-use Rattle.rules.specs.declared.tables.Table.{Table}
-use Rattle.rules.specs.declared.tables.Tables.{Tables}
-use Rattle.rules.proofs.Short.{all-append}
+use Rattle.decoder.specs.Tables.{IsTable, AreTables}
+use Rattle.decoder.specs.declared.tables.Table.{Table}
+use Rattle.decoder.specs.declared.tables.Tables.{Tables}
+use Rattle.decoder.proofs.Short.{all-append}
 
 module _ (rows : List ℕ) (t : Tables) (h : AreTables rows t) where
   pub declaration-is : (d : ℕ) → declarationRefers rows d ≡ (ltb (aAt rows (t .declarations .start + (2 * d + 1))) (t .types .count) && allBelow (t .expressions .count) (yokeRoot (bAt rows (t .declarations .start + (2 * d + 1)))))

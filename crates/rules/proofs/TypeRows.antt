@@ -25,8 +25,8 @@ use Rattle.lingua.specs.References.{typeParts, typeWrong}
 use Rattle.laws.specs.Outcomes.{and-left}
 use Rattle.laws.specs.Tests.{below-suc, every-all, every-false}
 use Rattle.safety.specs.Every.{Every, every-none, every-more, every-implies}
-use Rattle.rules.specs.Tables.{IsTable}
-use Rattle.rules.specs.declared.tables.Table.{Table}
+use Rattle.decoder.specs.Tables.{IsTable}
+use Rattle.decoder.specs.declared.tables.Table.{Table}
 use Rattle.body.specs.Encode.{Holds, Held}
 use Rattle.body.specs.Typed.{Types}
 use Rattle.body.specs.declared.typed.Typed.{Typed}

@@ -18,13 +18,13 @@ use Rattle.lingua.specs.Format.{everyBelow}
 use Rattle.lingua.specs.Numbers.{declaration-section, expression-section, instruction-section}
 use Rattle.lingua.specs.Rows.{tableCount, pairCount, InstructionRow, expressionRow, instructionRow, operands, evaluated, yokeRoot, yokeSet}
 use Rattle.lingua.specs.References.{occurrences, declaredYoke, yokeRoots, plainRoots, expressionUses}
-use Rattle.rules.specs.Mentions.{mentionedBy, InstructionAlike}
-use Rattle.rules.specs.Decoded.{instructionMeaning}
+use Rattle.decoder.specs.Mentions.{mentionedBy, InstructionAlike}
+use Rattle.decoder.specs.Decoded.{instructionMeaning}
 use Rattle.rules.specs.Uses.{Counted}
-use Rattle.rules.specs.declared.mentions.Mention.{Mention}
-use Rattle.rules.specs.declared.mentions.Mention.the-variants as mention
-use Rattle.rules.specs.declared.decode.InstructionRow.{InstructionRow as CodeInstruction}
-use Rattle.rules.proofs.Counting.{order}
+use Rattle.decoder.specs.declared.mentions.Mention.{Mention}
+use Rattle.decoder.specs.declared.mentions.Mention.the-variants as mention
+use Rattle.decoder.specs.declared.decode.InstructionRow.{InstructionRow as CodeInstruction}
+use Rattle.decoder.proofs.Counting.{order}
 
 -- ---- occurrences
 pub occ-append : (r : ℕ) (xs ys : List ℕ) → occurrences r (xs ++ ys) ≡ occurrences r xs + occurrences r ys

@@ -1,9 +1,5 @@
-pub mod Tables
-pub mod Decoded
 pub mod Form
-pub mod Mentions
 pub mod Uses
-pub mod Reads
 pub mod Unrolled
 pub mod Accepted
 pub mod Types

@@ -11,9 +11,9 @@ use Rattle.lingua.specs.Format.{File, profile}
 use Rattle.lingua.specs.Rules.{countWrong, constantWrong}
 use Rattle.lingua.specs.References.{referenceWrong, useWrong, placeWrong, typeWrong}
 use Rattle.lingua.specs.Refusal.{Rule, rule, lowest, rowRules}
-use Rattle.rules.specs.Tables.{AreTables}
+use Rattle.decoder.specs.Tables.{AreTables}
 use Rattle.rules.specs.Types.{BodiesBelow}
-use Rattle.rules.specs.declared.tables.Tables.{Tables}
+use Rattle.decoder.specs.declared.tables.Tables.{Tables}
 
 unfoldable pub linkRules : List ℕ → List Rule
 linkRules rows =

@@ -16,8 +16,8 @@ use Rattle.safety.specs.Every.{Every}
 use Rattle.body.specs.Encode.{Holds, Held}
 use Rattle.body.specs.Typed.{Types}
 use Rattle.body.specs.declared.typed.Typed.{Typed}
-use Rattle.rules.specs.Tables.{IsTable}
-use Rattle.rules.specs.declared.tables.Table.{Table}
+use Rattle.decoder.specs.Tables.{IsTable}
+use Rattle.decoder.specs.declared.tables.Table.{Table}
 use Rattle.rules.specs.Accepted.{counts, type-attributes, type-parts}
 
 -- the bytes of row r's body

@@ -1,20 +1,20 @@
 // Rule 9: constants, attributes and handled errors. A limits file has none.
-use crate::decode::DecodedExpression;
-use crate::decode::ExpressionRow;
-use crate::decode::Simple;
-use crate::decode::expression_at;
-use crate::fields::bytes_at;
-use crate::fields::padded;
-use crate::fields::wide_at;
-use crate::mentions::all_within;
-use crate::mentions::attributes;
-use crate::mentions::expression_in;
-use crate::mentions::handled;
-use crate::mentions::instruction_in;
-use crate::mentions::type_attributes;
-use crate::mentions::type_in;
-use crate::tables::Table;
-use crate::tables::Tables;
+use decoder::decode::DecodedExpression;
+use decoder::decode::ExpressionRow;
+use decoder::decode::Simple;
+use decoder::decode::expression_at;
+use decoder::fields::bytes_at;
+use decoder::fields::padded;
+use decoder::fields::wide_at;
+use decoder::mentions::all_within;
+use decoder::mentions::attributes;
+use decoder::mentions::expression_in;
+use decoder::mentions::handled;
+use decoder::mentions::instruction_in;
+use decoder::mentions::type_attributes;
+use decoder::mentions::type_in;
+use decoder::tables::Table;
+use decoder::tables::Tables;
 use lingua::FileKind;
 use lingua::errors::ERROR_NUMBERS;
 use lingua::sizes::ATTRIBUTE_NUMBERS;
@@ -33,8 +33,8 @@ ghost use Rattle.lingua.specs.Value.{inRange, allOf};
 ghost use Rattle.lingua.specs.Rows.{tableCount, typeRow, expressionRow, instructionRow};
 ghost use Rattle.lingua.specs.Format.{profile, everyBelow};
 ghost use Rattle.lingua.specs.Rules.{constantFits, rowConstantFits, attributesFit, typeAttributes, expressionAttributes, handledErrors, constantWrong};
-ghost use Rattle.rules.specs.Tables.{IsTable, AreTables};
-ghost use Rattle.rules.specs.Decoded.{constantMeaning, expressionMeaning};
+ghost use Rattle.decoder.specs.Tables.{IsTable, AreTables};
+ghost use Rattle.decoder.specs.Decoded.{constantMeaning, expressionMeaning};
 
 // Whether the 64 bits, read with a sign, are a number's: from -1,000,000 to 1,000,000.
 fn number_fits(n: usize) -> bool

@@ -1,5 +1,5 @@
 // Rule 7: how many rows each section has.
-use crate::tables::Tables;
+use decoder::tables::Tables;
 use lingua::FileKind;
 use lingua::sizes::MOST_EXPRESSIONS;
 use lingua::sizes::MOST_INSTRUCTIONS;
@@ -12,7 +12,7 @@ ghost use Prim.Native.Nat.{ℕ};
 ghost use Rattle.lingua.specs.Answers.{fileMeaning};
 ghost use Rattle.lingua.specs.Format.{profile};
 ghost use Rattle.lingua.specs.Rules.{between, countWrong};
-ghost use Rattle.rules.specs.Tables.{AreTables};
+ghost use Rattle.decoder.specs.Tables.{AreTables};
 
 // Whether a number lies from low to high.
 pub fn in_between(low: usize, high: usize, n: usize) -> bool

@@ -1,17 +1,17 @@
 // Rule 6: the form of rows, each by itself and in their order.
 use crate::counts::in_between;
-use crate::decode::DecodedExpression;
-use crate::decode::DecodedInstruction;
-use crate::decode::DecodedType;
-use crate::decode::expression_at;
-use crate::decode::instruction_at;
-use crate::decode::type_at;
-use crate::fields::bytes_at;
-use crate::fields::kind_at;
-use crate::fields::section_at;
-use crate::fields::zero_from;
-use crate::tables::Table;
-use crate::tables::Tables;
+use decoder::decode::DecodedExpression;
+use decoder::decode::DecodedInstruction;
+use decoder::decode::DecodedType;
+use decoder::decode::expression_at;
+use decoder::decode::instruction_at;
+use decoder::decode::type_at;
+use decoder::fields::bytes_at;
+use decoder::fields::kind_at;
+use decoder::fields::section_at;
+use decoder::fields::zero_from;
+use decoder::tables::Table;
+use decoder::tables::Tables;
 use lingua::FileKind;
 use lingua::sizes::DECLARATION_SECTION;
 use lingua::sizes::EXPRESSION_SECTION;
@@ -28,9 +28,9 @@ ghost use Rattle.lingua.specs.Answers.{fileMeaning};
 ghost use Rattle.lingua.specs.Rows.{rowCount, kindAt};
 ghost use Rattle.lingua.specs.Format.{everyBelow};
 ghost use Rattle.lingua.specs.Rules.{usedBytes, sectionBelongs, rowFits, ascending, paired, formWrong};
-ghost use Rattle.rules.specs.Tables.{IsTable, AreTables};
+ghost use Rattle.decoder.specs.Tables.{IsTable, AreTables};
 ghost use Rattle.rules.specs.Form.{usedNumber};
-ghost use Rattle.rules.specs.Decoded.{typeUses, expressionUses, instructionUses};
+ghost use Rattle.decoder.specs.Decoded.{typeUses, expressionUses, instructionUses};
 
 // Limits stand alone in limits files.
 fn section_belongs(file: FileKind, section: u8) -> bool

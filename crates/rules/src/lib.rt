@@ -2,14 +2,10 @@
 // test says; refusal.rt asks them in order.
 pub mod constants; // constants.rt: rule 9
 pub mod counts; // counts.rt: rule 7
-pub mod decode; // decode.rt: what a row says, by its kind
-pub mod fields; // fields.rt: a row's fields
 pub mod form; // form.rt: rule 6
-pub mod mentions; // mentions.rt: what a row mentions by number
 pub mod names; // names.rt: rule 8
 pub mod places; // places.rt: rule 12
 pub mod references; // references.rt: rule 10
 pub mod refusal; // refusal.rt: the lowest rule that applies
-pub mod tables; // tables.rt: where each section's rows stand, found in one pass
 pub mod types; // types.rt: rule 13, and the bodies of the type rows
 pub mod uses; // uses.rt: rule 11

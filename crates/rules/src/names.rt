@@ -1,8 +1,8 @@
 // Rule 8: names of declarations and of limits.
-use crate::fields::bytes_at;
-use crate::fields::padded;
-use crate::tables::Table;
-use crate::tables::Tables;
+use decoder::fields::bytes_at;
+use decoder::fields::padded;
+use decoder::tables::Table;
+use decoder::tables::Tables;
 use lingua::FileKind;
 ghost use mathlib.Core.Path.{_≡_};
 ghost use mathlib.Core.List.{List};
@@ -11,7 +11,7 @@ ghost use lib.ListN.{length};
 ghost use Rattle.lingua.specs.Answers.{fileMeaning};
 ghost use Rattle.lingua.specs.Compute.{sameText};
 ghost use Rattle.lingua.specs.Rules.{isName, isNew, namedSection, nameWrong};
-ghost use Rattle.rules.specs.Tables.{IsTable, AreTables};
+ghost use Rattle.decoder.specs.Tables.{IsTable, AreTables};
 
 // 1 to 8 capital letters, zeros after.
 fn is_name(bytes: &[u8]) -> bool

@@ -1,16 +1,16 @@
 // Rule 12: variables are read outside yokes, the current value inside. Each expression row is marked once, from the lowest up, as
 // to whether anything in its tree reads; then the rows that yokes and instructions name are asked.
-use crate::decode::ExpressionRow;
-use crate::fields::b_at;
-use crate::mentions::UpToThree;
-use crate::mentions::evaluated;
-use crate::mentions::expression_in;
-use crate::mentions::instruction_in;
-use crate::mentions::operands;
-use crate::mentions::yoke_root;
-use crate::mentions::yoke_set;
-use crate::tables::Table;
-use crate::tables::Tables;
+use decoder::decode::ExpressionRow;
+use decoder::fields::b_at;
+use decoder::mentions::UpToThree;
+use decoder::mentions::evaluated;
+use decoder::mentions::expression_in;
+use decoder::mentions::instruction_in;
+use decoder::mentions::operands;
+use decoder::mentions::yoke_root;
+use decoder::mentions::yoke_set;
+use decoder::tables::Table;
+use decoder::tables::Tables;
 use lingua::sizes::MOST_EXPRESSIONS;
 ghost use mathlib.Core.Path.{_≡_};
 ghost use mathlib.Core.Bool.{true, false, not, _&&_};
@@ -24,10 +24,10 @@ ghost use Rattle.lingua.specs.Rows.{tableCount, pairCount, expressionRow, instr
 ghost use Rattle.lingua.specs.Trees.{expressionTree};
 ghost use Rattle.lingua.specs.Format.{everyBelow};
 ghost use Rattle.lingua.specs.References.{declaredYoke, referenceWrong, placeWrong};
-ghost use Rattle.rules.specs.Tables.{IsTable, AreTables, Sized};
-ghost use Rattle.rules.specs.Mentions.{listed};
-ghost use Rattle.rules.specs.Decoded.{expressionMeaning};
-ghost use Rattle.rules.specs.Reads.{reads, readsRow, Marked, PlacesMarked};
+ghost use Rattle.decoder.specs.Tables.{IsTable, AreTables, Sized};
+ghost use Rattle.decoder.specs.Mentions.{listed};
+ghost use Rattle.decoder.specs.Decoded.{expressionMeaning};
+ghost use Rattle.decoder.specs.Reads.{reads, readsRow, Marked, PlacesMarked};
 
 // Whether a row by itself reads a variable, or else the current value.
 fn row_reads(row: ExpressionRow, variable: bool) -> bool

@@ -1,27 +1,27 @@
 // Rule 10: what rows name by number exists, and within a table it is a lower row.
-use crate::fields::a_at;
-use crate::fields::b_at;
-use crate::mentions::all_within;
-use crate::mentions::assigned;
-use crate::mentions::evaluated;
-use crate::mentions::expression_in;
-use crate::mentions::instruction_in;
-use crate::mentions::operands;
-use crate::mentions::parts;
-use crate::mentions::type_in;
-use crate::mentions::type_parts;
-use crate::mentions::variables;
-use crate::mentions::yoke_root;
-use crate::mentions::yoke_set;
-use crate::tables::Table;
-use crate::tables::Tables;
+use decoder::fields::a_at;
+use decoder::fields::b_at;
+use decoder::mentions::all_within;
+use decoder::mentions::assigned;
+use decoder::mentions::evaluated;
+use decoder::mentions::expression_in;
+use decoder::mentions::instruction_in;
+use decoder::mentions::operands;
+use decoder::mentions::parts;
+use decoder::mentions::type_in;
+use decoder::mentions::type_parts;
+use decoder::mentions::variables;
+use decoder::mentions::yoke_root;
+use decoder::mentions::yoke_set;
+use decoder::tables::Table;
+use decoder::tables::Tables;
 ghost use mathlib.Core.Path.{_≡_};
 ghost use Prim.Native.Nat.{_/_, _<_};
 ghost use Rattle.lingua.specs.Numbers.{declaration-section, type-section, expression-section, instruction-section};
 ghost use Rattle.lingua.specs.Rows.{tableCount, pairCount, typeRow};
 ghost use Rattle.lingua.specs.Format.{everyBelow};
 ghost use Rattle.lingua.specs.References.{allBelow, typeParts, declarationRefers, expressionRefers, instructionRefers, referenceWrong};
-ghost use Rattle.rules.specs.Tables.{IsTable, AreTables};
+ghost use Rattle.decoder.specs.Tables.{IsTable, AreTables};
 
 // A declaration names a type row, and with its yoke an expression row.
 fn declaration_refers(rows: &[u8], t: Tables, d: usize) -> bool

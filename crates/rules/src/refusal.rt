@@ -5,9 +5,9 @@ use crate::form::form_wrong;
 use crate::names::name_wrong;
 use crate::places::place_wrong;
 use crate::references::reference_wrong;
-use crate::tables::Tables;
 use crate::types::type_wrong;
 use crate::uses::use_wrong;
+use decoder::tables::Tables;
 use lingua::FileKind;
 use lingua::errors::BAD_CONSTANT;
 use lingua::errors::BAD_COUNT;
@@ -22,7 +22,7 @@ ghost use mathlib.Core.Path.{_≡_};
 ghost use lib.ListN.{length};
 ghost use Rattle.lingua.specs.Numbers.{type-bodies-length};
 ghost use Rattle.lingua.specs.Answers.{fileMeaning};
-ghost use Rattle.rules.specs.Tables.{AreTables};
+ghost use Rattle.decoder.specs.Tables.{AreTables};
 ghost use Rattle.rules.specs.Refusals.{Linkable, Linked, Judged};
 
 // Rules 10 to 13, which only a profile has.

@@ -1,9 +1,4 @@
 // Rule 13 and the bodies of type rows, in a flat array that has BODY_BYTES for each.
-use crate::decode::DecodedType;
-use crate::decode::Simple;
-use crate::decode::TypeRow;
-use crate::decode::type_at;
-use crate::tables::Table;
 use body::binary::expand;
 use body::typed::Typed;
 use body::typed::scalar;
@@ -12,6 +7,11 @@ use body::unary::make_record;
 use body::walk::BOOLEAN;
 use body::walk::NUMBER;
 use body::walk::WORD;
+use decoder::decode::DecodedType;
+use decoder::decode::Simple;
+use decoder::decode::TypeRow;
+use decoder::decode::type_at;
+use decoder::tables::Table;
 use lingua::sizes::BODY_BYTES;
 ghost use mathlib.Core.Path.{_≡_};
 ghost use mathlib.Core.Bool.{true, false};
@@ -27,8 +27,8 @@ ghost use Rattle.lingua.specs.References.{typeParts, typeWrong};
 ghost use Rattle.lingua.specs.Trees.{typeBodyOf, typeBody};
 ghost use Rattle.safety.specs.Every.{Every};
 ghost use Rattle.body.specs.Typed.{Types};
-ghost use Rattle.rules.specs.Tables.{IsTable};
-ghost use Rattle.rules.specs.Decoded.{simpleMeaning, typeMeaning};
+ghost use Rattle.decoder.specs.Tables.{IsTable};
+ghost use Rattle.decoder.specs.Decoded.{simpleMeaning, typeMeaning};
 ghost use Rattle.rules.specs.Types.{bodyAt, HeldAt, LooksUp, Answers, TypesReady, BodiesBelow, RowReady};
 
 // The body of type row r, by itself.

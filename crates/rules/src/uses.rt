@@ -1,15 +1,15 @@
 // Rule 11: each expression row and each instruction row but the last is used once.
 // Uses are counted in one pass over the rows, up to 2: more makes no difference.
-use crate::fields::b_at;
-use crate::mentions::Mention;
-use crate::mentions::UpToThree;
-use crate::mentions::expression_in;
-use crate::mentions::instruction_in;
-use crate::mentions::mentioned;
-use crate::mentions::operands;
-use crate::mentions::yoke_root;
-use crate::tables::Table;
-use crate::tables::Tables;
+use decoder::fields::b_at;
+use decoder::mentions::Mention;
+use decoder::mentions::UpToThree;
+use decoder::mentions::expression_in;
+use decoder::mentions::instruction_in;
+use decoder::mentions::mentioned;
+use decoder::mentions::operands;
+use decoder::mentions::yoke_root;
+use decoder::tables::Table;
+use decoder::tables::Tables;
 use lingua::sizes::MOST_EXPRESSIONS;
 ghost use mathlib.Core.Path.{_≡_};
 ghost use mathlib.Core.List.{List, [], _∷_, _++_};
@@ -21,8 +21,8 @@ ghost use Rattle.lingua.specs.Trees.{tabulate};
 ghost use Rattle.lingua.specs.Typing.{joined};
 ghost use Rattle.lingua.specs.Format.{everyBelow};
 ghost use Rattle.lingua.specs.References.{declaredYoke, occurrences, expressionUses, instructionUses, useWrong};
-ghost use Rattle.rules.specs.Tables.{IsTable, AreTables, Sized};
-ghost use Rattle.rules.specs.Mentions.{listed, mentionedBy};
+ghost use Rattle.decoder.specs.Tables.{IsTable, AreTables, Sized};
+ghost use Rattle.decoder.specs.Mentions.{listed, mentionedBy};
 ghost use Rattle.rules.specs.Uses.{Counted};
 
 // One use of row x.

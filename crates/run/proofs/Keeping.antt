@@ -37,8 +37,8 @@ use Rattle.profile.specs.Variables.{DeclaredIs, LimitAt}
 use Rattle.profile.specs.Find.{Unnamed, NamedAt, FoundIs}
 use Rattle.profile.specs.declared.find.Found.{Found}
 use Rattle.profile.proofs.Declaring.{name-is}
-use Rattle.rules.specs.Tables.{IsTable}
-use Rattle.rules.specs.declared.tables.Table.{Table}
+use Rattle.decoder.specs.Tables.{IsTable}
+use Rattle.decoder.specs.declared.tables.Table.{Table}
 use Rattle.rules.proofs.TypePlaces.{kept-other, kept-own}
 use Rattle.run.specs.Begun.{startStore, Begun}
 use Rattle.run.specs.Kept.{BodiesKept, YokesKept, LimitsFrom}

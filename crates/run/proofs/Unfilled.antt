@@ -19,8 +19,8 @@ use Rattle.lingua.specs.Trees.{tabulateFrom, tabulate, declarationAt, profileOf
 use Rattle.laws.specs.Stores.{yoke-more}
 use Rattle.safety.specs.Accepted.{AcceptedRows}
 use Rattle.safety.specs.Passed.{tabulated-at}
-use Rattle.rules.specs.Tables.{IsTable}
-use Rattle.rules.specs.declared.tables.Table.{Table}
+use Rattle.decoder.specs.Tables.{IsTable}
+use Rattle.decoder.specs.declared.tables.Table.{Table}
 use Rattle.rules.specs.Accepted.{counts}
 use Rattle.safety.specs.Named.{number-of}
 use Rattle.run.specs.Begun.{startStore}

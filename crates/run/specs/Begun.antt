@@ -10,8 +10,8 @@ use Rattle.lingua.specs.Store.{Variable, variableAt, cellsIn, statesIn}
 use Rattle.lingua.specs.Run.{unfilled}
 use Rattle.lingua.specs.Trees.{profileOf}
 use Rattle.safety.specs.Accepted.{AcceptedRows}
-use Rattle.rules.specs.Tables.{IsTable}
-use Rattle.rules.specs.declared.tables.Table.{Table}
+use Rattle.decoder.specs.Tables.{IsTable}
+use Rattle.decoder.specs.declared.tables.Table.{Table}
 use Rattle.profile.specs.Variables.{LimitAt}
 
 -- what the start asks: accepted rows, the tables of both files, and room for limits, cells and state words

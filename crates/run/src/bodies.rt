@@ -1,13 +1,13 @@
 // The declared bodies, 96 bytes for each variable, so that a run finds one without its type row.
+use decoder::tables::Table;
 use profile::declarations::declared_body;
-use rules::tables::Table;
 use rules::types::keep_body;
 ghost use mathlib.Core.Path.{_≡_};
 ghost use lib.ListN.{length};
 ghost use Rattle.lingua.specs.Numbers.{declaration-section, type-section, variable-bodies-length};
 ghost use Rattle.lingua.specs.Rows.{tableCount, pairCount};
 ghost use Rattle.safety.specs.Accepted.{AcceptedRows};
-ghost use Rattle.rules.specs.Tables.{IsTable};
+ghost use Rattle.decoder.specs.Tables.{IsTable};
 ghost use Rattle.rules.specs.Types.{BodiesBelow};
 ghost use Rattle.run.specs.Kept.{BodiesKept};
 

@@ -1,6 +1,8 @@
 // The start of a run: no variable is filled, and each has its declared yoke and limit. Limits are three cells for each variable, so that a
 // run searches for no name: whether there is one, and its two ends.
 use crate::words::set_yoke;
+use decoder::fields::bytes_at;
+use decoder::tables::Table;
 use lingua::sizes::LIMIT_CELLS;
 use lingua::sizes::STATES_LENGTH;
 use profile::declarations::declared_yoke;
@@ -8,8 +10,6 @@ use profile::find::Found;
 use profile::find::find;
 use profile::limits::limit_high;
 use profile::limits::limit_low;
-use rules::fields::bytes_at;
-use rules::tables::Table;
 ghost use Rattle.run.specs.Begun.{Asked, Begun};
 ghost use mathlib.Core.Path.{_≡_};
 ghost use lib.ListN.{length, replicate};
@@ -17,7 +17,7 @@ ghost use lib.IntN.{pos};
 ghost use Rattle.lingua.specs.Numbers.{declaration-section, states-length, limit-section, limit-cells-length, limit-cells};
 ghost use Rattle.lingua.specs.Rows.{pairCount};
 ghost use Rattle.safety.specs.Accepted.{AcceptedRows};
-ghost use Rattle.rules.specs.Tables.{IsTable};
+ghost use Rattle.decoder.specs.Tables.{IsTable};
 ghost use Rattle.run.specs.Kept.{YokesKept, LimitsFrom};
 ghost use Prim.Native.Nat.{_+_, _/_, _<_};
 

@@ -25,8 +25,8 @@ use Rattle.safety.specs.Invariant.{declaredStore, start-kept}
 use Rattle.safety.specs.Programs.{ReadsNumber, variables-fit}
 use Rattle.safety.specs.Passed.{reads-number}
 use Rattle.safety.specs.Once.{profile-laid-out, rows-laid-out}
-use Rattle.rules.specs.Tables.{IsTable}
-use Rattle.rules.specs.declared.tables.Table.{Table}
+use Rattle.decoder.specs.Tables.{IsTable}
+use Rattle.decoder.specs.declared.tables.Table.{Table}
 use Rattle.rules.specs.Accepted.{counts}
 use Rattle.profile.specs.Yokes.{YokeOf, every-yoke}
 use Rattle.run.specs.Begun.{startStore, Begun}

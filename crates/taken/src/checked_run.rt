@@ -1,12 +1,12 @@
 // The checked run of a pair of files that was taken (document 01: desk run). A refusal leaves all lent memory as it was.
 use crate::refusal::run_refusal;
+use decoder::tables::Table;
+use decoder::tables::Tables;
 use lingua::RunAnswer;
 use lingua::errors::NO_ERROR;
 use lingua::sizes::LIMIT_CELLS_LENGTH;
 use lingua::sizes::VARIABLE_BODIES_LENGTH;
 use pair::Pair;
-use rules::tables::Table;
-use rules::tables::Tables;
 use run::bodies::keep_bodies;
 use run::start::start;
 use walk::way::Way;
@@ -21,7 +21,7 @@ ghost use Rattle.lingua.specs.Trees.{profileOf};
 ghost use Rattle.lingua.specs.Inputs.{inputs, buffers};
 ghost use Rattle.lingua.specs.Calls.{readingsOf, ran, runResult, checkedCall};
 ghost use Rattle.pair.specs.Pair.{PairIs};
-ghost use Rattle.rules.specs.Tables.{IsTable, AreTables};
+ghost use Rattle.decoder.specs.Tables.{IsTable, AreTables};
 ghost use Rattle.rules.specs.Types.{BodiesBelow};
 ghost use Rattle.taken.specs.Taken.{PairOf};
 ghost use Rattle.taken.specs.Ways.{Startable};

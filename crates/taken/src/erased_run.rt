@@ -1,6 +1,8 @@
 // The erased run of a pair of files that was taken (document 01: chair run). It fills the layout table (sheet) itself, whatever that held; a
 // refusal, 17 included, leaves all lent memory as it was.
 use crate::refusal::run_refusal;
+use decoder::tables::Table;
+use decoder::tables::Tables;
 use lingua::RunAnswer;
 use lingua::errors::BAD_BUFFER;
 use lingua::errors::NO_ERROR;
@@ -8,8 +10,6 @@ use lingua::errors::TYPE_ERROR_FOUND;
 use lingua::sizes::LAYOUT_LENGTH;
 use lingua::sizes::LIMIT_CELLS_LENGTH;
 use pair::Pair;
-use rules::tables::Table;
-use rules::tables::Tables;
 use run::start::start;
 use typecheck::whole::check_profile;
 use walk::way::Way;
@@ -25,7 +25,7 @@ ghost use Rattle.lingua.specs.Trees.{profileOf};
 ghost use Rattle.lingua.specs.Inputs.{inputs, buffers};
 ghost use Rattle.lingua.specs.Calls.{readingsOf, ran, runResult, erasedCall, erasedResult};
 ghost use Rattle.pair.specs.Pair.{PairIs};
-ghost use Rattle.rules.specs.Tables.{IsTable, AreTables};
+ghost use Rattle.decoder.specs.Tables.{IsTable, AreTables};
 ghost use Rattle.rules.specs.Types.{BodiesBelow};
 ghost use Rattle.taken.specs.Taken.{PairOf};
 ghost use Rattle.taken.specs.Ways.{Startable, NumbersLimited, PassedRows, erasedRows};

@@ -16,8 +16,8 @@ use Rattle.lingua.specs.References.{allBelow, typeParts, declaredYoke, declarat
 use Rattle.laws.specs.Outcomes.{and-left, and-right}
 use Rattle.safety.specs.Accepted.{AcceptedRows}
 use Rattle.safety.specs.Every.{below-true}
-use Rattle.rules.specs.declared.tables.Table.{Table}
-use Rattle.rules.specs.Tables.{IsTable}
+use Rattle.decoder.specs.declared.tables.Table.{Table}
+use Rattle.decoder.specs.Tables.{IsTable}
 use Rattle.body.specs.Encode.{Holds}
 use Rattle.rules.specs.Types.{bodyAt, BodiesBelow}
 use Rattle.typecheck.specs.Check.{variableBodies}

@@ -8,10 +8,10 @@ use Rattle.lingua.specs.Numbers.{expression-section, instruction-section}
 use Rattle.lingua.specs.Rows.{tableCount, instructionRow}
 use Rattle.lingua.specs.Trees.{expressionTree, instructionTree}
 use Rattle.safety.specs.Accepted.{AcceptedRows}
-use Rattle.rules.specs.declared.tables.Tables.{Tables}
-use Rattle.rules.specs.declared.decode.ExpressionRow.{ExpressionRow as CodeRow}
-use Rattle.rules.specs.declared.decode.InstructionRow.{InstructionRow as CodeInstruction}
-use Rattle.rules.specs.Decoded.{instructionMeaning}
+use Rattle.decoder.specs.declared.tables.Tables.{Tables}
+use Rattle.decoder.specs.declared.decode.ExpressionRow.{ExpressionRow as CodeRow}
+use Rattle.decoder.specs.declared.decode.InstructionRow.{InstructionRow as CodeInstruction}
+use Rattle.decoder.specs.Decoded.{instructionMeaning}
 use Rattle.profile.specs.Row.{RowSays}
 use Rattle.rules.specs.Accepted.{counts}
 use Rattle.profile.specs.Facts.{RowFacts, row-facts, rowTree, row-tree, InstructionFacts, instruction-facts, instructionRowTree, instruction-row-tree}

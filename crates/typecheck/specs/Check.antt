@@ -11,8 +11,8 @@ use Rattle.lingua.specs.Rows.{tableCount, pairCount}
 use Rattle.lingua.specs.Trees.{tabulate, bodyOr, declaredBody}
 use Rattle.safety.specs.Accepted.{AcceptedRows}
 use Rattle.rules.specs.Types.{BodiesBelow}
-use Rattle.rules.specs.Tables.{AreTables}
-use Rattle.rules.specs.declared.tables.Tables.{Tables}
+use Rattle.decoder.specs.Tables.{AreTables}
+use Rattle.decoder.specs.declared.tables.Tables.{Tables}
 use Rattle.body.specs.Encode.{Holds, Held}
 use Rattle.typecheck.specs.declared.leaves.Checked.{Checked}
 

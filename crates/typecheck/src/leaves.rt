@@ -1,8 +1,8 @@
 // What the walk does at one row: the body of a variable, and the row's note in the layout table.
 use body::walk::measure_body;
+use decoder::fields::a_at;
+use decoder::tables::Tables;
 use lingua::sizes::BODY_BYTES;
-use rules::fields::a_at;
-use rules::tables::Tables;
 use rules::types::type_body;
 ghost use mathlib.Core.Path.{_≡_};
 ghost use Prim.Native.Nat.{_+_, _*_, _≤_, _<_};

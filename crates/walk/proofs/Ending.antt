@@ -16,8 +16,8 @@ use Rattle.lingua.specs.Calls.{endingOf, ran, runResult}
 use Rattle.safety.specs.Invariant.{declaredStore}
 use Rattle.safety.specs.Steps.{run-left}
 use Rattle.rules.specs.Accepted.{counts}
-use Rattle.rules.specs.declared.tables.Table.{Table}
-use Rattle.rules.specs.Tables.{IsTable}
+use Rattle.decoder.specs.declared.tables.Table.{Table}
+use Rattle.decoder.specs.Tables.{IsTable}
 use Rattle.run.specs.Statuses.{stateOf, progressOf}
 use Rattle.run.specs.declared.steps.Status.{Status}
 use Rattle.run.specs.Reached.{Lent, Going, Reached}

@@ -13,15 +13,15 @@ use Rattle.lingua.specs.Expression.{Expression, Instruction}
 use Rattle.lingua.specs.Run.{Progress, exec}
 use Rattle.lingua.specs.Trees.{expressionTree, instructionTree}
 use Rattle.safety.specs.Accepted.{AcceptedRows}
-use Rattle.rules.specs.Tables.{IsTable}
-use Rattle.rules.specs.declared.tables.Table.{Table}
+use Rattle.decoder.specs.Tables.{IsTable}
+use Rattle.decoder.specs.declared.tables.Table.{Table}
 use Rattle.profile.specs.Row.{KnownInstruction}
 use Rattle.rules.specs.Accepted.{counts}
 use Rattle.profile.specs.Known.{instruction-row-known}
 use Rattle.profile.specs.Yokes.{every-yoke}
-use Rattle.rules.specs.declared.decode.InstructionRow.{InstructionRow}
-use Rattle.rules.specs.declared.decode.InstructionRow.the-variants as does
-use Rattle.rules.specs.Decoded.{instructionMeaning}
+use Rattle.decoder.specs.declared.decode.InstructionRow.{InstructionRow}
+use Rattle.decoder.specs.declared.decode.InstructionRow.the-variants as does
+use Rattle.decoder.specs.Decoded.{instructionMeaning}
 use Rattle.profile.specs.Facts.{InstructionFacts, instruction-facts, instructionRowTree, instruction-row-tree}
 use Rattle.run.specs.declared.steps.Status.{Status}
 use Rattle.run.specs.Statuses.{stateOf}

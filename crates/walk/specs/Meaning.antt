@@ -16,11 +16,11 @@ use Rattle.lingua.specs.Refusal.{readingWrong}
 use Rattle.lingua.specs.declared.RunAnswer.{RunAnswer}
 use Rattle.lingua.specs.Calls.{ran, runResult}
 use Rattle.safety.specs.Invariant.{declaredStore}
-use Rattle.rules.specs.Tables.{IsTable}
-use Rattle.rules.specs.declared.tables.Table.{Table}
-use Rattle.rules.specs.declared.decode.InstructionRow.{InstructionRow}
-use Rattle.rules.specs.declared.decode.InstructionRow.the-variants as does
-use Rattle.rules.specs.Decoded.{instructionMeaning}
+use Rattle.decoder.specs.Tables.{IsTable}
+use Rattle.decoder.specs.declared.tables.Table.{Table}
+use Rattle.decoder.specs.declared.decode.InstructionRow.{InstructionRow}
+use Rattle.decoder.specs.declared.decode.InstructionRow.the-variants as does
+use Rattle.decoder.specs.Decoded.{instructionMeaning}
 use Rattle.run.specs.declared.steps.Status.{Status}
 use Rattle.run.specs.declared.steps.Truth.{Truth}
 use Rattle.run.specs.Statuses.{stateOf}

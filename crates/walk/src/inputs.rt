@@ -1,9 +1,9 @@
 // The inputs of a run (document 01: readings): in order, without steps, and none after an error.
 use crate::leaves::take_reading;
 use crate::way::Way;
+use decoder::tables::Table;
 use lingua::errors::NO_ERROR;
 use lingua::sizes::READING_PLACE;
-use rules::tables::Table;
 use run::steps::Status;
 use run::steps::settled;
 ghost use mathlib.Core.Path.{_≡_};

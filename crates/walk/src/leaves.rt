@@ -1,6 +1,6 @@
 // What differs between the two ways to run: how a value is stored, a yoke changed, a test asked and a reading taken.
 use crate::way::Way;
-use rules::tables::Table;
+use decoder::tables::Table;
 use run::steps::Truth;
 ghost use mathlib.Core.Path.{_≡_};
 ghost use mathlib.Core.Bool.{true};

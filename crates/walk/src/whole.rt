@@ -2,13 +2,13 @@
 use crate::exec::exec;
 use crate::inputs::take_readings;
 use crate::way::Way;
+use decoder::tables::Tables;
 use lingua::RunAnswer;
 use lingua::sizes::STACK_LENGTH;
-use rules::tables::Tables;
 use run::steps::ended;
 use run::steps::fresh;
 ghost use Rattle.lingua.specs.Calls.{readingsOf};
-ghost use Rattle.rules.specs.Tables.{AreTables};
+ghost use Rattle.decoder.specs.Tables.{AreTables};
 ghost use Rattle.run.specs.Reached.{lent};
 ghost use Rattle.walk.specs.Meaning.{context, Begins, Readable, Runs};
 

@@ -20,7 +20,7 @@ use Rattle.profile.proofs.agreement.in_range.Reads as in-range-reads
 use Rattle.profile.proofs.agreement.names_number.Reads as names-number-reads
 use Rattle.profile.proofs.limits.limit_high.Reads as limit-high-reads
 use Rattle.profile.proofs.limits.limit_low.Reads as limit-low-reads
-use Rattle.rules.proofs.fields.bytes_at.Reads as bytes-at-reads
+use Rattle.decoder.proofs.fields.bytes_at.Reads as bytes-at-reads
 
 limit-low-requires : tie.Need-limit-low-requires
 limit-low-requires c κs = search needs

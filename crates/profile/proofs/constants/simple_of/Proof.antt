@@ -4,11 +4,11 @@ use mathlib.Core.List.{List, [], _∷_}
 use Prim.Native.Nat.{ℕ}
 use types.Run.{OneOf, miss}
 use denote.Enum.Declared.{tagOf}
-use Rattle.rules.specs.Decoded.{expressionMeaning}
-use Rattle.rules.specs.declared.decode.ExpressionRow.{ExpressionRow}
-use Rattle.rules.specs.declared.decode.ExpressionRow.the-variants as row
-use Rattle.rules.specs.declared.decode.Simple.the-variants as simple
-use Rattle.rules.proofs.decode.ExpressionRow.{the-type}
+use Rattle.decoder.specs.Decoded.{expressionMeaning}
+use Rattle.decoder.specs.declared.decode.ExpressionRow.{ExpressionRow}
+use Rattle.decoder.specs.declared.decode.ExpressionRow.the-variants as row
+use Rattle.decoder.specs.declared.decode.Simple.the-variants as simple
+use Rattle.decoder.proofs.decode.ExpressionRow.{the-type}
 use Rattle.profile.specs.Row.{valueOf}
 use Rattle.profile.specs.Constants.{SimpleIn}
 use Rattle.profile.proofs.ConstantCells.{isConstant, simple-constant, simple-none}

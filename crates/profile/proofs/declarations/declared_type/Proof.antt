@@ -8,7 +8,7 @@ use Rattle.profile.proofs.declarations.declared_type.Statement.{stateme
 use Rattle.profile.proofs.declarations.declared_type.Tie as tie
 use Rattle.profile.proofs.declarations.declared_type.Reads as reads
 use Rattle.profile.proofs.declarations.declared_type.Lts as lts
-use Rattle.rules.proofs.fields.a_at.Reads as a-at-reads
+use Rattle.decoder.proofs.fields.a_at.Reads as a-at-reads
 
 mul-a-at : tie.Need-mul-a-at
 mul-a-at c = search needs

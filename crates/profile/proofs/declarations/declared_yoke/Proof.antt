@@ -5,7 +5,7 @@ use Rattle.profile.proofs.declarations.declared_yoke.Statement.{stateme
 use Rattle.profile.proofs.declarations.declared_yoke.Tie as tie
 use Rattle.profile.proofs.declarations.declared_yoke.Reads as reads
 use Rattle.profile.proofs.declarations.declared_yoke.Lts as lts
-use Rattle.rules.proofs.fields.b_at.Reads as b-at-reads
+use Rattle.decoder.proofs.fields.b_at.Reads as b-at-reads
 
 mul-b-at : tie.Need-mul-b-at
 mul-b-at c = search needs

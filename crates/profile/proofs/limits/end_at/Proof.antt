@@ -9,7 +9,7 @@ use Rattle.profile.proofs.limits.end_at.Tie as tie
 use Rattle.profile.proofs.limits.end_at.Reads as reads
 use Rattle.profile.proofs.limits.end_at.Lts as lts
 use Rattle.profile.proofs.constants.signed32.Reads as signed32-reads
-use Rattle.rules.proofs.fields.word32_at.Reads as word32-at-reads
+use Rattle.decoder.proofs.fields.word32_at.Reads as word32-at-reads
 
 mul-i : tie.Need-mul-i
 mul-i c = search needs

@@ -9,7 +9,7 @@ use Rattle.report.proofs.lines.put_line.Tie as tie
 use Rattle.report.proofs.lines.put_line.Reads as reads
 use Rattle.report.proofs.lines.put_line.Lts as lts
 use Rattle.report.proofs.lines.declared_cells.Reads as declared-cells-reads
-use Rattle.rules.proofs.fields.bytes_at.Reads as bytes-at-reads
+use Rattle.decoder.proofs.fields.bytes_at.Reads as bytes-at-reads
 use Rattle.run.proofs.words.is_filled.Reads as is-filled-reads
 use Rattle.text.proofs.report.put_variable_line.Reads as put-variable-line-reads
 

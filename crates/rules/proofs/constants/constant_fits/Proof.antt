@@ -7,8 +7,8 @@ use mir.Val.{toZ}
 use Rattle.lingua.specs.Value.{inRange, isCharacter}
 use Rattle.lingua.specs.Rows.{numberAt, bytesAt}
 use Rattle.lingua.specs.Rules.{constantFits}
-use Rattle.rules.specs.Decoded.{constantMeaning}
-use Rattle.rules.proofs.Constant.{word-is}
+use Rattle.decoder.specs.Decoded.{constantMeaning}
+use Rattle.decoder.proofs.Constant.{word-is}
 use borrow.Author.Needs.{needs}
 use Rattle.rules.proofs.constants.constant_fits.Statement.{statement}
 use Rattle.rules.proofs.constants.constant_fits.Tie as tie

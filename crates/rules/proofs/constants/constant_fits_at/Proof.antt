@@ -1,7 +1,7 @@
 -- `constant_fits_at` meets its contract: the decoded row is the row. Assumes nothing.
 use mathlib.Core.Path.{_∙_}
 use Rattle.lingua.specs.Rules.{rowConstantFits}
-use Rattle.rules.proofs.Decoding.{expression-unknown-of, expression-known-of, constant-in-bytes}
+use Rattle.decoder.proofs.Decoding.{expression-unknown-of, expression-known-of, constant-in-bytes}
 use borrow.Author.Needs.{needs}
 use Rattle.rules.proofs.constants.constant_fits_at.Statement.{statement}
 use Rattle.rules.proofs.constants.constant_fits_at.Tie as tie

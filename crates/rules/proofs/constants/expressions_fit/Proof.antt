@@ -11,7 +11,7 @@ use Rattle.lingua.specs.Rows.{tableCount, expressionRow}
 use Rattle.lingua.specs.Format.{everyBelow}
 use Rattle.lingua.specs.Rules.{rowConstantFits, attributesFit, expressionAttributes}
 use Rattle.rules.proofs.Every.{every-none, every-more, every-fails, every-all, both-left, both-right}
-use Rattle.rules.proofs.Short.{within-attributes}
+use Rattle.decoder.proofs.Short.{within-attributes}
 use Rattle.rules.proofs.constants.expressions_fit.Statement.{statement}
 use Rattle.rules.proofs.constants.expressions_fit.Tie as tie
 

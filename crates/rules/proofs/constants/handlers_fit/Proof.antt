@@ -12,7 +12,7 @@ use Rattle.lingua.specs.Rows.{tableCount, instructionRow}
 use Rattle.lingua.specs.Format.{everyBelow}
 use Rattle.lingua.specs.Rules.{handledErrors}
 use Rattle.rules.proofs.Every.{every-none, every-more, every-fails, every-all}
-use Rattle.rules.proofs.Short.{within-errors}
+use Rattle.decoder.proofs.Short.{within-errors}
 use Rattle.rules.proofs.constants.handlers_fit.Statement.{statement}
 use Rattle.rules.proofs.constants.handlers_fit.Tie as tie
 

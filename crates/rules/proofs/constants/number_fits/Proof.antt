@@ -1,5 +1,5 @@
 -- `number_fits` meets its contract: small numbers, and those that stand for small negative ones. Assumes nothing.
-use Rattle.rules.proofs.Constant.{small-fits, other-fits}
+use Rattle.decoder.proofs.Constant.{small-fits, other-fits}
 use Rattle.rules.proofs.constants.number_fits.Statement.{statement}
 use Rattle.rules.proofs.constants.number_fits.Tie as tie
 

@@ -6,10 +6,10 @@ use Prim.Native.Nat.{ℕ}
 use types.Run.{OneOf, miss}
 use denote.Enum.Declared.{tagOf}
 use Rattle.lingua.specs.Rules.{rowConstantFits}
-use Rattle.rules.specs.Decoded.{expressionMeaning}
-use Rattle.rules.specs.declared.decode.ExpressionRow.{ExpressionRow}
-use Rattle.rules.specs.declared.decode.ExpressionRow.the-variants as row
-use Rattle.rules.proofs.decode.ExpressionRow.{the-type}
+use Rattle.decoder.specs.Decoded.{expressionMeaning}
+use Rattle.decoder.specs.declared.decode.ExpressionRow.{ExpressionRow}
+use Rattle.decoder.specs.declared.decode.ExpressionRow.the-variants as row
+use Rattle.decoder.proofs.decode.ExpressionRow.{the-type}
 use borrow.Author.Needs.{needs}
 use Rattle.rules.proofs.constants.row_constant_fits.Statement.{statement}
 use Rattle.rules.proofs.constants.row_constant_fits.Tie as tie

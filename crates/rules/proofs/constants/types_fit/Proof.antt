@@ -10,7 +10,7 @@ use Rattle.lingua.specs.Rows.{tableCount, typeRow}
 use Rattle.lingua.specs.Format.{everyBelow}
 use Rattle.lingua.specs.Rules.{attributesFit, typeAttributes}
 use Rattle.rules.proofs.Every.{every-none, every-more, every-fails, every-all}
-use Rattle.rules.proofs.Short.{within-below}
+use Rattle.decoder.proofs.Short.{within-below}
 use Rattle.rules.proofs.constants.types_fit.Statement.{statement}
 use Rattle.rules.proofs.constants.types_fit.Tie as tie
 

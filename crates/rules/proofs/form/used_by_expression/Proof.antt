@@ -1,7 +1,7 @@
 -- `used_by_expression` meets its contract. Assumes nothing.
 use native.Mathlib.Numerals.{add-one}
 use Rattle.rules.specs.Form.{usedNumber}
-use Rattle.rules.specs.Decoded.{expressionUses}
+use Rattle.decoder.specs.Decoded.{expressionUses}
 use borrow.Author.Needs.{needs}
 use Rattle.rules.proofs.form.used_by_expression.Statement.{statement}
 use Rattle.rules.proofs.form.used_by_expression.Tie as tie

@@ -1,7 +1,7 @@
 -- `used_by_instruction` meets its contract. Assumes nothing.
 use native.Mathlib.Numerals.{add-one}
 use Rattle.rules.specs.Form.{usedNumber}
-use Rattle.rules.specs.Decoded.{instructionUses}
+use Rattle.decoder.specs.Decoded.{instructionUses}
 use borrow.Author.Needs.{needs}
 use Rattle.rules.proofs.form.used_by_instruction.Statement.{statement}
 use Rattle.rules.proofs.form.used_by_instruction.Tie as tie

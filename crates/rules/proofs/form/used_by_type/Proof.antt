@@ -1,7 +1,7 @@
 -- `used_by_type` meets its contract. Assumes nothing.
 use native.Mathlib.Numerals.{add-one}
 use Rattle.rules.specs.Form.{usedNumber}
-use Rattle.rules.specs.Decoded.{typeUses}
+use Rattle.decoder.specs.Decoded.{typeUses}
 use borrow.Author.Needs.{needs}
 use Rattle.rules.proofs.form.used_by_type.Statement.{statement}
 use Rattle.rules.proofs.form.used_by_type.Tie as tie

@@ -4,7 +4,7 @@ use Prim.Native.Nat.{_-_}
 use native.Mathlib.Omega.{arith}
 use lib.ListN.{length, drop}
 use Rattle.lingua.specs.Compute.{sameText}
-use Rattle.rules.proofs.Runs.{same-nil, same-step, same-fails}
+use Rattle.decoder.proofs.Runs.{same-nil, same-step, same-fails}
 use Rattle.rules.proofs.names.same_bytes.Statement.{statement}
 use Rattle.rules.proofs.names.same_bytes.Tie as tie
 

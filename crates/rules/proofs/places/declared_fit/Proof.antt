@@ -11,7 +11,7 @@ use Rattle.lingua.specs.Rows.{pairCount, yokeRoot}
 use Rattle.lingua.specs.Trees.{expressionTree}
 use Rattle.lingua.specs.Format.{everyBelow}
 use Rattle.lingua.specs.References.{declaredYoke}
-use Rattle.rules.specs.Reads.{reads}
+use Rattle.decoder.specs.Reads.{reads}
 use Rattle.rules.proofs.Every.{every-none, every-more, every-fails, every-all}
 use Rattle.rules.proofs.Refers.{yoke-in}
 use Rattle.rules.proofs.Reading.{roots-to, declared-below}

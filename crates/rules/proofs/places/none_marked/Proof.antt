@@ -4,8 +4,8 @@ use mathlib.Core.Bool.{false, not, _&&_}
 use Prim.Native.Nat.{ℕ}
 use lib.Dec.{ltb}
 use lib.ListN.{getD}
-use Rattle.rules.specs.Mentions.{listed}
-use Rattle.rules.proofs.Short.{all-0, all-1, all-2, all-x, all-y, all-z}
+use Rattle.decoder.specs.Mentions.{listed}
+use Rattle.decoder.proofs.Short.{all-0, all-1, all-2, all-x, all-y, all-z}
 use borrow.Author.Needs.{needs}
 use Rattle.rules.proofs.places.none_marked.Statement.{statement}
 use Rattle.rules.proofs.places.none_marked.Tie as tie

@@ -8,7 +8,7 @@ use Rattle.lingua.specs.Rows.{tableCount, pairCount, instructionRow, evaluated,
 use Rattle.lingua.specs.Trees.{expressionTree}
 use Rattle.lingua.specs.Format.{everyBelow}
 use Rattle.lingua.specs.References.{declaredYoke}
-use Rattle.rules.specs.Reads.{reads}
+use Rattle.decoder.specs.Reads.{reads}
 use Rattle.rules.proofs.Every.{third-1, third-2, third-3}
 use Rattle.rules.proofs.Reading.{places-are}
 use borrow.Author.Needs.{needs}

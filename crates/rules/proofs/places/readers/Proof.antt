@@ -3,7 +3,7 @@ use mathlib.Core.Path.{_≡_, refl}
 use Prim.Native.Nat.{_-_, _≤_}
 use native.Mathlib.Omega.{arith}
 use lib.ListN.{length, length-set}
-use Rattle.rules.specs.Reads.{Marked}
+use Rattle.decoder.specs.Reads.{Marked}
 use Rattle.rules.proofs.Reading.{marked-none, marked-more, marked-to}
 use Rattle.rules.proofs.places.readers.Statement.{statement}
 use Rattle.rules.proofs.places.readers.Tie as tie

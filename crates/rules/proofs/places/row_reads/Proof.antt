@@ -5,11 +5,11 @@ use mathlib.Core.List.{List, [], _∷_}
 use Prim.Native.Nat.{ℕ}
 use types.Run.{OneOf, miss}
 use denote.Enum.Declared.{tagOf}
-use Rattle.rules.specs.Reads.{readsRow}
-use Rattle.rules.specs.Decoded.{expressionMeaning}
-use Rattle.rules.specs.declared.decode.ExpressionRow.{ExpressionRow}
-use Rattle.rules.specs.declared.decode.ExpressionRow.the-variants as row
-use Rattle.rules.proofs.decode.ExpressionRow.{the-type}
+use Rattle.decoder.specs.Reads.{readsRow}
+use Rattle.decoder.specs.Decoded.{expressionMeaning}
+use Rattle.decoder.specs.declared.decode.ExpressionRow.{ExpressionRow}
+use Rattle.decoder.specs.declared.decode.ExpressionRow.the-variants as row
+use Rattle.decoder.proofs.decode.ExpressionRow.{the-type}
 use borrow.Author.Needs.{needs}
 use Rattle.rules.proofs.places.row_reads.Statement.{statement}
 use Rattle.rules.proofs.places.row_reads.Tie as tie

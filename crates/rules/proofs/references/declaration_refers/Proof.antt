@@ -5,7 +5,7 @@ use borrow.Author.Tests.{lt-ltb, le-ltb}
 use native.Mathlib.Omega.{arith}
 use Rattle.lingua.specs.Rows.{aAt, yokeRoot}
 use Rattle.rules.proofs.Every.{both-left, both-right}
-use Rattle.rules.proofs.Short.{within-below}
+use Rattle.decoder.proofs.Short.{within-below}
 use Rattle.rules.proofs.Refers.{declaration-is}
 use borrow.Author.Needs.{needs}
 use Rattle.rules.proofs.references.declaration_refers.Statement.{statement}

@@ -3,7 +3,7 @@ use mathlib.Core.Path.{sym, _∙_}
 use Prim.Native.Nat.{_/_}
 use borrow.Author.Tests.{not-true, not-false}
 use Rattle.rules.proofs.Every.{both-left, both-right}
-use Rattle.rules.proofs.Short.{within-below}
+use Rattle.decoder.proofs.Short.{within-below}
 use Rattle.rules.proofs.Refers.{expression-is}
 use borrow.Author.Needs.{needs}
 use Rattle.rules.proofs.references.expression_refers.Statement.{statement}

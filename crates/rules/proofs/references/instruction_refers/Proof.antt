@@ -4,7 +4,7 @@ use Prim.Native.Nat.{_/_}
 use borrow.Author.Tests.{not-true, not-false}
 use Rattle.lingua.specs.Rows.{instructionRow, parts, evaluated, yokeSet}
 use Rattle.lingua.specs.References.{allBelow, instructionVariables}
-use Rattle.rules.proofs.Short.{within-below}
+use Rattle.decoder.proofs.Short.{within-below}
 use Rattle.rules.proofs.Refers.{instruction-is, refers-1, refers-2, refers-3, refers-4}
 use borrow.Author.Needs.{needs}
 use Rattle.rules.proofs.references.instruction_refers.Statement.{statement}

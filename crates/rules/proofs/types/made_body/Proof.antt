@@ -3,7 +3,7 @@ use mathlib.Core.Path.{ap}
 use native.Mathlib.Omega.{arith}
 use Rattle.lingua.specs.Operation.{expand}
 use Rattle.body.specs.Typed.{binaryOffset}
-use Rattle.rules.specs.Decoded.{typeMeaning}
+use Rattle.decoder.specs.Decoded.{typeMeaning}
 use Rattle.rules.proofs.TypeRows.{part-list, part-record, parts-expand, attribute-record, attribute-expand, held-is, answers-simple, answers-list, answers-record, answers-expand}
 use borrow.Author.Needs.{needs}
 use Rattle.rules.proofs.types.made_body.Statement.{statement}

@@ -2,8 +2,8 @@
 use mathlib.Core.Path.{sym, ap, _∙_}
 use native.Mathlib.Omega.{arith}
 use Rattle.body.specs.Typed.{simpleOf}
-use Rattle.rules.specs.Decoded.{typeMeaning, typeDecoded}
-use Rattle.rules.proofs.Decoding.{type-decoded}
+use Rattle.decoder.specs.Decoded.{typeMeaning, typeDecoded}
+use Rattle.decoder.proofs.Decoding.{type-decoded}
 use Rattle.rules.proofs.TypeRows.{row-attributes, row-parts, row-answers, unknown-answers}
 use borrow.Author.Needs.{needs}
 use Rattle.rules.proofs.types.row_body.Statement.{statement}

@@ -1,6 +1,6 @@
 -- `simple_body` meets its contract, body by body. Assumes nothing.
 use Rattle.body.specs.Typed.{simpleOf}
-use Rattle.rules.specs.Decoded.{simpleMeaning}
+use Rattle.decoder.specs.Decoded.{simpleMeaning}
 use borrow.Author.Needs.{needs}
 use Rattle.rules.proofs.types.simple_body.Statement.{statement}
 use Rattle.rules.proofs.types.simple_body.Tie as tie

@@ -1,7 +1,7 @@
 -- `expressions_once` meets its contract: uses are noted in the definition's order. Assumes nothing.
 use Rattle.rules.proofs.Usage.{uses-order, counted-zeros, once-to}
 use mathlib.Core.List.{[]}
-use Rattle.rules.specs.Mentions.{mentionedBy}
+use Rattle.decoder.specs.Mentions.{mentionedBy}
 use borrow.Author.Needs.{needs}
 use Rattle.rules.proofs.uses.expressions_once.Statement.{statement}
 use Rattle.rules.proofs.uses.expressions_once.Tie as tie

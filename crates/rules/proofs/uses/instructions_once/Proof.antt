@@ -3,7 +3,7 @@ use mathlib.Core.Path.{refl, ap, _∙_}
 use mathlib.Core.List.{[]}
 use Prim.Native.Nat.{pred}
 use Rattle.lingua.specs.References.{instructionUses}
-use Rattle.rules.specs.Mentions.{mentionedBy}
+use Rattle.decoder.specs.Mentions.{mentionedBy}
 use Rattle.rules.proofs.Usage.{counted-zeros, once-to, pred-is}
 use borrow.Author.Needs.{needs}
 use Rattle.rules.proofs.uses.instructions_once.Statement.{statement}

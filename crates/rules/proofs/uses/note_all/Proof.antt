@@ -1,6 +1,6 @@
 -- `note_all` meets its contract: the list's numbers are noted in turn. Assumes nothing.
 use mathlib.Core.List.{[], _∷_, _++_}
-use Rattle.rules.specs.Mentions.{listed}
+use Rattle.decoder.specs.Mentions.{listed}
 use Rattle.rules.proofs.Usage.{counted-to, short-0, short-1, short-2, short-3}
 use borrow.Author.Needs.{needs}
 use Rattle.rules.proofs.uses.note_all.Statement.{statement}

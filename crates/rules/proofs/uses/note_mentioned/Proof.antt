@@ -8,7 +8,7 @@ use Rattle.lingua.specs.Numbers.{instruction-section}
 use Rattle.lingua.specs.Rows.{tableCount, instructionRow}
 use Rattle.lingua.specs.Trees.{tabulate}
 use Rattle.lingua.specs.Typing.{joined}
-use Rattle.rules.specs.Mentions.{mentionedBy}
+use Rattle.decoder.specs.Mentions.{mentionedBy}
 use Rattle.rules.specs.Uses.{Counted}
 use Rattle.rules.proofs.Usage.{mentions-alike, turn-none, turn-more, turn-all}
 use Rattle.rules.proofs.uses.note_mentioned.Statement.{statement}

@@ -9,9 +9,9 @@ use native.Mathlib.Omega.{arith}
 use Rattle.lingua.specs.Outcome.{ok}
 use Rattle.lingua.specs.Typing.{Bodies, checkInstruction}
 use Rattle.rules.specs.Accepted.{counts}
-use Rattle.rules.specs.declared.decode.InstructionRow.{InstructionRow}
-use Rattle.rules.specs.declared.decode.InstructionRow.the-variants as row
-use Rattle.rules.proofs.decode.InstructionRow.{the-type}
+use Rattle.decoder.specs.declared.decode.InstructionRow.{InstructionRow}
+use Rattle.decoder.specs.declared.decode.InstructionRow.the-variants as row
+use Rattle.decoder.proofs.decode.InstructionRow.{the-type}
 use Rattle.profile.specs.Known.{instruction-row-known}
 use Rattle.profile.specs.Facts.{InstructionFacts, instructionRowTree}
 use Rattle.typecheck.specs.Check.{variableBodies}

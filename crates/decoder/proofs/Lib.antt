@@ -1,0 +1,5 @@
+pub mod Counting
+pub mod Runs
+pub mod Decoding
+pub mod Short
+pub mod Constant

@@ -1,0 +1,4 @@
+pub mod Tables
+pub mod Decoded
+pub mod Reads
+pub mod Mentions
