@@ -56,17 +56,17 @@ module _ {rows : List ℕ} {t : Table} {variables : List ℕ} {limits cells : Li
   pub yoke-there : {k : ℕ} → k ≡ yokeAt states n → k ≤ t .count
   yoke-there e = omega (arith, e, Parts.yoke-there (memory-of (h .world .stored)) n lt (h .yokes n lt), h .world .table .count)
 
-  pub own-yoke : {k : ℕ} → k ≡ yokeAt states n → (x : Composite) → evalYoke (yokeTree rows k) (contents vs) x ≡ evalYoke (variableAt vs n .current) (contents vs) x
+  pub own-yoke : {k : ℕ} → k ≡ yokeAt states n → (x : Composite) → evalYoke (yokeTree rows k) (contents vs) x ≡ evalYoke (variableAt vs n .yoke) (contents vs) x
   own-yoke e x = ap (λ (y : Yoke). evalYoke y (contents vs) x) (ap (yokeTree rows) e ∙ Parts.own-yoke (memory-of (h .world .stored)) n lt (h .yokes n lt))
 
 -- ---- the checks without a yoke
 pub held-own : {variables : List ℕ} {limits : List ℤ} {n : ℕ} {v : Variable} → Bounds variables limits n v → {body : List ℕ} → body ≡ take body-bytes (drop (body-bytes * n) variables) → Holds body (v .body)
 held-own {v = v} b e = subst (λ (l : List ℕ). Holds l (v .body)) (sym e) (b .own)
 
-pub no-yoke : {rows : List ℕ} {t : Table} {variables : List ℕ} {limits cells : List ℤ} {states : List ℕ} {vs : List Variable} → Running rows t variables limits (lent cells states) vs → (n : ℕ) → n < length vs → {k : ℕ} → k ≡ yokeAt states n → k ≡ 0 → variableAt vs n .current ≡ always
+pub no-yoke : {rows : List ℕ} {t : Table} {variables : List ℕ} {limits cells : List ℤ} {states : List ℕ} {vs : List Variable} → Running rows t variables limits (lent cells states) vs → (n : ℕ) → n < length vs → {k : ℕ} → k ≡ yokeAt states n → k ≡ 0 → variableAt vs n .yoke ≡ always
 no-yoke {rows} h n lt {k} e z = sym (Parts.own-yoke (memory-of (h .world .stored)) n lt (h .yokes n lt)) ∙ ap (yokeTree rows) (sym e) ∙ always-is rows k z
 
-module _ (vs : List Variable) (v : Variable) (x : Composite) (free : v .current ≡ always) (b : Bool) (same : b ≡ sameBody (v .body) (x .body)) where
+module _ (vs : List Variable) (v : Variable) (x : Composite) (free : v .yoke ≡ always) (b : Bool) (same : b ≡ sameBody (v .body) (x .body)) where
   free-is : admitted vs v x ≡ (require b no-coherence >> require (within (v .limit) (asWhole (x .value))) yoke-not-satisfied)
   unfolding admitted evalYoke truthOr isBoolean asTruth
   free-is =
@@ -90,7 +90,7 @@ module _ (vs : List Variable) (v : Variable) (x : Composite) (free : v .current 
     free-passes k = record { answer = λ j. free-within ∙ ap (λ (t : Bool). require t yoke-not-satisfied) k; error = λ j. absurd (j refl) }
 
 -- ---- the checks
-module _ (vs : List Variable) (v : Variable) (x : Composite) {y : Evaluated} {s : List ℤ} (g : Gives y s (evalYoke (v .current) (contents vs) x)) where
+module _ (vs : List Variable) (v : Variable) (x : Composite) {y : Evaluated} {s : List ℤ} (g : Gives y s (evalYoke (v .yoke) (contents vs) x)) where
   pub yoke-error : (y .error ≡ 0 → ⊥) → Admits (y .error) (admitted vs v x)
   unfolding admitted
   yoke-error f = admits-error f (ap (λ (o : Result Composite). o >>= λ w. require (sameBody (v .body) (x .body)) no-coherence >> (truthOr yoke-expected w >>= λ t. require (t && within (v .limit) (asWhole (x .value))) yoke-not-satisfied)) (g .error f))
@@ -105,8 +105,8 @@ module _ (vs : List Variable) (v : Variable) (x : Composite) {y : Evaluated} {s 
     pub other-body : b ≡ false → Admits no-coherence (admitted vs v x)
     other-body f = admits-error (λ e. omega arith) (reached ∙ ap (λ (c : Bool). require c no-coherence >> (truthOr yoke-expected (g .answer z .value) >>= λ t. require (t && within (v .limit) (asWhole (x .value))) yoke-not-satisfied)) f)
 
-    module _ (f : b ≡ true) (p : Truth) (tells : Tells p (evalYoke (v .current) (contents vs) x >>= truthOr yoke-expected)) where
-      asked : admitted vs v x ≡ ((evalYoke (v .current) (contents vs) x >>= truthOr yoke-expected) >>= λ t. require (t && within (v .limit) (asWhole (x .value))) yoke-not-satisfied)
+    module _ (f : b ≡ true) (p : Truth) (tells : Tells p (evalYoke (v .yoke) (contents vs) x >>= truthOr yoke-expected)) where
+      asked : admitted vs v x ≡ ((evalYoke (v .yoke) (contents vs) x >>= truthOr yoke-expected) >>= λ t. require (t && within (v .limit) (asWhole (x .value))) yoke-not-satisfied)
       asked =
           reached
           ∙ ap (λ (c : Bool). require c no-coherence >> (truthOr yoke-expected (g .answer z .value) >>= λ t. require (t && within (v .limit) (asWhole (x .value))) yoke-not-satisfied)) f

@@ -22,7 +22,7 @@ use Rattle.checked.specs.Meaning.{Filled, Running}
 
 module _ {rows : List ℕ} {t : Table} {variables : List ℕ} {limits cells : List ℤ} {states : List ℕ} {vs : List Variable} (h : Running rows t variables limits (lent cells states) vs) (n : ℕ) (lt : n < length vs) where
   -- another variable n with the same body and limit
-  replaced-running : (v : Variable) → v .body ≡ variableAt vs n .body → v .limit ≡ variableAt vs n .limit → ((x : Composite) → v .content ≡ some x → Filled v x) → YokeOf rows (v .current)
+  replaced-running : (v : Variable) → v .body ≡ variableAt vs n .body → v .limit ≡ variableAt vs n .limit → ((x : Composite) → v .content ≡ some x → Filled v x) → YokeOf rows (v .yoke)
       → (cells' : List ℤ) (states' : List ℕ) → cells' ≡ cellsIn (set vs n v) → states' ≡ statesIn (set vs n v) → Running rows t variables limits (lent cells' states') (set vs n v)
   replaced-running v b l f y cells' states' ce se =
       let s = h .world .stored in

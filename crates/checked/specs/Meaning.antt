@@ -87,7 +87,7 @@ pub record Running (rows : List ℕ) (t : Table) (variables : List ℕ) (limits 
   pub world : World rows t variables (l .cells) (l .states) vs
   pub room : limit-cells * length vs ≤ length limits
   pub limited : (n : ℕ) → n < length vs → LimitAt limits (limit-cells * n) (variableAt vs n .limit)
-  pub yokes : (n : ℕ) → n < length vs → YokeOf rows (variableAt vs n .current)
+  pub yokes : (n : ℕ) → n < length vs → YokeOf rows (variableAt vs n .yoke)
 
 -- some such store, with a variable n
 pub record HasRunning (rows : List ℕ) (t : Table) (variables : List ℕ) (limits : List ℤ) (l : Lent) (n : ℕ) : Type 0 where

@@ -38,13 +38,13 @@ fn whole(body: [u8; BODY_BYTES], value: &[i64]) -> i64
 // Whether variable n, whose yoke is always true, may take a value of a body.
 pub fn unyoked(
     variables: &[u8],
-    limits: &[i64],
+    kept: &[i64],
     n: usize,
     value: &[i64],
     body: [u8; BODY_BYTES],
 ) -> u8
-    requires { ⌜ HasBounds (now variables) (now limits) n (now value) body ⌝ }
-    ensures { λ r. ⌜ ((vs : List Variable) (v : Variable) (x : Composite) → Bounds (now (variables .entry)) (now (limits .entry)) n v → v .current ≡ always → Current (now (value .entry)) body x
+    requires { ⌜ HasBounds (now variables) (now kept) n (now value) body ⌝ }
+    ensures { λ r. ⌜ ((vs : List Variable) (v : Variable) (x : Composite) → Bounds (now (variables .entry)) (now (kept .entry)) n v → v .yoke ≡ always → Current (now (value .entry)) body x
         → Admits r (checks vs v x)) ⌝ }
 {
     let own = declared(variables, n);
@@ -52,7 +52,7 @@ pub fn unyoked(
         return NO_COHERENCE;
     }
     let z = whole(body, value);
-    if !in_limits(limits, n, z) {
+    if !in_limits(kept, n, z) {
         return YOKE_NOT_SATISFIED;
     }
     NO_ERROR
@@ -63,7 +63,7 @@ pub fn admitted(
     rows: &[u8],
     t: Table,
     variables: &[u8],
-    limits: &[i64],
+    kept: &[i64],
     cells: &[i64],
     states: &[u16],
     n: usize,
@@ -71,9 +71,9 @@ pub fn admitted(
     body: [u8; BODY_BYTES],
     stack: &mut [i64],
 ) -> u8
-    requires { ⌜ Checkable (now rows) t (now variables) (now limits) (lent (now cells) (now states)) n (now value) body ⌝ }
+    requires { ⌜ Checkable (now rows) t (now variables) (now kept) (lent (now cells) (now states)) n (now value) body ⌝ }
     requires { ⌜ body-cells * (t .count + 1) ≤ length (now stack) ⌝ }
-    ensures { λ r. ⌜ ((vs : List Variable) (x : Composite) → Running (now (rows .entry)) t (now (variables .entry)) (now (limits .entry)) (lent (now (cells .entry)) (now (states .entry))) vs → n < length vs → Current (now (value .entry)) body x
+    ensures { λ r. ⌜ ((vs : List Variable) (x : Composite) → Running (now (rows .entry)) t (now (variables .entry)) (now (kept .entry)) (lent (now (cells .entry)) (now (states .entry))) vs → n < length vs → Current (now (value .entry)) body x
         → Admits r (checks vs (variableAt vs n) x)) ⌝ }
 {
     let yoke = yoke_of(states, n);
@@ -103,7 +103,7 @@ pub fn admitted(
         return YOKE_NOT_SATISFIED;
     }
     let z = whole(body, value);
-    if !in_limits(limits, n, z) {
+    if !in_limits(kept, n, z) {
         return YOKE_NOT_SATISFIED;
     }
     NO_ERROR

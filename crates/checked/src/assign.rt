@@ -24,17 +24,17 @@ pub fn assign(
     rows: &[u8],
     t: Table,
     variables: &[u8],
-    limits: &[i64],
+    kept: &[i64],
     cells: &mut [i64],
     states: &mut [u16],
     n: usize,
     x: Evaluated,
     stack: &mut [i64],
 ) -> u8
-    requires { ⌜ Assignable (now rows) t (now variables) (now limits) (lent (now cells) (now states)) n x (now stack) ⌝ }
+    requires { ⌜ Assignable (now rows) t (now variables) (now kept) (lent (now cells) (now states)) n x (now stack) ⌝ }
     requires { ⌜ body-cells * (t .count + 1) ≤ length (now stack) ⌝ }
-    ensures { λ r. ⌜ ((vs : List Variable) (o : Result Composite) → Running (now (rows .entry)) t (now (variables .entry)) (now (limits .entry)) (lent (now (cells .entry)) (now (states .entry))) vs → n < length vs → Gives x (now (stack .entry)) o
-        → Assigns r (now (rows .entry)) t (now (variables .entry)) (now (limits .entry)) (lent (now (cells .entry)) (now (states .entry))) (lent (now (cells .exit)) (now (states .exit))) (bind o (assigned vs n))) ⌝ }
+    ensures { λ r. ⌜ ((vs : List Variable) (o : Result Composite) → Running (now (rows .entry)) t (now (variables .entry)) (now (kept .entry)) (lent (now (cells .entry)) (now (states .entry))) vs → n < length vs → Gives x (now (stack .entry)) o
+        → Assigns r (now (rows .entry)) t (now (variables .entry)) (now (kept .entry)) (lent (now (cells .entry)) (now (states .entry))) (lent (now (cells .exit)) (now (states .exit))) (bind o (assigned vs n))) ⌝ }
 {
     if x.error != NO_ERROR {
         return x.error;
@@ -42,7 +42,7 @@ pub fn assign(
     let body = x.body;
     let width = x.cells;
     if yoke_of(states, n) == 0 {
-        let wrong = unyoked(variables, limits, n, stack, body);
+        let wrong = unyoked(variables, kept, n, stack, body);
         if wrong != NO_ERROR {
             return wrong;
         }
@@ -55,7 +55,7 @@ pub fn assign(
         rows,
         t,
         variables,
-        limits,
+        kept,
         cells,
         states,
         n,

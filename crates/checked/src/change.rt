@@ -16,18 +16,18 @@ pub fn change_yoke(
     rows: &[u8],
     t: Table,
     variables: &[u8],
-    limits: &[i64],
+    kept: &[i64],
     cells: &[i64],
     states: &mut [u16],
     n: usize,
     y: u16,
     stack: &mut [i64],
 ) -> u8
-    requires { ⌜ HasRunning (now rows) t (now variables) (now limits) (lent (now cells) (now states)) n ⌝ }
+    requires { ⌜ HasRunning (now rows) t (now variables) (now kept) (lent (now cells) (now states)) n ⌝ }
     requires { ⌜ y ≤ t .count ⌝ }
     requires { ⌜ body-cells * (y + 1) ≤ length (now stack) ⌝ }
-    ensures { λ r. ⌜ ((vs : List Variable) → Running (now (rows .entry)) t (now (variables .entry)) (now (limits .entry)) (lent (now (cells .entry)) (now (states .entry))) vs → n < length vs
-        → Assigns r (now (rows .entry)) t (now (variables .entry)) (now (limits .entry)) (lent (now (cells .entry)) (now (states .entry))) (lent (now (cells .entry)) (now (states .exit))) (yokeChanged vs n (yokeTree (now (rows .entry)) y))) ⌝ }
+    ensures { λ r. ⌜ ((vs : List Variable) → Running (now (rows .entry)) t (now (variables .entry)) (now (kept .entry)) (lent (now (cells .entry)) (now (states .entry))) vs → n < length vs
+        → Assigns r (now (rows .entry)) t (now (variables .entry)) (now (kept .entry)) (lent (now (cells .entry)) (now (states .entry))) (lent (now (cells .entry)) (now (states .exit))) (yokeChanged vs n (yokeTree (now (rows .entry)) y))) ⌝ }
 {
     let error = yoke_holds(rows, t, variables, cells, states, n, y as usize, stack);
     if error != NO_ERROR {

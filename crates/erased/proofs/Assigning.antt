@@ -55,13 +55,13 @@ module _ {rows : List ℕ} {t : Table} {layout : List ℕ} {limits cells : List 
     new : List Variable
     new = set vs n (withContent (variableAt vs n) x)
 
-    checked : assigned vs n x ≡ ((yokeHoldsErased (variableAt vs n .current) (valuesOf (contents vs)) (some (x .value)) >> require limit yoke-not-satisfied) >> ok new)
+    checked : assigned vs n x ≡ ((yokeHoldsErased (variableAt vs n .yoke) (valuesOf (contents vs)) (some (x .value)) >> require limit yoke-not-satisfied) >> ok new)
     unfolding admittedErased yokeHoldsErased limit new
     checked =
         assigned-erased (HoldsIn layout) (w .declarations) vs (w .kept) (w .passed-yokes) n x b
-        ∙ ap (λ (o : Result (Unit {0})). o >> ok (set vs n (withContent (variableAt vs n) x))) (limit-behind (yokeErased (variableAt vs n .current) (valuesOf (contents vs)) (x .value)) (within (variableAt vs n .limit) (asWhole (x .value))))
+        ∙ ap (λ (o : Result (Unit {0})). o >> ok (set vs n (withContent (variableAt vs n) x))) (limit-behind (yokeErased (variableAt vs n .yoke) (valuesOf (contents vs)) (x .value)) (within (variableAt vs n .limit) (asWhole (x .value))))
 
-    pub yoke-fails : {r : ℕ} → Admits r (yokeHoldsErased (variableAt vs n .current) (valuesOf (contents vs)) (some (x .value))) → (r ≡ 0 → ⊥) → assigned vs n x ≡ fail r
+    pub yoke-fails : {r : ℕ} → Admits r (yokeHoldsErased (variableAt vs n .yoke) (valuesOf (contents vs)) (some (x .value))) → (r ≡ 0 → ⊥) → assigned vs n x ≡ fail r
     yoke-fails h f = checked ∙ ap (λ (o : Result (Unit {0})). (o >> require limit yoke-not-satisfied) >> ok new) (h .error f)
 
     module _ (s : Satisfies vs n x) where
@@ -108,7 +108,7 @@ module _ {rows : List ℕ} {t : Table} {layout : List ℕ} {limits cells : List 
   pub yoke-there : {k : ℕ} → k ≡ yokeAt states n → k ≤ t .count
   yoke-there e = omega (arith, e, Parts.yoke-there (memory-of (w .world)) n lt (w .yokes n lt), w .world .table .count)
 
-  own-yoke : {k : ℕ} → k ≡ yokeAt states n → yokeTree rows k ≡ variableAt vs n .current
+  own-yoke : {k : ℕ} → k ≡ yokeAt states n → yokeTree rows k ≡ variableAt vs n .yoke
   own-yoke e = ap (yokeTree rows) e ∙ Parts.own-yoke (memory-of (w .world)) n lt (w .yokes n lt)
 
   -- the yoke that is always true
@@ -131,7 +131,7 @@ module _ {rows : List ℕ} {t : Table} {layout : List ℕ} {limits cells : List 
     pub value-ready : {k : ℕ} → k ≡ yokeAt states n → ReadyYoke rows t layout cells states value (yokeTree rows k)
     value-ready e = record { declarations = w .declarations; store = vs; world = w .world; body = bodiesOf (w .declarations) n; value = x .value; is = value-current; passed = own-passed e }
 
-    pub own-admits : {k : ℕ} → k ≡ yokeAt states n → {r : ℕ} → AdmitsValue rows t layout cells states value (yokeTree rows k) r → Admits r (yokeHoldsErased (variableAt vs n .current) (valuesOf (contents vs)) (some (x .value)))
+    pub own-admits : {k : ℕ} → k ≡ yokeAt states n → {r : ℕ} → AdmitsValue rows t layout cells states value (yokeTree rows k) r → Admits r (yokeHoldsErased (variableAt vs n .yoke) (valuesOf (contents vs)) (some (x .value)))
     own-admits e {r} h =
         subst (λ (y : Yoke). Admits r (yokeHoldsErased y (valuesOf (contents vs)) (some (x .value)))) (own-yoke e)
         (h .admits (w .declarations) vs (bodiesOf (w .declarations) n) (x .value) (w .world) value-current (own-passed e))

@@ -26,7 +26,7 @@ use Rattle.erased.specs.Meaning.{Running}
 
 module _ {rows : List ℕ} {t : Table} {layout : List ℕ} {limits cells : List ℤ} {states : List ℕ} {vs : List Variable} (h : Running rows t layout limits (lent cells states) vs) (n : ℕ) (lt : n < length vs) where
   -- another variable n with the same limit
-  replaced-running : (v : Variable) → v .limit ≡ variableAt vs n .limit → YokeOf rows (v .current) → StoreKept (map unfilled (h .declarations)) (set vs n v) → YokesDerived (HoldsIn layout) (bodiesOf (h .declarations)) (set vs n v)
+  replaced-running : (v : Variable) → v .limit ≡ variableAt vs n .limit → YokeOf rows (v .yoke) → StoreKept (map unfilled (h .declarations)) (set vs n v) → YokesDerived (HoldsIn layout) (bodiesOf (h .declarations)) (set vs n v)
       → (cells' : List ℤ) (states' : List ℕ) → cells' ≡ cellsIn (set vs n v) → states' ≡ statesIn (set vs n v) → Running rows t layout limits (lent cells' states') (set vs n v)
   replaced-running v l y k d cells' states' ce se =
       let ds = h .declarations in

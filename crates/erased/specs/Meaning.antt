@@ -183,7 +183,7 @@ pub record Running (rows : List ℕ) (t : Table) (layout : List ℕ) (limits : L
   pub limited : (n : ℕ) → n < length vs → LimitAt limits (limit-cells * n) (variableAt vs n .limit)
   pub limited-numbers : (n : ℕ) (b : Limit) → n < length vs → variableAt vs n .limit ≡ some b → bodiesOf declarations n ≡ number
   pub number-variables : (n : ℕ) → isNumberVariable rows n ≡ true → bodiesOf declarations n ≡ number
-  pub yokes : (n : ℕ) → n < length vs → YokeOf rows (variableAt vs n .current)
+  pub yokes : (n : ℕ) → n < length vs → YokeOf rows (variableAt vs n .yoke)
 
 -- some such store
 pub record HasRunning (rows : List ℕ) (t : Table) (layout : List ℕ) (limits : List ℤ) (l : Lent) : Type 0 where
@@ -248,7 +248,7 @@ pub record StoreRoom (limits cells : List ℤ) (states : List ℕ) (n width : �
 
 -- a value that satisfies variable n's current yoke
 pub record Satisfies (vs : List Variable) (n : ℕ) (x : Composite) : Type 0 where
-  pub holds : yokeHoldsErased (variableAt vs n .current) (valuesOf (contents vs)) (some (x .value)) ≡ ok tt
+  pub holds : yokeHoldsErased (variableAt vs n .yoke) (valuesOf (contents vs)) (some (x .value)) ≡ ok tt
 
 -- whether a value satisfies a yoke, for every store, value and body with which the type check passed it
 pub record AdmitsValue (rows : List ℕ) (t : Table) (layout : List ℕ) (cells : List ℤ) (states : List ℕ) (value : List ℤ) (y : Yoke) (r : ℕ) : Type 0 where

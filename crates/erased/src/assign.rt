@@ -20,18 +20,18 @@ pub fn assign(
     rows: &[u8],
     t: Table,
     layout: &[u16],
-    limits: &[i64],
+    kept: &[i64],
     cells: &mut [i64],
     states: &mut [u16],
     n: usize,
     e: usize,
     stack: &mut [i64],
 ) -> u8
-    requires { ⌜ HasRunning (now rows) t (now layout) (now limits) (lent (now cells) (now states)) ⌝ }
+    requires { ⌜ HasRunning (now rows) t (now layout) (now kept) (lent (now cells) (now states)) ⌝ }
     requires { ⌜ (n < pairCount (now rows) declaration-section) × (e < t .count) × AssignRow (now rows) n e ⌝ }
     requires { ⌜ body-cells * (t .count + 1) ≤ length (now stack) ⌝ }
-    ensures { λ r. ⌜ ((vs : List Variable) → Running (now (rows .entry)) t (now (layout .entry)) (now (limits .entry)) (lent (now (cells .entry)) (now (states .entry))) vs
-        → Settles r (Running (now (rows .entry)) t (now (layout .entry)) (now (limits .entry))) (lent (now (cells .entry)) (now (states .entry))) (lent (now (cells .exit)) (now (states .exit)))
+    ensures { λ r. ⌜ ((vs : List Variable) → Running (now (rows .entry)) t (now (layout .entry)) (now (kept .entry)) (lent (now (cells .entry)) (now (states .entry))) vs
+        → Settles r (Running (now (rows .entry)) t (now (layout .entry)) (now (kept .entry))) (lent (now (cells .entry)) (now (states .entry))) (lent (now (cells .exit)) (now (states .exit)))
         (bind (meaning (expressionTree (now (rows .entry)) e) (contents vs) no-current) (assigned vs n))) ⌝ }
 {
     let error = eval_plain(rows, t, layout, cells, states, e, &mut *stack);
@@ -39,5 +39,5 @@ pub fn assign(
         return error;
     }
     let width = size_at(layout, e);
-    store(rows, t, layout, limits, cells, states, n, width, stack)
+    store(rows, t, layout, kept, cells, states, n, width, stack)
 }

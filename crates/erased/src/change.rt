@@ -17,18 +17,18 @@ pub fn change_yoke(
     rows: &[u8],
     t: Table,
     layout: &[u16],
-    limits: &[i64],
+    kept: &[i64],
     cells: &[i64],
     states: &mut [u16],
     n: usize,
     y: u16,
     stack: &mut [i64],
 ) -> u8
-    requires { ⌜ HasRunning (now rows) t (now layout) (now limits) (lent (now cells) (now states)) ⌝ }
+    requires { ⌜ HasRunning (now rows) t (now layout) (now kept) (lent (now cells) (now states)) ⌝ }
     requires { ⌜ (n < pairCount (now rows) declaration-section) × (y ≤ t .count) × YokeRow (now rows) n y ⌝ }
     requires { ⌜ body-cells * (t .count + 1) ≤ length (now stack) ⌝ }
-    ensures { λ r. ⌜ ((vs : List Variable) → Running (now (rows .entry)) t (now (layout .entry)) (now (limits .entry)) (lent (now (cells .entry)) (now (states .entry))) vs
-        → Settles r (Running (now (rows .entry)) t (now (layout .entry)) (now (limits .entry))) (lent (now (cells .entry)) (now (states .entry))) (lent (now (cells .entry)) (now (states .exit)))
+    ensures { λ r. ⌜ ((vs : List Variable) → Running (now (rows .entry)) t (now (layout .entry)) (now (kept .entry)) (lent (now (cells .entry)) (now (states .entry))) vs
+        → Settles r (Running (now (rows .entry)) t (now (layout .entry)) (now (kept .entry))) (lent (now (cells .entry)) (now (states .entry))) (lent (now (cells .entry)) (now (states .exit)))
         (yokeChanged vs n (yokeTree (now (rows .entry)) y))) ⌝ }
 {
     let error = yoke_holds(rows, t, layout, cells, states, n, y as usize, stack);

@@ -22,23 +22,23 @@ pub fn take_reading(
     rows: &[u8],
     t: Table,
     layout: &[u16],
-    limits: &[i64],
+    kept: &[i64],
     cells: &mut [i64],
     states: &mut [u16],
     n: usize,
     z: i64,
     stack: &mut [i64],
 ) -> u8
-    requires { ⌜ HasRunning (now rows) t (now layout) (now limits) (lent (now cells) (now states)) ⌝ }
+    requires { ⌜ HasRunning (now rows) t (now layout) (now kept) (lent (now cells) (now states)) ⌝ }
     requires { ⌜ (n < pairCount (now rows) declaration-section) × (isNumberVariable (now rows) n ≡ true) ⌝ }
     requires { ⌜ body-cells * (t .count + 1) ≤ length (now stack) ⌝ }
-    ensures { λ r. ⌜ ((vs : List Variable) → Running (now (rows .entry)) t (now (layout .entry)) (now (limits .entry)) (lent (now (cells .entry)) (now (states .entry))) vs
-        → Settles r (Running (now (rows .entry)) t (now (layout .entry)) (now (limits .entry))) (lent (now (cells .entry)) (now (states .entry))) (lent (now (cells .exit)) (now (states .exit)))
+    ensures { λ r. ⌜ ((vs : List Variable) → Running (now (rows .entry)) t (now (layout .entry)) (now (kept .entry)) (lent (now (cells .entry)) (now (states .entry))) vs
+        → Settles r (Running (now (rows .entry)) t (now (layout .entry)) (now (kept .entry))) (lent (now (cells .entry)) (now (states .entry))) (lent (now (cells .exit)) (now (states .exit)))
         (readingTaken vs (reading n z))) ⌝ }
 {
     if !between(LOWEST_NUMBER, HIGHEST_NUMBER, z) {
         return OVERFLOW;
     }
     stack[0] = z;
-    store(rows, t, layout, limits, cells, states, n, 1, stack)
+    store(rows, t, layout, kept, cells, states, n, 1, stack)
 }

@@ -18,21 +18,21 @@ ghost use Rattle.decoder.specs.declared.tables.Table.{Table};
 ghost use Rattle.run.specs.Reached.{lent, Settles};
 ghost use Rattle.erased.specs.Meaning.{Running, ValueFor, Storable, StoreRoom, Satisfies};
 
-// A value that satisfies its yoke. Only numbers have limits, so its first cell is asked.
+// A value that satisfies its yoke. Only numbers have kept, so its first cell is asked.
 fn store_within(
-    limits: &[i64],
+    kept: &[i64],
     cells: &mut [i64],
     states: &mut [u16],
     n: usize,
     value: &[i64],
     width: usize,
 ) -> u8
-    requires { ⌜ StoreRoom (now limits) (now cells) (now states) n width (now value) ⌝ }
-    ensures { λ r. ⌜ ((rows : List ℕ) (t : Table) (layout : List ℕ) (vs : List Variable) (x : Composite) (w : Running rows t layout (now (limits .entry)) (lent (now (cells .entry)) (now (states .entry))) vs)
+    requires { ⌜ StoreRoom (now kept) (now cells) (now states) n width (now value) ⌝ }
+    ensures { λ r. ⌜ ((rows : List ℕ) (t : Table) (layout : List ℕ) (vs : List Variable) (x : Composite) (w : Running rows t layout (now (kept .entry)) (lent (now (cells .entry)) (now (states .entry))) vs)
         → n < length vs → ValueFor (w .declarations) n width (now (value .entry)) x → Satisfies vs n x
-        → Settles r (Running rows t layout (now (limits .entry))) (lent (now (cells .entry)) (now (states .entry))) (lent (now (cells .exit)) (now (states .exit))) (assigned vs n x)) ⌝ }
+        → Settles r (Running rows t layout (now (kept .entry))) (lent (now (cells .entry)) (now (states .entry))) (lent (now (cells .exit)) (now (states .exit))) (assigned vs n x)) ⌝ }
 {
-    if !in_limits(limits, n, value[0]) {
+    if !in_limits(kept, n, value[0]) {
         return YOKE_NOT_SATISFIED;
     }
     put(cells, states, n, value, width);
@@ -44,22 +44,22 @@ pub fn store(
     rows: &[u8],
     t: Table,
     layout: &[u16],
-    limits: &[i64],
+    kept: &[i64],
     cells: &mut [i64],
     states: &mut [u16],
     n: usize,
     width: usize,
     stack: &mut [i64],
 ) -> u8
-    requires { ⌜ Storable (now rows) t (now layout) (now limits) (lent (now cells) (now states)) n width (now stack) ⌝ }
+    requires { ⌜ Storable (now rows) t (now layout) (now kept) (lent (now cells) (now states)) n width (now stack) ⌝ }
     requires { ⌜ body-cells * (t .count + 1) ≤ length (now stack) ⌝ }
-    ensures { λ r. ⌜ ((vs : List Variable) (x : Composite) (w : Running (now (rows .entry)) t (now (layout .entry)) (now (limits .entry)) (lent (now (cells .entry)) (now (states .entry))) vs)
+    ensures { λ r. ⌜ ((vs : List Variable) (x : Composite) (w : Running (now (rows .entry)) t (now (layout .entry)) (now (kept .entry)) (lent (now (cells .entry)) (now (states .entry))) vs)
         → n < length vs → ValueFor (w .declarations) n width (now (stack .entry)) x
-        → Settles r (Running (now (rows .entry)) t (now (layout .entry)) (now (limits .entry))) (lent (now (cells .entry)) (now (states .entry))) (lent (now (cells .exit)) (now (states .exit))) (assigned vs n x)) ⌝ }
+        → Settles r (Running (now (rows .entry)) t (now (layout .entry)) (now (kept .entry))) (lent (now (cells .entry)) (now (states .entry))) (lent (now (cells .exit)) (now (states .exit))) (assigned vs n x)) ⌝ }
 {
     let yoke = yoke_of(states, n);
     if yoke == 0 {
-        return store_within(limits, cells, states, n, stack, width);
+        return store_within(kept, cells, states, n, stack, width);
     }
     let mut value = [0i64; BODY_CELLS];
     copy(stack, 0, width, &mut value);
@@ -67,5 +67,5 @@ pub fn store(
     if error != NO_ERROR {
         return error;
     }
-    store_within(limits, cells, states, n, &value, width)
+    store_within(kept, cells, states, n, &value, width)
 }

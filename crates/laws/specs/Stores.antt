@@ -196,7 +196,7 @@ module _ (vs : List Variable) (n : ℕ) (lt : n < length vs) where
   unfolding flagAt
   flag-at = ap (λ (k : ℕ). getD (statesIn vs) k 0) (let e : flagPlace n ≡ flagPlace n + 0 = omega arith in e) ∙ word-at 0 (omega arith)
 
-  pub yoke-at : yokeAt (statesIn vs) n ≡ yokeNumber (variableAt vs n .current)
+  pub yoke-at : yokeAt (statesIn vs) n ≡ yokeNumber (variableAt vs n .yoke)
   unfolding yokeAt
   yoke-at = word-at 1 (omega arith)
 

@@ -79,7 +79,7 @@ yokeHoldsErased y vars (some v) = do
 -- variable n with the new value, of the variable's own body
 unfoldable pub assignedErased : List Variable → ℕ → Value → Result (List Variable)
 assignedErased vs n v = do
-  admittedErased (variableAt vs n .current) (variableAt vs n .limit) (valuesOf (contents vs)) v
+  admittedErased (variableAt vs n .yoke) (variableAt vs n .limit) (valuesOf (contents vs)) v
   ok (set vs n (withContent (variableAt vs n) (composite (variableAt vs n .body) v)))
 
 unfoldable pub changedErased : List Variable → ℕ → Yoke → Result (List Variable)

@@ -134,7 +134,7 @@ yokeChecksMet y vars x =
 -- an assignment of a value: its yoke and its body, each for itself, and its limits where it is of the variable's body
 unfoldable pub assignMet : List Variable → ℕ → Composite → List ℕ
 assignMet vs n x =
-    yokeChecksMet (variableAt vs n .current) (contents vs) x
+    yokeChecksMet (variableAt vs n .yoke) (contents vs) x
     ++ unlessMet (sameBody (variableAt vs n .body) (x .body)) no-coherence
     ++ onTrue (sameBody (variableAt vs n .body) (x .body)) (unlessMet (within (variableAt vs n .limit) (asWhole (x .value))) yoke-not-satisfied)
 

@@ -101,7 +101,7 @@ pub record Profile : Type 0 where
   pub program : Instruction
 
 abbrev pub unfilled : Declaration → Variable
-unfilled d = record { body = d .body; limit = d .limit; current = d .declared; content = none }
+unfilled d = record { body = d .body; limit = d .limit; yoke = d .declared; content = none }
 
 unfoldable pub started : Profile → ℕ → State
 started p budget = record { store = map unfilled (p .declarations); error = no-error; place = 0; left = budget }

@@ -25,11 +25,11 @@ pub record Limit : Type 0 where
 pub record Variable : Type 0 where
   pub body : Body
   pub limit : Option Limit
-  pub current : Yoke
+  pub yoke : Yoke
   pub content : Option Composite
 
 abbrev pub no-variable : Variable
-no-variable = record { body = boolean; limit = none; current = always; content = none }
+no-variable = record { body = boolean; limit = none; yoke = always; content = none }
 
 abbrev pub variableAt : List Variable → ℕ → Variable
 variableAt vs n = getD vs n no-variable
@@ -39,10 +39,10 @@ abbrev pub contents : List Variable → Variables
 contents vs n = variableAt vs n .content
 
 abbrev pub withContent : Variable → Composite → Variable
-withContent v x = record { body = v .body; limit = v .limit; current = v .current; content = some x }
+withContent v x = record { body = v .body; limit = v .limit; yoke = v .yoke; content = some x }
 
 abbrev pub withYoke : Variable → Yoke → Variable
-withYoke v y = record { body = v .body; limit = v .limit; current = y; content = v .content }
+withYoke v y = record { body = v .body; limit = v .limit; yoke = y; content = v .content }
 
 unfoldable pub within : Option Limit → ℤ → Bool
 within none z = true
@@ -52,7 +52,7 @@ within (some l) z = leZ (l .low) z && leZ z (l .high)
 -- a new value's checks, in order: the own yoke's error, the body, the yoke's body, the yoke and the limits
 unfoldable pub admitted : List Variable → Variable → Composite → Result (Unit {0})
 admitted vs v x = do
-  y ← evalYoke (v .current) (contents vs) x
+  y ← evalYoke (v .yoke) (contents vs) x
   require (sameBody (v .body) (x .body)) no-coherence
   t ← truthOr yoke-expected y
   require (t && within (v .limit) (asWhole (x .value))) yoke-not-satisfied
@@ -102,7 +102,7 @@ storeCells (v ∷ vs) = pad body-cells (pos 0) (contentCells (v .content)) ++ st
 
 -- a variable's state words: whether it is filled, and its current yoke
 abbrev pub stateWords : Variable → List ℕ
-stateWords v = filledFlag (v .content) ∷ yokeNumber (v .current) ∷ []
+stateWords v = filledFlag (v .content) ∷ yokeNumber (v .yoke) ∷ []
 
 unfoldable pub storeStates : List Variable → List ℕ
 storeStates [] = []

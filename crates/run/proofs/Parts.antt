@@ -85,17 +85,17 @@ module _ {cells : List ℤ} {states : List ℕ} {vs : List Variable} {vars : Bod
         by none g = absurd (g refl)
         by (some x) g = (x, refl)
 
-    word-is : yokeAt states n ≡ yokeNumber (variableAt vs n .current)
+    word-is : yokeAt states n ≡ yokeNumber (variableAt vs n .yoke)
     word-is = ap (λ (l : List ℕ). yokeAt l n) (h .states-are) ∙ yoke-at vs n lt
 
-    module _ {rows : List ℕ} (y : YokeOf rows (variableAt vs n .current)) where
+    module _ {rows : List ℕ} (y : YokeOf rows (variableAt vs n .yoke)) where
       yoke-number : yokeAt states n ≡ y .number
       yoke-number = word-is ∙ ap yokeNumber (y .is) ∙ number-of rows (y .number)
 
       pub yoke-there : yokeAt states n ≤ tableCount rows expression-section
       yoke-there = omega (arith, yoke-number, y .there)
 
-      pub own-yoke : yokeTree rows (yokeAt states n) ≡ variableAt vs n .current
+      pub own-yoke : yokeTree rows (yokeAt states n) ≡ variableAt vs n .yoke
       own-yoke = ap (λ (k : ℕ). yokeTree rows k) yoke-number ∙ sym (y .is)
 
     -- ---- its value

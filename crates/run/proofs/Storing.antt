@@ -95,5 +95,5 @@ module _ (vs : List Variable) (n : ℕ) (v : Variable) where
       replaced (λ j w. j < length vs → LimitAt limits (3 * j) (w .limit)) vs n v
       (λ i. subst (λ c. LimitAt limits (3 * n) c) (sym e) (f n i)) f m (omega (arith, length-set vs n v, l))
 
-  pub yokes-kept : {rows : List ℕ} → YokeOf rows (v .current) → ((m : ℕ) → m < length vs → YokeOf rows (variableAt vs m .current)) → (m : ℕ) → m < length (set vs n v) → YokeOf rows (variableAt (set vs n v) m .current)
-  yokes-kept {rows} y f m l = replaced (λ j w. j < length vs → YokeOf rows (w .current)) vs n v (λ i. y) f m (omega (arith, length-set vs n v, l))
+  pub yokes-kept : {rows : List ℕ} → YokeOf rows (v .yoke) → ((m : ℕ) → m < length vs → YokeOf rows (variableAt vs m .yoke)) → (m : ℕ) → m < length (set vs n v) → YokeOf rows (variableAt (set vs n v) m .yoke)
+  yokes-kept {rows} y f m l = replaced (λ j w. j < length vs → YokeOf rows (w .yoke)) vs n v (λ i. y) f m (omega (arith, length-set vs n v, l))

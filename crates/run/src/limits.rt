@@ -1,4 +1,4 @@
-// The motor maker's limits, three cells for each variable.
+// The motor maker's kept, three cells for each variable.
 use lingua::sizes::LIMIT_CELLS;
 ghost use mathlib.Core.Path.{_≡_};
 ghost use mathlib.Core.Bool.{_&&_};
@@ -20,14 +20,14 @@ pub fn between(low: i64, high: i64, z: i64) -> bool
 }
 
 // Whether a number lies within variable n's limit, where it has one.
-pub fn in_limits(limits: &[i64], n: usize, z: i64) -> bool
-    requires { ⌜ limit-cells * n + limit-cells ≤ length (now limits) ⌝ }
-    ensures { λ r. ⌜ ((l : Option Limit) → LimitAt (now (limits .entry)) (limit-cells * n) l → r ≡ within l z) ⌝ }
+pub fn in_limits(kept: &[i64], n: usize, z: i64) -> bool
+    requires { ⌜ limit-cells * n + limit-cells ≤ length (now kept) ⌝ }
+    ensures { λ r. ⌜ ((l : Option Limit) → LimitAt (now (kept .entry)) (limit-cells * n) l → r ≡ within l z) ⌝ }
 {
-    if limits[LIMIT_CELLS * n] == 0 {
+    if kept[LIMIT_CELLS * n] == 0 {
         return true;
     }
-    let low = limits[LIMIT_CELLS * n + 1];
-    let high = limits[LIMIT_CELLS * n + 2];
+    let low = kept[LIMIT_CELLS * n + 1];
+    let high = kept[LIMIT_CELLS * n + 2];
     between(low, high, z)
 }

@@ -81,7 +81,7 @@ module _ (H : Entry → Type 0) (ds : List Declaration) where
   pub assigned-as : (s : State) → StateTyped H ds s → (n : ℕ) (v : Value) → assignedErased (s .store) n v ≡ assigned (s .store) n (composite (bodiesOf ds n) v)
   unfolding assignedErased
   assigned-as s h n v =
-      ap (λ (b : Body). admittedErased (variableAt (s .store) n .current) (variableAt (s .store) n .limit) (valuesOf (contents (s .store))) v >> ok (set (s .store) n (withContent (variableAt (s .store) n) (composite b v))))
+      ap (λ (b : Body). admittedErased (variableAt (s .store) n .yoke) (variableAt (s .store) n .limit) (valuesOf (contents (s .store))) v >> ok (set (s .store) n (withContent (variableAt (s .store) n) (composite b v))))
       (kept-body ds (s .store) (h .kept) n)
       ∙ sym (assigned-erased H ds (s .store) (h .kept) (h .yokes) n (composite (bodiesOf ds n) v) refl)
 

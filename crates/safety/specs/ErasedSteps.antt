@@ -39,14 +39,14 @@ module _ (H : Entry → Type 0) (ds : List Declaration) (vs : List Variable) (ke
       go (ok v) = refl
       go (fail n) = refl
 
-  admitted-erased : (v : Variable) (x : Composite) → x .body ≡ v .body → DerivedYoke H (bodiesOf ds) (v .current) (x .body)
-      → admitted vs v x ≡ admittedErased (v .current) (v .limit) (valuesOf (contents vs)) (x .value)
+  admitted-erased : (v : Variable) (x : Composite) → x .body ≡ v .body → DerivedYoke H (bodiesOf ds) (v .yoke) (x .body)
+      → admitted vs v x ≡ admittedErased (v .yoke) (v .limit) (valuesOf (contents vs)) (x .value)
   unfolding admitted admittedErased truthOr isBoolean
   admitted-erased v x e d =
-      ap (λ (o : Result Composite). o >>= λ y. require (sameBody (v .body) (x .body)) no-coherence >> (truthOr yoke-expected y >>= λ t. require (t && within (v .limit) (asWhole (x .value))) yoke-not-satisfied)) (yoke-erased (v .current) x d)
-      ∙ ap (λ (s : Bool). withBody boolean (yokeErased (v .current) (valuesOf (contents vs)) (x .value)) >>= λ y. require s no-coherence >> (truthOr yoke-expected y >>= λ t. require (t && within (v .limit) (asWhole (x .value))) yoke-not-satisfied))
+      ap (λ (o : Result Composite). o >>= λ y. require (sameBody (v .body) (x .body)) no-coherence >> (truthOr yoke-expected y >>= λ t. require (t && within (v .limit) (asWhole (x .value))) yoke-not-satisfied)) (yoke-erased (v .yoke) x d)
+      ∙ ap (λ (s : Bool). withBody boolean (yokeErased (v .yoke) (valuesOf (contents vs)) (x .value)) >>= λ y. require s no-coherence >> (truthOr yoke-expected y >>= λ t. require (t && within (v .limit) (asWhole (x .value))) yoke-not-satisfied))
       (ap (λ (b : Body). sameBody (v .body) b) e ∙ body-same (v .body))
-      ∙ go (yokeErased (v .current) (valuesOf (contents vs)) (x .value))
+      ∙ go (yokeErased (v .yoke) (valuesOf (contents vs)) (x .value))
     where
       go : (p : Result Value) → (withBody boolean p >>= λ y. require true no-coherence >> (truthOr yoke-expected y >>= λ t. require (t && within (v .limit) (asWhole (x .value))) yoke-not-satisfied))
           ≡ (p >>= λ t. require (asTruth t && within (v .limit) (asWhole (x .value))) yoke-not-satisfied)
@@ -55,11 +55,11 @@ module _ (H : Entry → Type 0) (ds : List Declaration) (vs : List Variable) (ke
 
   -- a value of the declared body
   pub assigned-erased : YokesDerived H (bodiesOf ds) vs → (n : ℕ) (x : Composite) → x .body ≡ bodiesOf ds n
-      → assigned vs n x ≡ (admittedErased (variableAt vs n .current) (variableAt vs n .limit) (valuesOf (contents vs)) (x .value) >> ok (set vs n (withContent (variableAt vs n) x)))
+      → assigned vs n x ≡ (admittedErased (variableAt vs n .yoke) (variableAt vs n .limit) (valuesOf (contents vs)) (x .value) >> ok (set vs n (withContent (variableAt vs n) x)))
   unfolding assigned YokesDerived
   assigned-erased ys n x e =
       ap (λ (o : Result (Unit {0})). o >> ok (set vs n (withContent (variableAt vs n) x)))
-      (admitted-erased (variableAt vs n) x (e ∙ sym (kept-body ds vs kept n)) (subst (λ (b : Body). DerivedYoke H (bodiesOf ds) (variableAt vs n .current) b) (sym e) (ys n)))
+      (admitted-erased (variableAt vs n) x (e ∙ sym (kept-body ds vs kept n)) (subst (λ (b : Body). DerivedYoke H (bodiesOf ds) (variableAt vs n .yoke) b) (sym e) (ys n)))
 
   pub changed-erased : (n : ℕ) (y : Yoke) → DerivedYoke H (bodiesOf ds) y (bodiesOf ds n)
       → yokeChanged vs n y ≡ (yokeHoldsErased y (valuesOf (contents vs)) (valuesOf (contents vs) n) >> ok (set vs n (withYoke (variableAt vs n) y)))

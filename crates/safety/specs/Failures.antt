@@ -236,29 +236,29 @@ assign-met vs k x n e = first (then-fails (admitted vs v x) _ n e)
     limited = onTrue (sameBody (v .body) (x .body)) (unlessMet (within (v .limit) (asWhole (x .value))) yoke-not-satisfied)
 
     all : List ℕ
-    all = yokeChecksMet (v .current) st x ++ coherent ++ limited
+    all = yokeChecksMet (v .yoke) st x ++ coherent ++ limited
 
-    by-yoke : (evalYoke (v .current) st x ≡ fail n) ⊎ ((r : Composite) × (evalYoke (v .current) st x ≡ ok r) × ((truthOr yoke-expected r ≡ fail n) ⊎ ((truthOr yoke-expected r ≡ ok false) × (yoke-not-satisfied ≡ n)))) → In n all
-    by-yoke h = Memᴰ·append-left limited (Memᴰ·append-left coherent (yoke-checks-met (v .current) st x n h))
+    by-yoke : (evalYoke (v .yoke) st x ≡ fail n) ⊎ ((r : Composite) × (evalYoke (v .yoke) st x ≡ ok r) × ((truthOr yoke-expected r ≡ fail n) ⊎ ((truthOr yoke-expected r ≡ ok false) × (yoke-not-satisfied ≡ n)))) → In n all
+    by-yoke h = Memᴰ·append-left limited (Memᴰ·append-left coherent (yoke-checks-met (v .yoke) st x n h))
 
-    last : sameBody (v .body) (x .body) ≡ true → (y : Composite) → evalYoke (v .current) st x ≡ ok y → (t : Bool) → truthOr yoke-expected y ≡ ok t → (t && within (v .limit) (asWhole (x .value))) ≡ false → yoke-not-satisfied ≡ n → In n all
-    last s y a true b c d = Memᴰ·append-right (yokeChecksMet (v .current) st x ++ coherent) (true-in (sameBody (v .body) (x .body)) _ n s (unless-in (within (v .limit) (asWhole (x .value))) yoke-not-satisfied n c d))
+    last : sameBody (v .body) (x .body) ≡ true → (y : Composite) → evalYoke (v .yoke) st x ≡ ok y → (t : Bool) → truthOr yoke-expected y ≡ ok t → (t && within (v .limit) (asWhole (x .value))) ≡ false → yoke-not-satisfied ≡ n → In n all
+    last s y a true b c d = Memᴰ·append-right (yokeChecksMet (v .yoke) st x ++ coherent) (true-in (sameBody (v .body) (x .body)) _ n s (unless-in (within (v .limit) (asWhole (x .value))) yoke-not-satisfied n c d))
     last s y a false b c d = by-yoke (inr (y, a, inr (b, d)))
 
-    third : sameBody (v .body) (x .body) ≡ true → (y : Composite) → evalYoke (v .current) st x ≡ ok y → (truthOr yoke-expected y ≡ fail n) ⊎ ((t : Bool) × (truthOr yoke-expected y ≡ ok t) × (require (t && within (v .limit) (asWhole (x .value))) yoke-not-satisfied ≡ fail n)) → In n all
+    third : sameBody (v .body) (x .body) ≡ true → (y : Composite) → evalYoke (v .yoke) st x ≡ ok y → (truthOr yoke-expected y ≡ fail n) ⊎ ((t : Bool) × (truthOr yoke-expected y ≡ ok t) × (require (t && within (v .limit) (asWhole (x .value))) yoke-not-satisfied ≡ fail n)) → In n all
     third s y a (inl q) = by-yoke (inr (y, a, inl q))
     third s y a (inr p) = let z = require-fails (p .0 && within (v .limit) (asWhole (x .value))) yoke-not-satisfied n (p .2) in last s y a (p .0) (p .1) (z .0) (z .1)
 
-    second : (evalYoke (v .current) st x ≡ fail n) ⊎ ((y : Composite) × (evalYoke (v .current) st x ≡ ok y) × ((require (sameBody (v .body) (x .body)) no-coherence >> (truthOr yoke-expected y >>= λ t. require (t && within (v .limit) (asWhole (x .value))) yoke-not-satisfied)) ≡ fail n)) → In n all
+    second : (evalYoke (v .yoke) st x ≡ fail n) ⊎ ((y : Composite) × (evalYoke (v .yoke) st x ≡ ok y) × ((require (sameBody (v .body) (x .body)) no-coherence >> (truthOr yoke-expected y >>= λ t. require (t && within (v .limit) (asWhole (x .value))) yoke-not-satisfied)) ≡ fail n)) → In n all
     second (inl q) = by-yoke (inl q)
     second (inr p) = body (required-fails (sameBody (v .body) (x .body)) no-coherence _ n (p .2))
       where
         body : ((sameBody (v .body) (x .body) ≡ false) × (no-coherence ≡ n)) ⊎ ((sameBody (v .body) (x .body) ≡ true) × ((truthOr yoke-expected (p .0) >>= λ t. require (t && within (v .limit) (asWhole (x .value))) yoke-not-satisfied) ≡ fail n)) → In n all
-        body (inl q) = Memᴰ·append-left limited (Memᴰ·append-right (yokeChecksMet (v .current) st x) (unless-in (sameBody (v .body) (x .body)) no-coherence n (q .0) (q .1)))
+        body (inl q) = Memᴰ·append-left limited (Memᴰ·append-right (yokeChecksMet (v .yoke) st x) (unless-in (sameBody (v .body) (x .body)) no-coherence n (q .0) (q .1)))
         body (inr q) = third (q .0) (p .0) (p .1) (fails (truthOr yoke-expected (p .0)) _ n (q .1))
 
     first : (admitted vs v x ≡ fail n) ⊎ (_≡_ {A = Result (List Variable)} (ok (set vs k (withContent v x))) (fail n)) → In n all
-    first (inl q) = second (fails (evalYoke (v .current) st x) _ n q)
+    first (inl q) = second (fails (evalYoke (v .yoke) st x) _ n q)
     first (inr q) = ok-is-fail q
 
 pub change-met : (vs : List Variable) (k : ℕ) (y : Yoke) (n : ℕ) → yokeChanged vs k y ≡ fail n → In n (onFilled (variableAt vs k .content) (λ x. yokeChecksMet y (contents vs) x))

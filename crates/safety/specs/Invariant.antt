@@ -40,7 +40,7 @@ pub record WellMadeProfile (p : Profile) : Type 0 where
 abbrev pub declaredStore : Profile → List Variable
 declaredStore p = map unfilled (p .declarations)
 
-unfilled-kept : (v : Variable) → v .content ≡ none → ClosedYoke (v .current) → Kept v v
+unfilled-kept : (v : Variable) → v .content ≡ none → ClosedYoke (v .yoke) → Kept v v
 unfilled-kept v e c = record { same-body = refl; same-limit = refl; closed = c; settled = λ x q. none-is-some (sym e ∙ q) }
 
 pub start-kept : {ds : List Declaration} → Every (λ d. ClosedYoke (d .declared)) ds → StoreKept (map unfilled ds) (map unfilled ds)
@@ -97,7 +97,7 @@ declared-body (d ∷ ds) (suc n) = declared-body ds n
 pub record FilledWell (p : Profile) (n : ℕ) (v : Variable) (x : Composite) : Type 0 where
   pub declared : x .body ≡ bodiesOf (p .declarations) n
   pub fits : Fits (x .value) (x .body)
-  pub satisfied : (vars : Variables) → evalYoke (v .current) vars x ≡ ok (booleanOf true)
+  pub satisfied : (vars : Variables) → evalYoke (v .yoke) vars x ≡ ok (booleanOf true)
   pub limited : within (variableAt (declaredStore p) n .limit) (asWhole (x .value)) ≡ true
 
 pub run-invariant : (p : Profile) → WellMadeProfile p → (readings : List Reading) (budget n : ℕ) (x : Composite)

@@ -94,7 +94,7 @@ unfolding ContentsFit
 cells-at vs h n l = lent-cells vs n l (small-by vs (λ k m. h k))
 
 pub states-at : (vs : List Variable) (n : ℕ) → n < length vs
-    → (flagAt (statesIn vs) n ≡ filledFlag (variableAt vs n .content)) × (yokeAt (statesIn vs) n ≡ yokeNumber (variableAt vs n .current))
+    → (flagAt (statesIn vs) n ≡ filledFlag (variableAt vs n .content)) × (yokeAt (statesIn vs) n ≡ yokeNumber (variableAt vs n .yoke))
 states-at vs n l = (flag-at vs n l, yoke-at vs n l)
 
 -- ---- the statement
@@ -131,7 +131,7 @@ module _ (rows lims : List ℕ) (accepted : AcceptedRows rows) (readings : List 
           omega (arith, length-cells (k .fits))
 
   -- the current yoke is the one that the state word names
-  yoke-is : (n : ℕ) → n < length last → variableAt last n .current ≡ yokeTree rows (yokeAt (statesIn last) n)
+  yoke-is : (n : ℕ) → n < length last → variableAt last n .yoke ≡ yokeTree rows (yokeAt (statesIn last) n)
   unfolding last
   yoke-is n l = run-named rows lims readings budget n .is ∙ ap (yokeTree rows) (sym (states-at last n l .1))
 

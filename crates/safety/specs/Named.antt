@@ -50,19 +50,19 @@ tree-named rows k = record { is = ap (yokeTree rows) (sym (number-of rows k)) }
 module _ (rows : List ℕ) where
   -- ---- stores
   abbrev AllNamed : List Variable → Type 0
-  AllNamed vs = (n : ℕ) → Named rows (variableAt vs n .current)
+  AllNamed vs = (n : ℕ) → Named rows (variableAt vs n .yoke)
 
   assigned-named : (vs : List Variable) → AllNamed vs → (n : ℕ) (x : Composite) (ws : List Variable) → assigned vs n x ≡ ok ws → AllNamed ws
   unfolding assigned
   assigned-named vs h n x ws e =
       let p = after (admitted vs (variableAt vs n) x) _ ws e in
-      subst AllNamed (same-answer (p .1)) (replaced (λ m v. Named rows (v .current)) vs n (withContent (variableAt vs n) x) (h n) h)
+      subst AllNamed (same-answer (p .1)) (replaced (λ m v. Named rows (v .yoke)) vs n (withContent (variableAt vs n) x) (h n) h)
 
   changed-named : (vs : List Variable) → AllNamed vs → (n : ℕ) (y : Yoke) → Named rows y → (ws : List Variable) → yokeChanged vs n y ≡ ok ws → AllNamed ws
   unfolding yokeChanged
   changed-named vs h n y k ws e =
       let p = after (yokeHolds vs y (variableAt vs n .content)) _ ws e in
-      subst AllNamed (same-answer (p .1)) (replaced (λ m v. Named rows (v .current)) vs n (withYoke (variableAt vs n) y) k h)
+      subst AllNamed (same-answer (p .1)) (replaced (λ m v. Named rows (v .yoke)) vs n (withYoke (variableAt vs n) y) k h)
 
   -- ---- states
   unfoldable StateNamed : State → Type 0
@@ -130,7 +130,7 @@ module _ (rows : List ℕ) where
   start-named (every-more h hs) (suc n) = start-named hs n
 
   -- ---- whole runs
-  pub run-named : (lims : List ℕ) (readings : List Reading) (budget n : ℕ) → Named rows (variableAt (lastState (run (profileOf rows lims) readings budget) .store) n .current)
+  pub run-named : (lims : List ℕ) (readings : List Reading) (budget n : ℕ) → Named rows (variableAt (lastState (run (profileOf rows lims) readings budget) .store) n .yoke)
   unfolding run StateNamed started
   run-named lims readings budget n =
       let p = profileOf rows lims in

@@ -40,7 +40,7 @@ use Rattle.safety.specs.Programs.{YokesDerived, TypedProfile, ReadsNumbe
 -- ---- declared yokes and instructions
 module _ {H : Entry → Type 0} (vars : Bodies) where
   declarations-derive : (d : ℕ) (ds : List Declaration) → Every (λ o. (es : List Entry) × (o ≡ ok es) × Every H es) (checkDeclarations vars d ds)
-      → (n : ℕ) → DerivedYoke H vars (variableAt (map unfilled ds) n .current) (bodiesOf ds n)
+      → (n : ℕ) → DerivedYoke H vars (variableAt (map unfilled ds) n .yoke) (bodiesOf ds n)
   unfolding checkDeclarations
   declarations-derive d [] h n = unfold DerivedYoke in tt
   declarations-derive d (v ∷ ds) (every-more h hs) zero = yoke-derives vars (v .declared) (v .body) (declaration-place + d) (h .0) (h .1) (h .2)

@@ -32,7 +32,7 @@ use Rattle.safety.specs.Quiet.{Quiet, QuietReading, on-true-met, exec-qu
 -- ---- what the type check passes
 -- every yoke of a store, on its variable's declared body
 unfoldable pub YokesDerived : (Entry → Type 0) → Bodies → List Variable → Type 0
-YokesDerived H vars vs = (n : ℕ) → DerivedYoke H vars (variableAt vs n .current) (vars n)
+YokesDerived H vars vs = (n : ℕ) → DerivedYoke H vars (variableAt vs n .yoke) (vars n)
 
 -- declared yokes, and every instruction of the program; H holds of the entry of each expression row
 pub record TypedProfile (H : Entry → Type 0) (p : Profile) : Type 0 where
@@ -82,7 +82,7 @@ module _ (H : Entry → Type 0) (ds : List Declaration) (vs : List Variable) (ke
   assign-safe ys n x h e =
       every-append
       (every-append
-      (yoke-checks-safe (variableAt vs n .current) (kept n .closed) x h (subst (λ (b : Body). DerivedYoke H (bodiesOf ds) (variableAt vs n .current) b) (sym e) (ys n)))
+      (yoke-checks-safe (variableAt vs n .yoke) (kept n .closed) x h (subst (λ (b : Body). DerivedYoke H (bodiesOf ds) (variableAt vs n .yoke) b) (sym e) (ys n)))
       (unless-met (sameBody (variableAt vs n .body) (x .body)) no-coherence
       (subst (λ (b : Body). sameBody (variableAt vs n .body) b ≡ true) (kept-body ds vs kept n ∙ sym e) (body-same (variableAt vs n .body)))))
       (on-true-met (sameBody (variableAt vs n .body) (x .body)) _ (λ q. unless-run-error (within (variableAt vs n .limit) (asWhole (x .value))) yoke-not-satisfied yoke-runs))
@@ -94,15 +94,15 @@ module _ (H : Entry → Type 0) (vars : Bodies) (vs : List Variable) (derived : 
   unfolding assigned YokesDerived
   assigned-yokes n x ws e =
       let p = after (admitted vs (variableAt vs n) x) _ ws e in
-      subst (λ (us : List Variable). (m : ℕ) → DerivedYoke H vars (variableAt us m .current) (vars m)) (same-answer (p .1))
-      (replaced (λ m v. DerivedYoke H vars (v .current) (vars m)) vs n (withContent (variableAt vs n) x) (derived n) derived)
+      subst (λ (us : List Variable). (m : ℕ) → DerivedYoke H vars (variableAt us m .yoke) (vars m)) (same-answer (p .1))
+      (replaced (λ m v. DerivedYoke H vars (v .yoke) (vars m)) vs n (withContent (variableAt vs n) x) (derived n) derived)
 
   pub changed-yokes : (n : ℕ) (y : Yoke) → DerivedYoke H vars y (vars n) → (ws : List Variable) → yokeChanged vs n y ≡ ok ws → YokesDerived H vars ws
   unfolding yokeChanged YokesDerived
   changed-yokes n y d ws e =
       let p = after (yokeHolds vs y (variableAt vs n .content)) _ ws e in
-      subst (λ (us : List Variable). (m : ℕ) → DerivedYoke H vars (variableAt us m .current) (vars m)) (same-answer (p .1))
-      (replaced (λ m v. DerivedYoke H vars (v .current) (vars m)) vs n (withYoke (variableAt vs n) y) d derived)
+      subst (λ (us : List Variable). (m : ℕ) → DerivedYoke H vars (variableAt us m .yoke) (vars m)) (same-answer (p .1))
+      (replaced (λ m v. DerivedYoke H vars (v .yoke) (vars m)) vs n (withYoke (variableAt vs n) y) d derived)
 
 filled-met : (c : Option Composite) (f : Composite → List ℕ) → ((x : Composite) → c ≡ some x → RunErrors (f x)) → RunErrors (onFilled c f)
 filled-met none f h = every-none

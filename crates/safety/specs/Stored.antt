@@ -23,14 +23,14 @@ use Rattle.safety.specs.Fitting.{FilledFit, yoke-fits, true-is}
 pub record Settled (v : Variable) (x : Composite) : Type 0 where
   pub coherent : x .body ≡ v .body
   pub fits : Fitting x
-  pub satisfied : (vars : Variables) → evalYoke (v .current) vars x ≡ ok (booleanOf true)
+  pub satisfied : (vars : Variables) → evalYoke (v .yoke) vars x ≡ ok (booleanOf true)
   pub limited : within (v .limit) (asWhole (x .value)) ≡ true
 
 -- a variable as it was declared, and as it is
 pub record Kept (d v : Variable) : Type 0 where
   pub same-body : v .body ≡ d .body
   pub same-limit : v .limit ≡ d .limit
-  pub closed : ClosedYoke (v .current)
+  pub closed : ClosedYoke (v .yoke)
   pub settled : (x : Composite) → v .content ≡ some x → Settled v x
 
 -- every variable of a store, as declared in another
@@ -60,13 +60,13 @@ required-true false n u e = never-ok e
 -- what the checks of a new value show
 pub record Admitted (vs : List Variable) (v : Variable) (x : Composite) : Type 0 where
   pub coherent : x .body ≡ v .body
-  pub satisfied : (evalYoke (v .current) (contents vs) x >>= λ y. truthOr yoke-expected y) ≡ ok true
+  pub satisfied : (evalYoke (v .yoke) (contents vs) x >>= λ y. truthOr yoke-expected y) ≡ ok true
   pub limited : within (v .limit) (asWhole (x .value)) ≡ true
 
 pub admitted-shows : (vs : List Variable) (v : Variable) (x : Composite) → admitted vs v x ≡ ok tt → Admitted vs v x
 unfolding admitted
 admitted-shows vs v x e =
-    let p = bound (evalYoke (v .current) (contents vs) x) _ tt e in
+    let p = bound (evalYoke (v .yoke) (contents vs) x) _ tt e in
     let q = demanded (sameBody (v .body) (x .body)) no-coherence _ tt (p .2) in
     let r = bound (truthOr yoke-expected (p .0)) _ tt (q .1) in
     let t = required-true (r .0 && within (v .limit) (asWhole (x .value))) yoke-not-satisfied tt (r .2) in
@@ -93,7 +93,7 @@ assigned-kept ds vs h n x fit ws e =
           same-limit = h n .same-limit;
           closed = h n .closed;
           settled = λ z q. subst (λ (w : Composite). Settled (withContent (variableAt vs n) x) w) (some-same q)
-              (record { coherent = a .coherent; fits = fit; satisfied = satisfied-everywhere (variableAt vs n .current) (h n .closed) (contents vs) (kept-fit ds vs h) x fit (a .satisfied); limited = a .limited });
+              (record { coherent = a .coherent; fits = fit; satisfied = satisfied-everywhere (variableAt vs n .yoke) (h n .closed) (contents vs) (kept-fit ds vs h) x fit (a .satisfied); limited = a .limited });
         }
 
 -- ---- yoke change

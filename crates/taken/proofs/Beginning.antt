@@ -53,10 +53,10 @@ module _ {rows limits : List ℕ} {kept cells : List ℤ} {states : List ℕ} (a
   declared : {n : ℕ} → n < length (startStore rows limits) → n < pairCount rows declaration-section
   declared l = omega (arith, l, b .count)
 
-  start-yoke : (n : ℕ) → n < length (startStore rows limits) → YokeOf rows (variableAt (startStore rows limits) n .current)
+  start-yoke : (n : ℕ) → n < length (startStore rows limits) → YokeOf rows (variableAt (startStore rows limits) n .yoke)
   unfolding declarationAt declaredYoke
   start-yoke n l =
-      record { number = declaredYoke rows n; there = every-yoke (tableCount rows expression-section) (declaredYoke rows n) (declared-root rows accepted n (declared l)); is = ap (λ (v : Variable). v .current) (start-at rows limits n (declared l)) }
+      record { number = declaredYoke rows n; there = every-yoke (tableCount rows expression-section) (declaredYoke rows n) (declared-root rows accepted n (declared l)); is = ap (λ (v : Variable). v .yoke) (start-at rows limits n (declared l)) }
 
   -- ---- with the declared bodies
   checked-start : (t : Table) → IsTable rows expression-section t → {variables : List ℕ} → BodiesKept rows variables (pairCount rows declaration-section)

@@ -39,15 +39,15 @@ fn assignment(
     u: Table,
     bodies: &[u8],
     layout: &[u16],
-    limits: &[i64],
+    kept: &[i64],
     cells: &mut [i64],
     states: &mut [u16],
     m: Status,
     stack: &mut [i64],
 ) -> Status
-    requires { ⌜ Asked row way (context (now rows) t (now bodies) (now layout) (now limits)) u (lent (now cells) (now states)) m (length (now stack)) ⌝ }
+    requires { ⌜ Asked row way (context (now rows) t (now bodies) (now layout) (now kept)) u (lent (now cells) (now states)) m (length (now stack)) ⌝ }
     requires { ⌜ AssignAt (now rows) row n e ⌝ }
-    ensures { λ r. ⌜ Executes row way (context (now (rows .entry)) t (now (bodies .entry)) (now (layout .entry)) (now (limits .entry))) (lent (now (cells .entry)) (now (states .entry))) (lent (now (cells .exit)) (now (states .exit))) m r ⌝ }
+    ensures { λ r. ⌜ Executes row way (context (now (rows .entry)) t (now (bodies .entry)) (now (layout .entry)) (now (kept .entry))) (lent (now (cells .entry)) (now (states .entry))) (lent (now (cells .exit)) (now (states .exit))) m r ⌝ }
 {
     if m.error != NO_ERROR {
         return m;
@@ -62,7 +62,7 @@ fn assignment(
         t,
         bodies,
         layout,
-        limits,
+        kept,
         cells,
         states,
         n,
@@ -83,15 +83,15 @@ fn yoke_change(
     u: Table,
     bodies: &[u8],
     layout: &[u16],
-    limits: &[i64],
+    kept: &[i64],
     cells: &[i64],
     states: &mut [u16],
     m: Status,
     stack: &mut [i64],
 ) -> Status
-    requires { ⌜ Asked row way (context (now rows) t (now bodies) (now layout) (now limits)) u (lent (now cells) (now states)) m (length (now stack)) ⌝ }
+    requires { ⌜ Asked row way (context (now rows) t (now bodies) (now layout) (now kept)) u (lent (now cells) (now states)) m (length (now stack)) ⌝ }
     requires { ⌜ SetYokeAt (now rows) row n y ⌝ }
-    ensures { λ r. ⌜ Executes row way (context (now (rows .entry)) t (now (bodies .entry)) (now (layout .entry)) (now (limits .entry))) (lent (now (cells .entry)) (now (states .entry))) (lent (now (cells .entry)) (now (states .exit))) m r ⌝ }
+    ensures { λ r. ⌜ Executes row way (context (now (rows .entry)) t (now (bodies .entry)) (now (layout .entry)) (now (kept .entry))) (lent (now (cells .entry)) (now (states .entry))) (lent (now (cells .entry)) (now (states .exit))) m r ⌝ }
 {
     if m.error != NO_ERROR {
         return m;
@@ -106,7 +106,7 @@ fn yoke_change(
         t,
         bodies,
         layout,
-        limits,
+        kept,
         cells,
         states,
         n,
@@ -125,14 +125,14 @@ pub fn exec(
     u: Table,
     bodies: &[u8],
     layout: &[u16],
-    limits: &[i64],
+    kept: &[i64],
     cells: &mut [i64],
     states: &mut [u16],
     m: Status,
     stack: &mut [i64],
 ) -> Status
-    requires { ⌜ Asked row way (context (now rows) t (now bodies) (now layout) (now limits)) u (lent (now cells) (now states)) m (length (now stack)) ⌝ }
-    ensures { λ r. ⌜ Executes row way (context (now (rows .entry)) t (now (bodies .entry)) (now (layout .entry)) (now (limits .entry))) (lent (now (cells .entry)) (now (states .entry))) (lent (now (cells .exit)) (now (states .exit))) m r ⌝ }
+    requires { ⌜ Asked row way (context (now rows) t (now bodies) (now layout) (now kept)) u (lent (now cells) (now states)) m (length (now stack)) ⌝ }
+    ensures { λ r. ⌜ Executes row way (context (now (rows .entry)) t (now (bodies .entry)) (now (layout .entry)) (now (kept .entry))) (lent (now (cells .entry)) (now (states .entry))) (lent (now (cells .exit)) (now (states .exit))) m r ⌝ }
 {
     let says = instruction_row(rows, u, row);
     match says {
@@ -148,7 +148,7 @@ pub fn exec(
                 u,
                 bodies,
                 layout,
-                limits,
+                kept,
                 cells,
                 states,
                 m,
@@ -166,7 +166,7 @@ pub fn exec(
                 u,
                 bodies,
                 layout,
-                limits,
+                kept,
                 cells,
                 states,
                 m,
@@ -182,7 +182,7 @@ pub fn exec(
                 u,
                 bodies,
                 layout,
-                limits,
+                kept,
                 &mut *cells,
                 &mut *states,
                 m,
@@ -199,7 +199,7 @@ pub fn exec(
                 u,
                 bodies,
                 layout,
-                limits,
+                kept,
                 cells,
                 states,
                 first,
@@ -218,7 +218,7 @@ pub fn exec(
                 u,
                 bodies,
                 layout,
-                limits,
+                kept,
                 cells,
                 states,
                 m,
@@ -236,7 +236,7 @@ pub fn exec(
                 u,
                 bodies,
                 layout,
-                limits,
+                kept,
                 cells,
                 states,
                 m,
@@ -254,7 +254,7 @@ pub fn exec(
                 u,
                 bodies,
                 layout,
-                limits,
+                kept,
                 cells,
                 states,
                 m,
@@ -276,15 +276,15 @@ fn branch(
     u: Table,
     bodies: &[u8],
     layout: &[u16],
-    limits: &[i64],
+    kept: &[i64],
     cells: &mut [i64],
     states: &mut [u16],
     m: Status,
     stack: &mut [i64],
 ) -> Status
-    requires { ⌜ Asked row way (context (now rows) t (now bodies) (now layout) (now limits)) u (lent (now cells) (now states)) m (length (now stack)) ⌝ }
+    requires { ⌜ Asked row way (context (now rows) t (now bodies) (now layout) (now kept)) u (lent (now cells) (now states)) m (length (now stack)) ⌝ }
     requires { ⌜ BranchAt (now rows) row e i j ⌝ }
-    ensures { λ r. ⌜ Executes row way (context (now (rows .entry)) t (now (bodies .entry)) (now (layout .entry)) (now (limits .entry))) (lent (now (cells .entry)) (now (states .entry))) (lent (now (cells .exit)) (now (states .exit))) m r ⌝ }
+    ensures { λ r. ⌜ Executes row way (context (now (rows .entry)) t (now (bodies .entry)) (now (layout .entry)) (now (kept .entry))) (lent (now (cells .entry)) (now (states .entry))) (lent (now (cells .exit)) (now (states .exit))) m r ⌝ }
 {
     if m.error != NO_ERROR {
         return m;
@@ -306,7 +306,7 @@ fn branch(
             u,
             bodies,
             layout,
-            limits,
+            kept,
             cells,
             states,
             taken,
@@ -321,7 +321,7 @@ fn branch(
         u,
         bodies,
         layout,
-        limits,
+        kept,
         cells,
         states,
         taken,
@@ -340,15 +340,15 @@ fn turns(
     u: Table,
     bodies: &[u8],
     layout: &[u16],
-    limits: &[i64],
+    kept: &[i64],
     cells: &mut [i64],
     states: &mut [u16],
     m: Status,
     stack: &mut [i64],
 ) -> Status
-    requires { ⌜ Asked row way (context (now rows) t (now bodies) (now layout) (now limits)) u (lent (now cells) (now states)) m (length (now stack)) ⌝ }
+    requires { ⌜ Asked row way (context (now rows) t (now bodies) (now layout) (now kept)) u (lent (now cells) (now states)) m (length (now stack)) ⌝ }
     requires { ⌜ LoopAt (now rows) row e i ⌝ }
-    ensures { λ r. ⌜ Executes row way (context (now (rows .entry)) t (now (bodies .entry)) (now (layout .entry)) (now (limits .entry))) (lent (now (cells .entry)) (now (states .entry))) (lent (now (cells .exit)) (now (states .exit))) m r ⌝ }
+    ensures { λ r. ⌜ Executes row way (context (now (rows .entry)) t (now (bodies .entry)) (now (layout .entry)) (now (kept .entry))) (lent (now (cells .entry)) (now (states .entry))) (lent (now (cells .exit)) (now (states .exit))) m r ⌝ }
 {
     let mut at = m;
     while at.error == NO_ERROR {
@@ -371,7 +371,7 @@ fn turns(
             u,
             bodies,
             layout,
-            limits,
+            kept,
             &mut *cells,
             &mut *states,
             taken,
@@ -395,15 +395,15 @@ fn handle(
     u: Table,
     bodies: &[u8],
     layout: &[u16],
-    limits: &[i64],
+    kept: &[i64],
     cells: &mut [i64],
     states: &mut [u16],
     m: Status,
     stack: &mut [i64],
 ) -> Status
-    requires { ⌜ Asked row way (context (now rows) t (now bodies) (now layout) (now limits)) u (lent (now cells) (now states)) m (length (now stack)) ⌝ }
+    requires { ⌜ Asked row way (context (now rows) t (now bodies) (now layout) (now kept)) u (lent (now cells) (now states)) m (length (now stack)) ⌝ }
     requires { ⌜ HandleAt (now rows) row n i ⌝ }
-    ensures { λ r. ⌜ Executes row way (context (now (rows .entry)) t (now (bodies .entry)) (now (layout .entry)) (now (limits .entry))) (lent (now (cells .entry)) (now (states .entry))) (lent (now (cells .exit)) (now (states .exit))) m r ⌝ }
+    ensures { λ r. ⌜ Executes row way (context (now (rows .entry)) t (now (bodies .entry)) (now (layout .entry)) (now (kept .entry))) (lent (now (cells .entry)) (now (states .entry))) (lent (now (cells .exit)) (now (states .exit))) m r ⌝ }
 {
     let taken = stepped(m);
     if taken.out {
@@ -420,7 +420,7 @@ fn handle(
         u,
         bodies,
         layout,
-        limits,
+        kept,
         cells,
         states,
         cleared(taken),

@@ -27,24 +27,24 @@ pub fn assign(
     t: Table,
     bodies: &[u8],
     layout: &[u16],
-    limits: &[i64],
+    kept: &[i64],
     cells: &mut [i64],
     states: &mut [u16],
     n: usize,
     e: usize,
     stack: &mut [i64],
 ) -> u8
-    requires { ⌜ Standing way (context (now rows) t (now bodies) (now layout) (now limits)) (lent (now cells) (now states)) (length (now stack)) ⌝ }
+    requires { ⌜ Standing way (context (now rows) t (now bodies) (now layout) (now kept)) (lent (now cells) (now states)) (length (now stack)) ⌝ }
     requires { ⌜ (n < pairCount (now rows) declaration-section) × (e < t .count) × AssignRow (now rows) n e ⌝ }
-    ensures { λ r. ⌜ Stores way (context (now (rows .entry)) t (now (bodies .entry)) (now (layout .entry)) (now (limits .entry))) (lent (now (cells .entry)) (now (states .entry))) (lent (now (cells .exit)) (now (states .exit))) r
+    ensures { λ r. ⌜ Stores way (context (now (rows .entry)) t (now (bodies .entry)) (now (layout .entry)) (now (kept .entry))) (lent (now (cells .entry)) (now (states .entry))) (lent (now (cells .exit)) (now (states .exit))) r
         (λ vs. bind (meaning (expressionTree (now (rows .entry)) e) (contents vs) no-current) (assigned vs n)) ⌝ }
 {
     match way {
         Way::Checked => {
             let x = checked::yoke::eval_plain(rows, t, bodies, cells, states, e, &mut *stack);
-            checked::assign::assign(rows, t, bodies, limits, cells, states, n, x, stack)
+            checked::assign::assign(rows, t, bodies, kept, cells, states, n, x, stack)
         }
-        Way::Erased => erased::assign::assign(rows, t, layout, limits, cells, states, n, e, stack),
+        Way::Erased => erased::assign::assign(rows, t, layout, kept, cells, states, n, e, stack),
     }
 }
 
@@ -55,27 +55,27 @@ pub fn change_yoke(
     t: Table,
     bodies: &[u8],
     layout: &[u16],
-    limits: &[i64],
+    kept: &[i64],
     cells: &[i64],
     states: &mut [u16],
     n: usize,
     y: u16,
     stack: &mut [i64],
 ) -> u8
-    requires { ⌜ Standing way (context (now rows) t (now bodies) (now layout) (now limits)) (lent (now cells) (now states)) (length (now stack)) ⌝ }
+    requires { ⌜ Standing way (context (now rows) t (now bodies) (now layout) (now kept)) (lent (now cells) (now states)) (length (now stack)) ⌝ }
     requires { ⌜ (n < pairCount (now rows) declaration-section) × (y ≤ t .count) × YokeRow (now rows) n y ⌝ }
-    ensures { λ r. ⌜ Stores way (context (now (rows .entry)) t (now (bodies .entry)) (now (layout .entry)) (now (limits .entry))) (lent (now (cells .entry)) (now (states .entry))) (lent (now (cells .entry)) (now (states .exit))) r
+    ensures { λ r. ⌜ Stores way (context (now (rows .entry)) t (now (bodies .entry)) (now (layout .entry)) (now (kept .entry))) (lent (now (cells .entry)) (now (states .entry))) (lent (now (cells .entry)) (now (states .exit))) r
         (λ vs. yokeChanged vs n (yokeTree (now (rows .entry)) y)) ⌝ }
 {
     match way {
         Way::Checked => {
-            checked::change::change_yoke(rows, t, bodies, limits, cells, states, n, y, stack)
+            checked::change::change_yoke(rows, t, bodies, kept, cells, states, n, y, stack)
         }
         Way::Erased => erased::change::change_yoke(
             rows,
             t,
             layout,
-            limits,
+            kept,
             cells,
             states,
             n,
@@ -99,7 +99,7 @@ pub fn test(
 ) -> Truth
     requires { ⌜ StandsUnder way (now rows) t (now bodies) (now layout) (lent (now cells) (now states)) (length (now stack)) ⌝ }
     requires { ⌜ (e < t .count) × TestRow (now rows) e ⌝ }
-    ensures { λ r. ⌜ ((limits : List ℤ) → TellsTest way (context (now (rows .entry)) t (now (bodies .entry)) (now (layout .entry)) limits) (lent (now (cells .entry)) (now (states .entry))) e r) ⌝ }
+    ensures { λ r. ⌜ ((kept : List ℤ) → TellsTest way (context (now (rows .entry)) t (now (bodies .entry)) (now (layout .entry)) kept) (lent (now (cells .entry)) (now (states .entry))) e r) ⌝ }
 {
     match way {
         Way::Checked => checked::yoke::eval_test(rows, t, bodies, cells, states, e, stack),
@@ -114,27 +114,27 @@ pub fn take_reading(
     t: Table,
     bodies: &[u8],
     layout: &[u16],
-    limits: &[i64],
+    kept: &[i64],
     cells: &mut [i64],
     states: &mut [u16],
     n: usize,
     z: i64,
     stack: &mut [i64],
 ) -> u8
-    requires { ⌜ Standing way (context (now rows) t (now bodies) (now layout) (now limits)) (lent (now cells) (now states)) (length (now stack)) ⌝ }
+    requires { ⌜ Standing way (context (now rows) t (now bodies) (now layout) (now kept)) (lent (now cells) (now states)) (length (now stack)) ⌝ }
     requires { ⌜ (n < pairCount (now rows) declaration-section) × (isNumberVariable (now rows) n ≡ true) ⌝ }
-    ensures { λ r. ⌜ Stores way (context (now (rows .entry)) t (now (bodies .entry)) (now (layout .entry)) (now (limits .entry))) (lent (now (cells .entry)) (now (states .entry))) (lent (now (cells .exit)) (now (states .exit))) r
+    ensures { λ r. ⌜ Stores way (context (now (rows .entry)) t (now (bodies .entry)) (now (layout .entry)) (now (kept .entry))) (lent (now (cells .entry)) (now (states .entry))) (lent (now (cells .exit)) (now (states .exit))) r
         (λ vs. readingTaken vs (reading n z)) ⌝ }
 {
     match way {
         Way::Checked => {
-            checked::reading::take_reading(rows, t, bodies, limits, cells, states, n, z, stack)
+            checked::reading::take_reading(rows, t, bodies, kept, cells, states, n, z, stack)
         }
         Way::Erased => erased::reading::take_reading(
             rows,
             t,
             layout,
-            limits,
+            kept,
             cells,
             states,
             n,

@@ -19,7 +19,7 @@ pub fn run(
     tables: Tables,
     bodies: &[u8],
     layout: &[u16],
-    limits: &[i64],
+    kept: &[i64],
     who: &[u16],
     numbers: &[i64],
     budget: u16,
@@ -27,9 +27,9 @@ pub fn run(
     states: &mut [u16],
 ) -> RunAnswer
     requires { ⌜ AreTables (now rows) tables ⌝ }
-    requires { ⌜ Begins way (context (now rows) (tables .expressions) (now bodies) (now layout) (now limits)) (lent (now cells) (now states)) ⌝ }
+    requires { ⌜ Begins way (context (now rows) (tables .expressions) (now bodies) (now layout) (now kept)) (lent (now cells) (now states)) ⌝ }
     requires { ⌜ Readable (now rows) (now who) (now numbers) ⌝ }
-    ensures { λ r. ⌜ Runs way (context (now (rows .entry)) (tables .expressions) (now (bodies .entry)) (now (layout .entry)) (now (limits .entry))) (lent (now (cells .entry)) (now (states .entry))) (lent (now (cells .exit)) (now (states .exit))) (readingsOf (now (who .entry)) (now (numbers .entry))) budget r ⌝ }
+    ensures { λ r. ⌜ Runs way (context (now (rows .entry)) (tables .expressions) (now (bodies .entry)) (now (layout .entry)) (now (kept .entry))) (lent (now (cells .entry)) (now (states .entry))) (lent (now (cells .exit)) (now (states .exit))) (readingsOf (now (who .entry)) (now (numbers .entry))) budget r ⌝ }
 {
     let t = tables.expressions;
     let u = tables.instructions;
@@ -41,7 +41,7 @@ pub fn run(
         t,
         bodies,
         layout,
-        limits,
+        kept,
         &mut *cells,
         &mut *states,
         who,
@@ -58,7 +58,7 @@ pub fn run(
         u,
         bodies,
         layout,
-        limits,
+        kept,
         &mut *cells,
         &mut *states,
         taken,

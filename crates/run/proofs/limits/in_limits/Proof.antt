@@ -50,7 +50,7 @@ between-requires : tie.Need-between-requires
 between-requires c κs = search needs
 
 returns-2 : tie.Need-returns-2
-returns-2 c = λ l h. c .between .ensures ∙ between-as {low = getD (c .before .before .before .before .before .args .limits .now) (3 * c .before .before .before .before .before .args .n + 1) (pos 0)} {high = getD (c .before .before .before .before .before .args .limits .now) (3 * c .before .before .before .before .before .args .n + 2) (pos 0)} {z = c .before .before .before .before .before .args .z} (cell-back _ (c .before .before .low .given)) (cell-back _ (c .before .high .given)) (toZ-ofZ _ _ (c .before .before .before .before .before .fits .z)) ∙ limit-is _ _ l _ h (c .before .before .before .if1 .left)
+returns-2 c = λ l h. c .between .ensures ∙ between-as {low = getD (c .before .before .before .before .before .args .kept .now) (3 * c .before .before .before .before .before .args .n + 1) (pos 0)} {high = getD (c .before .before .before .before .before .args .kept .now) (3 * c .before .before .before .before .before .args .n + 2) (pos 0)} {z = c .before .before .before .before .before .args .z} (cell-back _ (c .before .before .low .given)) (cell-back _ (c .before .high .given)) (toZ-ofZ _ _ (c .before .before .before .before .before .fits .z)) ∙ limit-is _ _ l _ h (c .before .before .before .if1 .left)
 
 pub in-limits-spec : {M : Type 1} → statement M
 in-limits-spec =
