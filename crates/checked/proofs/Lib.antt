@@ -7,9 +7,3 @@ pub mod Walking
 pub mod Cycle
 pub mod Simple
 pub mod Yokes
-pub mod Admitting
-pub mod Yoking
-pub mod Keeping
-pub mod Assigning
-pub mod Changing
-pub mod Readings

@@ -6,7 +6,7 @@ use mathlib.Core.Option.{some}
 use Prim.Native.Nat.{ℕ, _+_, _*_, _≤_, _<_}
 use lib.IntN.{ℤ}
 use lib.ListN.{length, take, drop}
-use Rattle.lingua.specs.Numbers.{body-cells, declaration-section, expression-section, most-variables, body-bytes, limit-cells}
+use Rattle.lingua.specs.Numbers.{body-cells, declaration-section, expression-section, most-variables, body-bytes}
 use Rattle.lingua.specs.Errors.{no-error}
 use Rattle.lingua.specs.Outcome.{ok, fail, Result, allAnswers}
 use Rattle.lingua.specs.Body.{Body, size, isBoolean}
@@ -16,12 +16,9 @@ use Rattle.lingua.specs.Store.{Variable, variableAt, cellsIn, statesIn}
 use Rattle.safety.specs.Accepted.{AcceptedRows}
 use Rattle.safety.specs.Constants.{Fitting}
 use Rattle.decoder.specs.Tables.{IsTable}
-use Rattle.profile.specs.Variables.{LimitAt}
-use Rattle.profile.specs.Yokes.{YokeOf}
 use Rattle.decoder.specs.declared.tables.Table.{Table}
 use Rattle.body.specs.Encode.{Holds}
 use Rattle.cells.specs.Stack.{Lies, first-place}
-use Rattle.run.specs.Reached.{Lent, Settles}
 use Rattle.checked.specs.declared.answer.Evaluated.{Evaluated}
 use Rattle.checked.specs.declared.quick.Quick.{Quick}
 use Rattle.checked.specs.declared.quick.Quick.the-variants.{Simple, Failed, Deeper}
@@ -81,38 +78,6 @@ pub record Asked (row : ℕ) (rows : List ℕ) (t : Table) (variables : List ℕ
   pub here : row < t .count
   pub room : body-cells * (row + 2) ≤ length stack
 
--- ---- what assignments ask
--- a store of a run, with the limits of its variables
-pub record Running (rows : List ℕ) (t : Table) (variables : List ℕ) (limits : List ℤ) (l : Lent) (vs : List Variable) : Type 0 where
-  pub world : World rows t variables (l .cells) (l .states) vs
-  pub room : limit-cells * length vs ≤ length limits
-  pub limited : (n : ℕ) → n < length vs → LimitAt limits (limit-cells * n) (variableAt vs n .limit)
-  pub yokes : (n : ℕ) → n < length vs → YokeOf rows (variableAt vs n .yoke)
-
--- some such store, with a variable n
-pub record HasRunning (rows : List ℕ) (t : Table) (variables : List ℕ) (limits : List ℤ) (l : Lent) (n : ℕ) : Type 0 where
-  pub store : List Variable
-  pub running : Running rows t variables limits l store
-  pub there : n < length store
-
--- a variable's body and its limit, where the code keeps those of variable n
-pub record Bounds (variables : List ℕ) (limits : List ℤ) (n : ℕ) (v : Variable) : Type 0 where
-  pub own : Holds (take body-bytes (drop (body-bytes * n) variables)) (v .body)
-  pub limited : LimitAt limits (limit-cells * n) (v .limit)
-
--- room for both, and some value
-pub record HasBounds (variables : List ℕ) (limits : List ℤ) (n : ℕ) (value : List ℤ) (body : List ℕ) : Type 0 where
-  pub own-room : body-bytes * n + body-bytes ≤ length variables
-  pub limit-room : limit-cells * n + limit-cells ≤ length limits
-  pub has : HasCurrent value body
-
--- some such store, and some value for variable n
-pub record Checkable (rows : List ℕ) (t : Table) (variables : List ℕ) (limits : List ℤ) (l : Lent) (n : ℕ) (value : List ℤ) (body : List ℕ) : Type 0 where
-  pub store : List Variable
-  pub running : Running rows t variables limits l store
-  pub there : n < length store
-  pub has : HasCurrent value body
-
 -- ---- what evaluation gives
 -- the value lies at the stack's front, and its body and the number of its cells are given
 pub record Answers (r : Evaluated) (stack : List ℤ) (o : Result Composite) : Type 0 where
@@ -153,18 +118,6 @@ QuickGives Deeper stack o = Unit {0}
 pub record SimpleAnswer (r : Evaluated) (tag error : ℕ) : Type 0 where
   pub answer : error ≡ 0 → r ≡ simpleEvaluated tag
   pub failed : (error ≡ 0 → ⊥) → r .error ≡ error
-
--- ---- what an assignment gives
--- a store of a run, and an evaluated value for its variable n
-pub record Assignable (rows : List ℕ) (t : Table) (variables : List ℕ) (limits : List ℤ) (l : Lent) (n : ℕ) (x : Evaluated) (stack : List ℤ) : Type 0 where
-  pub store : List Variable
-  pub running : Running rows t variables limits l store
-  pub there : n < length store
-  pub given : Given x stack
-
--- the new store in the memory, or the error and the memory as it was
-abbrev pub Assigns : ℕ → List ℕ → Table → List ℕ → List ℤ → Lent → Lent → Result (List Variable) → Type 0
-Assigns r rows t variables limits l after p = Settles r (Running rows t variables limits) l after p
 
 -- ---- what is seen of the results of an all-list yoke
 -- whether all are Booleans, and, where they are, whether all are true

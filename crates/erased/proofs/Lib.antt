@@ -8,7 +8,4 @@ pub mod Stacking
 pub mod Cycle
 pub mod Walking
 pub mod Yokes
-pub mod Keeping
-pub mod Satisfying
-pub mod Assigning
-pub mod Instructions
+pub mod Testing

@@ -27,7 +27,8 @@ use Rattle.run.specs.declared.steps.Status.{Status}
 use Rattle.run.specs.Statuses.{stateOf}
 use Rattle.run.specs.Reached.{Lent, Going, Reached}
 use Rattle.run.specs.Acting.{reaches-as}
-use Rattle.erased.specs.Meaning.{AssignRow, YokeRow, Tests, TestRow}
+use Rattle.erased.specs.Meaning.{Tests, TestRow}
+use Rattle.erased_store.specs.Meaning.{AssignRow, YokeRow}
 use Rattle.walk.specs.declared.way.Way.{Way}
 use Rattle.walk.specs.declared.way.Way.the-variants as way
 use Rattle.walk.specs.Meaning.{Context, HoldsBy, Holds, Standing, Asked, Means, Executes}

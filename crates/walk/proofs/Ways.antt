@@ -10,7 +10,7 @@ use Rattle.lingua.specs.Trees.{expressionTree}
 use Rattle.run.specs.declared.steps.Truth.{Truth}
 use Rattle.run.specs.Reached.{Lent, Holding, Settles, Tells}
 use Rattle.run.specs.Memory.{reading}
-use Rattle.checked.specs.Meaning.{Running as CheckedRunning}
+use Rattle.checked_store.specs.Meaning.{Running as CheckedRunning}
 use Rattle.erased.specs.Meaning.{Running as ErasedRunning, HasRunning as ErasedHas, HasStore}
 use Rattle.walk.specs.declared.way.Way.{Way}
 use Rattle.walk.specs.declared.way.Way.the-variants as way

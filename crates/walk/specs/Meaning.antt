@@ -25,7 +25,7 @@ use Rattle.run.specs.declared.steps.Status.{Status}
 use Rattle.run.specs.declared.steps.Truth.{Truth}
 use Rattle.run.specs.Statuses.{stateOf}
 use Rattle.run.specs.Reached.{Lent, Holding, Going, Reached, Settles, Tells}
-use Rattle.checked.specs.Meaning.{Running as CheckedRunning}
+use Rattle.checked_store.specs.Meaning.{Running as CheckedRunning}
 use Rattle.erased.specs.Meaning.{Running as ErasedRunning}
 use Rattle.walk.specs.declared.way.Way.{Way}
 use Rattle.walk.specs.declared.way.Way.the-variants as way

@@ -17,7 +17,8 @@ ghost use Rattle.lingua.specs.Store.{contents, assigned, yokeChanged, readingTa
 ghost use Rattle.lingua.specs.Trees.{expressionTree, yokeTree};
 ghost use Rattle.run.specs.Reached.{lent};
 ghost use Rattle.run.specs.Memory.{reading};
-ghost use Rattle.erased.specs.Meaning.{AssignRow, YokeRow, TestRow};
+ghost use Rattle.erased.specs.Meaning.{TestRow};
+ghost use Rattle.erased_store.specs.Meaning.{AssignRow, YokeRow};
 ghost use Rattle.walk.specs.Meaning.{context, Standing, StandsUnder, Stores, TellsTest};
 
 // Variable n takes what expression row e gives.
@@ -42,9 +43,19 @@ pub fn assign(
     match way {
         Way::Checked => {
             let x = checked::yoke::eval_plain(rows, t, bodies, cells, states, e, &mut *stack);
-            checked::assign::assign(rows, t, bodies, kept, cells, states, n, x, stack)
+            checked_store::assign::assign(rows, t, bodies, kept, cells, states, n, x, stack)
         }
-        Way::Erased => erased::assign::assign(rows, t, layout, kept, cells, states, n, e, stack),
+        Way::Erased => erased_store::assign::assign(
+            rows,
+            t,
+            layout,
+            kept,
+            cells,
+            states,
+            n,
+            e,
+            stack,
+        ),
     }
 }
 
@@ -69,9 +80,9 @@ pub fn change_yoke(
 {
     match way {
         Way::Checked => {
-            checked::change::change_yoke(rows, t, bodies, kept, cells, states, n, y, stack)
+            checked_store::change::change_yoke(rows, t, bodies, kept, cells, states, n, y, stack)
         }
-        Way::Erased => erased::change::change_yoke(
+        Way::Erased => erased_store::change::change_yoke(
             rows,
             t,
             layout,
@@ -128,9 +139,9 @@ pub fn take_reading(
 {
     match way {
         Way::Checked => {
-            checked::reading::take_reading(rows, t, bodies, kept, cells, states, n, z, stack)
+            checked_store::reading::take_reading(rows, t, bodies, kept, cells, states, n, z, stack)
         }
-        Way::Erased => erased::reading::take_reading(
+        Way::Erased => erased_store::reading::take_reading(
             rows,
             t,
             layout,

@@ -1,6 +1,6 @@
 -- `test` meets its contract, by those of `eval_plain` and `truth_of`. Assumes nothing.
 use native.Mathlib.Omega.{arith}
-use Rattle.erased.proofs.Instructions.{test-ready, test-told}
+use Rattle.erased.proofs.Testing.{test-ready, test-told}
 use borrow.Author.Needs.{needs}
 use Rattle.erased.proofs.test.test.Statement.{statement}
 use Rattle.erased.proofs.test.test.Tie as tie

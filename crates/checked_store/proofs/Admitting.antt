@@ -1,0 +1,132 @@
+-- A new value's checks, one law for each way that they end. Assumes nothing.
+use mathlib.Core.Path.{_≡_, refl, sym, ap, _∙_, subst}
+use mathlib.Core.Bool.{Bool, true, false, _&&_}
+use mathlib.Core.List.{List}
+use Prim.Native.Nat.{ℕ, _*_, _≤_, _<_}
+use native.Mathlib.Omega.{arith}
+use lib.IntN.{ℤ, pos}
+use lib.ListN.{length, take, drop, getD}
+use Rattle.lingua.specs.Numbers.{body-bytes}
+use Rattle.lingua.specs.Errors.{no-coherence, yoke-expected, yoke-not-satisfied}
+use Rattle.lingua.specs.Outcome.{Result, require, _>>=_, _>>_}
+use Rattle.lingua.specs.Body.{Body, size, isNumber, isBoolean, sameBody}
+use Rattle.lingua.specs.Value.{Value, Fits, fit-truth, fit-whole, fit-text, fit-items, fit-fields, asWhole, asTruth, Composite}
+use Rattle.lingua.specs.Expression.{Yoke, always}
+use Rattle.lingua.specs.Evaluation.{truthOr, evalYoke}
+use Rattle.lingua.specs.Store.{Variable, variableAt, contents, within, admitted, yokeAt}
+use Rattle.lingua.specs.Trees.{yokeTree}
+use Rattle.laws.specs.Outcomes.{is-number, false-is-true}
+use Rattle.decoder.specs.declared.tables.Table.{Table}
+use Rattle.profile.specs.Yokes.{always-is}
+use Rattle.body.specs.Encode.{Holds}
+use Rattle.body.proofs.Tags as tags
+use Rattle.cells.specs.Stack.{Lies}
+use Rattle.cells.proofs.Operands.{lies-long}
+use Rattle.cells.proofs.Singles.{number-cell}
+use Rattle.checked.specs.declared.answer.Evaluated.{Evaluated}
+use Rattle.run.specs.declared.steps.Truth.{Truth}
+use Rattle.run.specs.Reached.{lent, Tells}
+use Rattle.run.specs.Memory.{Admits}
+use Rattle.run.proofs.Parts
+use Rattle.run.proofs.Admitting.{admits-error}
+use Rattle.checked.specs.Meaning.{Current, Gives}
+use Rattle.checked_store.specs.Meaning.{Bounds, Running}
+use Rattle.checked.proofs.Storing.{memory-of}
+
+-- ---- a number's cell
+pub number-room : {value : List ℤ} {body : List ℕ} {x : Composite} → Current value body x → getD body 0 0 ≡ 2 → 0 < length value
+unfolding size
+number-room {value} {body} {x} h e = let b = is-number (x .body) (tags.is-number body (x .body) (h .holds) e) in omega (arith, lies-long (h .lies), ap size b)
+
+pub whole-is : {value : List ℤ} {body : List ℕ} {x : Composite} → Current value body x → getD body 0 0 ≡ 2 → getD value 0 (pos 0) ≡ asWhole (x .value)
+whole-is {value} {body} {x} h e = number-cell (subst (λ (b : Body). Lies value 0 b (x .value)) (is-number (x .body) (tags.is-number body (x .body) (h .holds) e)) (h .lies))
+
+none-whole : {v : Value} {b : Body} → Fits v b → isNumber b ≡ false → pos 0 ≡ asWhole v
+unfolding asWhole isNumber
+none-whole fit-truth e = refl
+none-whole (fit-whole r) e = false-is-true (sym e)
+none-whole (fit-text r) e = refl
+none-whole (fit-items n r) e = refl
+none-whole (fit-fields r) e = refl
+
+pub other-whole : {value : List ℤ} {body : List ℕ} {x : Composite} → Current value body x → (getD body 0 0 ≡ 2 → ⊥) → pos 0 ≡ asWhole (x .value)
+other-whole {value} {body} {x} h f = none-whole (h .lies .fit) (tags.not-number body (x .body) (h .holds) f)
+
+-- ---- the current yoke
+module _ {rows : List ℕ} {t : Table} {variables : List ℕ} {limits cells : List ℤ} {states : List ℕ} {vs : List Variable} (h : Running rows t variables limits (lent cells states) vs) (n : ℕ) (lt : n < length vs) where
+  pub yoke-there : {k : ℕ} → k ≡ yokeAt states n → k ≤ t .count
+  yoke-there e = omega (arith, e, Parts.yoke-there (memory-of (h .world .stored)) n lt (h .yokes n lt), h .world .table .count)
+
+  pub own-yoke : {k : ℕ} → k ≡ yokeAt states n → (x : Composite) → evalYoke (yokeTree rows k) (contents vs) x ≡ evalYoke (variableAt vs n .yoke) (contents vs) x
+  own-yoke e x = ap (λ (y : Yoke). evalYoke y (contents vs) x) (ap (yokeTree rows) e ∙ Parts.own-yoke (memory-of (h .world .stored)) n lt (h .yokes n lt))
+
+-- ---- the checks without a yoke
+pub held-own : {variables : List ℕ} {limits : List ℤ} {n : ℕ} {v : Variable} → Bounds variables limits n v → {body : List ℕ} → body ≡ take body-bytes (drop (body-bytes * n) variables) → Holds body (v .body)
+held-own {v = v} b e = subst (λ (l : List ℕ). Holds l (v .body)) (sym e) (b .own)
+
+pub no-yoke : {rows : List ℕ} {t : Table} {variables : List ℕ} {limits cells : List ℤ} {states : List ℕ} {vs : List Variable} → Running rows t variables limits (lent cells states) vs → (n : ℕ) → n < length vs → {k : ℕ} → k ≡ yokeAt states n → k ≡ 0 → variableAt vs n .yoke ≡ always
+no-yoke {rows} h n lt {k} e z = sym (Parts.own-yoke (memory-of (h .world .stored)) n lt (h .yokes n lt)) ∙ ap (yokeTree rows) (sym e) ∙ always-is rows k z
+
+module _ (vs : List Variable) (v : Variable) (x : Composite) (free : v .yoke ≡ always) (b : Bool) (same : b ≡ sameBody (v .body) (x .body)) where
+  free-is : admitted vs v x ≡ (require b no-coherence >> require (within (v .limit) (asWhole (x .value))) yoke-not-satisfied)
+  unfolding admitted evalYoke truthOr isBoolean asTruth
+  free-is =
+      ap (λ (y : Yoke). evalYoke y (contents vs) x >>= λ w. require (sameBody (v .body) (x .body)) no-coherence >> (truthOr yoke-expected w >>= λ t. require (t && within (v .limit) (asWhole (x .value))) yoke-not-satisfied)) free
+      ∙ ap (λ (c : Bool). require c no-coherence >> require (within (v .limit) (asWhole (x .value))) yoke-not-satisfied) (sym same)
+
+  pub free-other-body : b ≡ false → Admits no-coherence (admitted vs v x)
+  free-other-body f = admits-error (λ e. omega arith) (free-is ∙ ap (λ (c : Bool). require c no-coherence >> require (within (v .limit) (asWhole (x .value))) yoke-not-satisfied) f)
+
+  module _ (f : b ≡ true) (c : Bool) (in-limit : c ≡ within (v .limit) (asWhole (x .value))) where
+    free-within : admitted vs v x ≡ require c yoke-not-satisfied
+    free-within =
+        free-is
+        ∙ ap (λ (d : Bool). require d no-coherence >> require (within (v .limit) (asWhole (x .value))) yoke-not-satisfied) f
+        ∙ ap (λ (t : Bool). require t yoke-not-satisfied) (sym in-limit)
+
+    pub free-out-of-limits : c ≡ false → Admits yoke-not-satisfied (admitted vs v x)
+    free-out-of-limits k = admits-error (λ j. omega arith) (free-within ∙ ap (λ (t : Bool). require t yoke-not-satisfied) k)
+
+    pub free-passes : c ≡ true → Admits 0 (admitted vs v x)
+    free-passes k = record { answer = λ j. free-within ∙ ap (λ (t : Bool). require t yoke-not-satisfied) k; error = λ j. absurd (j refl) }
+
+-- ---- the checks
+module _ (vs : List Variable) (v : Variable) (x : Composite) {y : Evaluated} {s : List ℤ} (g : Gives y s (evalYoke (v .yoke) (contents vs) x)) where
+  pub yoke-error : (y .error ≡ 0 → ⊥) → Admits (y .error) (admitted vs v x)
+  unfolding admitted
+  yoke-error f = admits-error f (ap (λ (o : Result Composite). o >>= λ w. require (sameBody (v .body) (x .body)) no-coherence >> (truthOr yoke-expected w >>= λ t. require (t && within (v .limit) (asWhole (x .value))) yoke-not-satisfied)) (g .error f))
+
+  module _ (z : y .error ≡ 0) (b : Bool) (same : b ≡ sameBody (v .body) (x .body)) where
+    reached : admitted vs v x ≡ (require b no-coherence >> (truthOr yoke-expected (g .answer z .value) >>= λ t. require (t && within (v .limit) (asWhole (x .value))) yoke-not-satisfied))
+    unfolding admitted
+    reached =
+        ap (λ (o : Result Composite). o >>= λ w. require (sameBody (v .body) (x .body)) no-coherence >> (truthOr yoke-expected w >>= λ t. require (t && within (v .limit) (asWhole (x .value))) yoke-not-satisfied)) (g .answer z .is)
+        ∙ ap (λ (c : Bool). require c no-coherence >> (truthOr yoke-expected (g .answer z .value) >>= λ t. require (t && within (v .limit) (asWhole (x .value))) yoke-not-satisfied)) (sym same)
+
+    pub other-body : b ≡ false → Admits no-coherence (admitted vs v x)
+    other-body f = admits-error (λ e. omega arith) (reached ∙ ap (λ (c : Bool). require c no-coherence >> (truthOr yoke-expected (g .answer z .value) >>= λ t. require (t && within (v .limit) (asWhole (x .value))) yoke-not-satisfied)) f)
+
+    module _ (f : b ≡ true) (p : Truth) (tells : Tells p (evalYoke (v .yoke) (contents vs) x >>= truthOr yoke-expected)) where
+      asked : admitted vs v x ≡ ((evalYoke (v .yoke) (contents vs) x >>= truthOr yoke-expected) >>= λ t. require (t && within (v .limit) (asWhole (x .value))) yoke-not-satisfied)
+      asked =
+          reached
+          ∙ ap (λ (c : Bool). require c no-coherence >> (truthOr yoke-expected (g .answer z .value) >>= λ t. require (t && within (v .limit) (asWhole (x .value))) yoke-not-satisfied)) f
+          ∙ ap (λ (o : Result Composite). (o >>= truthOr yoke-expected) >>= λ t. require (t && within (v .limit) (asWhole (x .value))) yoke-not-satisfied) (sym (g .answer z .is))
+
+      pub no-truth : (p .error ≡ 0 → ⊥) → Admits (p .error) (admitted vs v x)
+      no-truth e = admits-error e (asked ∙ ap (λ (o : Result Bool). o >>= λ t. require (t && within (v .limit) (asWhole (x .value))) yoke-not-satisfied) (tells .error e))
+
+      told-is : p .error ≡ 0 → admitted vs v x ≡ require (p .holds && within (v .limit) (asWhole (x .value))) yoke-not-satisfied
+      told-is e = asked ∙ ap (λ (o : Result Bool). o >>= λ t. require (t && within (v .limit) (asWhole (x .value))) yoke-not-satisfied) (tells .answer e)
+
+      pub not-satisfied : p .error ≡ 0 → p .holds ≡ false → Admits yoke-not-satisfied (admitted vs v x)
+      not-satisfied e q = admits-error (λ k. omega arith) (told-is e ∙ ap (λ (t : Bool). require (t && within (v .limit) (asWhole (x .value))) yoke-not-satisfied) q)
+
+      within-is : p .error ≡ 0 → p .holds ≡ true → (c : Bool) → c ≡ within (v .limit) (asWhole (x .value)) → admitted vs v x ≡ require c yoke-not-satisfied
+      within-is e q c w = told-is e ∙ ap (λ (t : Bool). require (t && within (v .limit) (asWhole (x .value))) yoke-not-satisfied) q ∙ ap (λ (t : Bool). require t yoke-not-satisfied) (sym w)
+
+      pub out-of-limits : p .error ≡ 0 → p .holds ≡ true → (c : Bool) → c ≡ within (v .limit) (asWhole (x .value)) → c ≡ false → Admits yoke-not-satisfied (admitted vs v x)
+      out-of-limits e q c w k = admits-error (λ j. omega arith) (within-is e q c w ∙ ap (λ (t : Bool). require t yoke-not-satisfied) k)
+
+      pub passes : p .error ≡ 0 → p .holds ≡ true → (c : Bool) → c ≡ within (v .limit) (asWhole (x .value)) → c ≡ true → Admits 0 (admitted vs v x)
+      passes e q c w k = record { answer = λ j. within-is e q c w ∙ ap (λ (t : Bool). require t yoke-not-satisfied) k; error = λ j. absurd (j refl) }

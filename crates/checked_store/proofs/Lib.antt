@@ -1,0 +1,6 @@
+pub mod Admitting
+pub mod Yoking
+pub mod Keeping
+pub mod Assigning
+pub mod Changing
+pub mod Readings

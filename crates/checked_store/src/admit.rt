@@ -1,0 +1,111 @@
+// A new value's checks, in order: its yoke's error, its body, the yoke's body, the yoke and the limits.
+use body::parts::same;
+use body::walk::NUMBER;
+use checked::answer::truth_of;
+use checked::leaves::declared;
+use checked::yoke::eval_yoke;
+use decoder::tables::Table;
+use lingua::errors::NO_COHERENCE;
+use lingua::errors::NO_ERROR;
+use lingua::errors::YOKE_EXPECTED;
+use lingua::errors::YOKE_NOT_SATISFIED;
+use lingua::sizes::BODY_BYTES;
+use run::limits::in_limits;
+use run::words::yoke_of;
+ghost use mathlib.Core.Path.{_≡_};
+ghost use mathlib.Core.List.{List};
+ghost use Prim.Native.Nat.{_+_, _*_, _<_, _≤_};
+ghost use lib.ListN.{length};
+ghost use Rattle.lingua.specs.Numbers.{body-cells};
+ghost use Rattle.lingua.specs.Value.{Composite, asWhole};
+ghost use Rattle.lingua.specs.Expression.{always};
+ghost use Rattle.lingua.specs.Store.{Variable, variableAt, admitted as checks};
+ghost use Rattle.run.specs.Reached.{lent};
+ghost use Rattle.run.specs.Memory.{Admits};
+ghost use Rattle.checked.specs.Meaning.{Current, HasCurrent};
+ghost use Rattle.checked_store.specs.Meaning.{Bounds, HasBounds, Running, Checkable};
+
+// A number's cell; for a value of another body 0 stands.
+fn whole(body: [u8; BODY_BYTES], value: &[i64]) -> i64
+    requires { ⌜ HasCurrent (now value) body ⌝ }
+    ensures { λ r. ⌜ ((x : Composite) → Current (now (value .entry)) body x → r ≡ asWhole (x .value)) ⌝ }
+{
+    if body[0] == NUMBER {
+        return value[0];
+    }
+    0
+}
+
+// Whether variable n, whose yoke is always true, may take a value of a body.
+pub fn unyoked(
+    variables: &[u8],
+    kept: &[i64],
+    n: usize,
+    value: &[i64],
+    body: [u8; BODY_BYTES],
+) -> u8
+    requires { ⌜ HasBounds (now variables) (now kept) n (now value) body ⌝ }
+    ensures { λ r. ⌜ ((vs : List Variable) (v : Variable) (x : Composite) → Bounds (now (variables .entry)) (now (kept .entry)) n v → v .yoke ≡ always → Current (now (value .entry)) body x
+        → Admits r (checks vs v x)) ⌝ }
+{
+    let own = declared(variables, n);
+    if !same(own, body) {
+        return NO_COHERENCE;
+    }
+    let z = whole(body, value);
+    if !in_limits(kept, n, z) {
+        return YOKE_NOT_SATISFIED;
+    }
+    NO_ERROR
+}
+
+// Whether variable n may take a value of a body, which lies outside the stack: its yoke is evaluated there.
+pub fn admitted(
+    rows: &[u8],
+    t: Table,
+    variables: &[u8],
+    kept: &[i64],
+    cells: &[i64],
+    states: &[u16],
+    n: usize,
+    value: &[i64],
+    body: [u8; BODY_BYTES],
+    stack: &mut [i64],
+) -> u8
+    requires { ⌜ Checkable (now rows) t (now variables) (now kept) (lent (now cells) (now states)) n (now value) body ⌝ }
+    requires { ⌜ body-cells * (t .count + 1) ≤ length (now stack) ⌝ }
+    ensures { λ r. ⌜ ((vs : List Variable) (x : Composite) → Running (now (rows .entry)) t (now (variables .entry)) (now (kept .entry)) (lent (now (cells .entry)) (now (states .entry))) vs → n < length vs → Current (now (value .entry)) body x
+        → Admits r (checks vs (variableAt vs n) x)) ⌝ }
+{
+    let yoke = yoke_of(states, n);
+    let given = eval_yoke(
+        rows,
+        t,
+        variables,
+        cells,
+        states,
+        yoke,
+        value,
+        body,
+        &mut *stack,
+    );
+    if given.error != NO_ERROR {
+        return given.error;
+    }
+    let own = declared(variables, n);
+    if !same(own, body) {
+        return NO_COHERENCE;
+    }
+    let truth = truth_of(given, YOKE_EXPECTED, stack);
+    if truth.error != NO_ERROR {
+        return truth.error;
+    }
+    if !truth.holds {
+        return YOKE_NOT_SATISFIED;
+    }
+    let z = whole(body, value);
+    if !in_limits(kept, n, z) {
+        return YOKE_NOT_SATISFIED;
+    }
+    NO_ERROR
+}

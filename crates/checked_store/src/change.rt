@@ -1,0 +1,38 @@
+// Yoke change: the value that the variable has must satisfy the new yoke, which is then noted in its state word.
+use crate::holds::yoke_holds;
+use decoder::tables::Table;
+use lingua::errors::NO_ERROR;
+use run::words::set_yoke;
+ghost use mathlib.Core.List.{List};
+ghost use Prim.Native.Nat.{_+_, _*_, _<_, _≤_};
+ghost use lib.ListN.{length};
+ghost use Rattle.lingua.specs.Numbers.{body-cells};
+ghost use Rattle.lingua.specs.Store.{Variable, yokeChanged};
+ghost use Rattle.lingua.specs.Trees.{yokeTree};
+ghost use Rattle.run.specs.Reached.{lent};
+ghost use Rattle.checked_store.specs.Meaning.{Running, HasRunning, Assigns};
+
+pub fn change_yoke(
+    rows: &[u8],
+    t: Table,
+    variables: &[u8],
+    kept: &[i64],
+    cells: &[i64],
+    states: &mut [u16],
+    n: usize,
+    y: u16,
+    stack: &mut [i64],
+) -> u8
+    requires { ⌜ HasRunning (now rows) t (now variables) (now kept) (lent (now cells) (now states)) n ⌝ }
+    requires { ⌜ y ≤ t .count ⌝ }
+    requires { ⌜ body-cells * (y + 1) ≤ length (now stack) ⌝ }
+    ensures { λ r. ⌜ ((vs : List Variable) → Running (now (rows .entry)) t (now (variables .entry)) (now (kept .entry)) (lent (now (cells .entry)) (now (states .entry))) vs → n < length vs
+        → Assigns r (now (rows .entry)) t (now (variables .entry)) (now (kept .entry)) (lent (now (cells .entry)) (now (states .entry))) (lent (now (cells .entry)) (now (states .exit))) (yokeChanged vs n (yokeTree (now (rows .entry)) y))) ⌝ }
+{
+    let error = yoke_holds(rows, t, variables, cells, states, n, y as usize, stack);
+    if error != NO_ERROR {
+        return error;
+    }
+    set_yoke(states, n, y);
+    NO_ERROR
+}

@@ -1,0 +1,4 @@
+pub mod Keeping
+pub mod Satisfying
+pub mod Assigning
+pub mod Instructions

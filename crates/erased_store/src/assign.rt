@@ -1,0 +1,44 @@
+// Assignment: the expression's value on the stack, of as many cells as the layout table says, is stored.
+use crate::store::store;
+use decoder::tables::Table;
+use erased::layout::size_at;
+use erased::yoke::eval_plain;
+use lingua::errors::NO_ERROR;
+ghost use mathlib.Core.List.{List};
+ghost use Prim.Native.Nat.{_+_, _*_, _<_, _≤_};
+ghost use lib.ListN.{length};
+ghost use Rattle.lingua.specs.Numbers.{body-cells, declaration-section};
+ghost use Rattle.lingua.specs.Outcome.{_>>=_ as bind};
+ghost use Rattle.lingua.specs.Rows.{pairCount};
+ghost use Rattle.lingua.specs.Evaluation.{eval as meaning, no-current};
+ghost use Rattle.lingua.specs.Store.{Variable, contents, assigned};
+ghost use Rattle.lingua.specs.Trees.{expressionTree};
+ghost use Rattle.run.specs.Reached.{lent, Settles};
+ghost use Rattle.erased.specs.Meaning.{Running, HasRunning};
+ghost use Rattle.erased_store.specs.Meaning.{AssignRow};
+
+pub fn assign(
+    rows: &[u8],
+    t: Table,
+    layout: &[u16],
+    kept: &[i64],
+    cells: &mut [i64],
+    states: &mut [u16],
+    n: usize,
+    e: usize,
+    stack: &mut [i64],
+) -> u8
+    requires { ⌜ HasRunning (now rows) t (now layout) (now kept) (lent (now cells) (now states)) ⌝ }
+    requires { ⌜ (n < pairCount (now rows) declaration-section) × (e < t .count) × AssignRow (now rows) n e ⌝ }
+    requires { ⌜ body-cells * (t .count + 1) ≤ length (now stack) ⌝ }
+    ensures { λ r. ⌜ ((vs : List Variable) → Running (now (rows .entry)) t (now (layout .entry)) (now (kept .entry)) (lent (now (cells .entry)) (now (states .entry))) vs
+        → Settles r (Running (now (rows .entry)) t (now (layout .entry)) (now (kept .entry))) (lent (now (cells .entry)) (now (states .entry))) (lent (now (cells .exit)) (now (states .exit)))
+        (bind (meaning (expressionTree (now (rows .entry)) e) (contents vs) no-current) (assigned vs n))) ⌝ }
+{
+    let error = eval_plain(rows, t, layout, cells, states, e, &mut *stack);
+    if error != NO_ERROR {
+        return error;
+    }
+    let width = size_at(layout, e);
+    store(rows, t, layout, kept, cells, states, n, width, stack)
+}

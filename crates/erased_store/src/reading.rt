@@ -1,0 +1,44 @@
+// Readings (document 01): a number from outside, in range or an overflow, is stored in its variable.
+use crate::store::store;
+use decoder::tables::Table;
+use lingua::errors::OVERFLOW;
+use lingua::sizes::HIGHEST_NUMBER;
+use lingua::sizes::LOWEST_NUMBER;
+use run::limits::between;
+ghost use mathlib.Core.Path.{_≡_};
+ghost use mathlib.Core.Bool.{true};
+ghost use mathlib.Core.List.{List};
+ghost use Prim.Native.Nat.{_+_, _*_, _<_, _≤_};
+ghost use lib.ListN.{length};
+ghost use Rattle.lingua.specs.Numbers.{body-cells, declaration-section};
+ghost use Rattle.lingua.specs.Rows.{pairCount};
+ghost use Rattle.lingua.specs.Refusal.{isNumberVariable};
+ghost use Rattle.lingua.specs.Store.{Variable, readingTaken};
+ghost use Rattle.run.specs.Reached.{lent, Settles};
+ghost use Rattle.run.specs.Memory.{reading};
+ghost use Rattle.erased.specs.Meaning.{Running, HasRunning};
+
+pub fn take_reading(
+    rows: &[u8],
+    t: Table,
+    layout: &[u16],
+    kept: &[i64],
+    cells: &mut [i64],
+    states: &mut [u16],
+    n: usize,
+    z: i64,
+    stack: &mut [i64],
+) -> u8
+    requires { ⌜ HasRunning (now rows) t (now layout) (now kept) (lent (now cells) (now states)) ⌝ }
+    requires { ⌜ (n < pairCount (now rows) declaration-section) × (isNumberVariable (now rows) n ≡ true) ⌝ }
+    requires { ⌜ body-cells * (t .count + 1) ≤ length (now stack) ⌝ }
+    ensures { λ r. ⌜ ((vs : List Variable) → Running (now (rows .entry)) t (now (layout .entry)) (now (kept .entry)) (lent (now (cells .entry)) (now (states .entry))) vs
+        → Settles r (Running (now (rows .entry)) t (now (layout .entry)) (now (kept .entry))) (lent (now (cells .entry)) (now (states .entry))) (lent (now (cells .exit)) (now (states .exit)))
+        (readingTaken vs (reading n z))) ⌝ }
+{
+    if !between(LOWEST_NUMBER, HIGHEST_NUMBER, z) {
+        return OVERFLOW;
+    }
+    stack[0] = z;
+    store(rows, t, layout, kept, cells, states, n, 1, stack)
+}
