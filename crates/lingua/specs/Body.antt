@@ -116,7 +116,7 @@ abbrev pub holds : {A : Type 0} → Option A → (A → Bool) → Bool
 holds none p = false
 holds (some a) p = p a
 
--- whether two bodies are equal (document 01: coherent)
+-- whether two bodies are equal
 unfoldable mutual
   pub sameBody : Body → Body → Bool
   sameBody boolean c = isBoolean c
@@ -147,3 +147,23 @@ unfoldable pub insertAttribute : ℕ → Body → Attributes → Attributes
 insertAttribute n b end = attribute n b end
 insertAttribute n b (attribute m c fs) =
     if ltb n m then attribute n b (attribute m c fs) else attribute m c (insertAttribute n b fs)
+
+-- without attribute n
+unfoldable pub removeAttribute : ℕ → Attributes → Attributes
+removeAttribute n end = end
+removeAttribute n (attribute m b fs) = if eqb n m then fs else attribute m b (removeAttribute n fs)
+
+-- ---- coherence (document 000, section 5.1)
+-- whether fs is gs without one of the attributes that hs numbers
+unfoldable pub lacksOneOf : Attributes → Attributes → Attributes → Bool
+lacksOneOf end fs gs = false
+lacksOneOf (attribute n b hs) fs gs = sameAttributes fs (removeAttribute n gs) || lacksOneOf hs fs gs
+
+-- whether fs is gs without one of its attributes
+unfoldable pub lacksOne : Attributes → Attributes → Bool
+lacksOne fs gs = lacksOneOf gs fs gs
+
+-- whether two bodies are equal, or two records of which one is the other with one attribute more
+unfoldable pub coherent : Body → Body → Bool
+coherent b c =
+    sameBody b c || holds (attributesOf b) (λ fs. holds (attributesOf c) (λ gs. lacksOne fs gs || lacksOne gs fs))

@@ -7,7 +7,7 @@ use lib.IntN.{ℤ}
 use Rattle.lingua.specs.Numbers.{rows-length, layout-length}
 use Rattle.lingua.specs.Outcome.{Outcome, ok, fail}
 use Rattle.lingua.specs.Value.{pad}
-use Rattle.lingua.specs.Store.{Reading, cellsIn, statesIn}
+use Rattle.lingua.specs.Store.{Reading, cellsIn, statesIn, bodiesIn}
 use Rattle.lingua.specs.Run.{Progress, run, lastState, endOf, stepsOf}
 use Rattle.lingua.specs.Typing.{TypeError, Entry, checkProfile, layoutOf}
 use Rattle.lingua.specs.Rows.{rowCount}
@@ -62,7 +62,7 @@ typeCheckUnless (suc n) prof lims layout = record { answer = refused (suc n); la
 unfoldable pub typeCheckCall : List ℕ → List ℕ → List ℕ → TypeCheckCall
 typeCheckCall prof lims layout = typeCheckUnless (typeCheckRefusal prof lims layout) prof lims layout
 
--- ---- the checked run (document 01: desk run)
+-- ---- what both runs give
 pub record RunCall : Type 0 where
   pub answer : Answer Ending
   pub cells : List ℤ
@@ -85,12 +85,22 @@ ran budget p =
 unfoldable pub runOf : Inputs → ℕ → Progress
 runOf i budget = run (profileOf (rowsOf (i .profile)) (rowsOf (i .limits))) (readingsOf (i .variables) (i .numbers)) budget
 
-unfoldable pub runUnless : ℕ → Inputs → ℕ → Buffers → RunCall
-runUnless zero i budget b = ran budget (runOf i budget)
-runUnless (suc n) i budget b = record { answer = refused (suc n); cells = b .cells; states = b .states }
+-- ---- the checked run (document 01: desk run): it hands the present bodies out
+pub record CheckedCall : Type 0 where
+  pub answer : Answer Ending
+  pub cells : List ℤ
+  pub states : List ℕ
+  pub bodies : List ℕ
 
-unfoldable pub checkedCall : Inputs → ℕ → Buffers → RunCall
-checkedCall i budget b = runUnless (checkedRefusal i b) i budget b
+abbrev pub withBodies : RunCall → List ℕ → CheckedCall
+withBodies c bodies = record { answer = c .answer; cells = c .cells; states = c .states; bodies = bodies }
+
+unfoldable pub checkedUnless : ℕ → Inputs → ℕ → Buffers → List ℕ → CheckedCall
+checkedUnless zero i budget b bodies = withBodies (ran budget (runOf i budget)) (bodiesIn (lastState (runOf i budget) .store))
+checkedUnless (suc n) i budget b bodies = record { answer = refused (suc n); cells = b .cells; states = b .states; bodies = bodies }
+
+unfoldable pub checkedCall : Inputs → ℕ → Buffers → List ℕ → CheckedCall
+checkedCall i budget b bodies = checkedUnless (checkedRefusal i b bodies) i budget b bodies
 
 -- ---- the erased run (document 01: chair run): the checked run's meaning, with rule 17, and the layout table that it fills
 pub record ErasedCall : Type 0 where
@@ -122,6 +132,9 @@ typeCheckResult r layout = record { answer = typeCheckMeaning r; layout = layout
 
 unfoldable pub runResult : RunAnswer → List ℤ → List ℕ → RunCall
 runResult r cells states = record { answer = runMeaning r; cells = cells; states = states }
+
+unfoldable pub checkedResult : RunAnswer → List ℤ → List ℕ → List ℕ → CheckedCall
+checkedResult r cells states bodies = record { answer = runMeaning r; cells = cells; states = states; bodies = bodies }
 
 unfoldable pub erasedResult : RunAnswer → List ℤ → List ℕ → List ℕ → ErasedCall
 erasedResult r cells states layout = record { answer = runMeaning r; cells = cells; states = states; layout = layout }

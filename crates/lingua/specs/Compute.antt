@@ -12,7 +12,7 @@ use Rattle.lingua.specs.Numbers.{word-length, list-places}
 use Rattle.lingua.specs.Errors.{overflow, division-by-zero, list-empty, list-full, word-too-long}
 use Rattle.lingua.specs.Outcome.{ok, fail, Result, require, if_then_else_, _>>_}
 use Rattle.lingua.specs.Value.{Value, truth, whole, text, items, fields, Values, no-items, item, Fields, no-fields, field, countValues, inRange, asTruth, asWhole, asText, asItems, asFields}
-use Rattle.lingua.specs.Operation.{Unary, negation, make-record, select, make-list, top, pop, Binary, add, subtract, multiply, divide, less, equal, glue, expand, change, push}
+use Rattle.lingua.specs.Operation.{Unary, negation, make-record, select, make-list, top, pop, remove, Binary, add, subtract, multiply, divide, less, equal, glue, expand, change, push}
 
 -- ---- numbers
 unfoldable pub ranged : ℤ → Result Value
@@ -95,6 +95,10 @@ unfoldable pub changeField : ℕ → Value → Fields → Fields
 changeField n v no-fields = no-fields
 changeField n v (field m w xs) = if eqb n m then field m v xs else field m w (changeField n v xs)
 
+unfoldable pub removeField : ℕ → Fields → Fields
+removeField n no-fields = no-fields
+removeField n (field m w xs) = if eqb n m then xs else field m w (removeField n xs)
+
 -- ---- the halves
 unfoldable pub unaryValue : Unary → Value → Result Value
 unaryValue negation x = ok (truth (not (asTruth x)))
@@ -103,6 +107,7 @@ unaryValue (select n) x = ok (fieldValue n (asFields x))
 unaryValue make-list x = ok (items (item x no-items))
 unaryValue top x = topOf (asItems x)
 unaryValue pop x = popOf (asItems x)
+unaryValue (remove n) x = ok (fields (removeField n (asFields x)))
 
 unfoldable pub binaryValue : Binary → Value → Value → Result Value
 binaryValue add x y = ranged (asWhole x +ℤ asWhole y)

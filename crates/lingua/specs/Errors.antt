@@ -64,6 +64,9 @@ not-comparable = 17
 abbrev pub body-too-large : ℕ
 body-too-large = 18
 
+abbrev pub last-attribute : ℕ
+last-attribute = 19
+
 -- ---- the two classes: whatever speaks of a class asks one of these tests
 abbrev pub run-errors : List ℕ
 run-errors = overflow ∷ division-by-zero ∷ yoke-not-satisfied ∷ list-empty ∷ list-full ∷ word-too-long ∷ not-filled ∷ []
@@ -71,7 +74,7 @@ run-errors = overflow ∷ division-by-zero ∷ yoke-not-satisfied ∷ list-empty
 abbrev pub type-errors : List ℕ
 type-errors =
     number-expected ∷ boolean-expected ∷ word-expected ∷ list-expected ∷ record-expected ∷ no-such-attribute
-    ∷ attribute-present ∷ no-coherence ∷ yoke-expected ∷ not-comparable ∷ body-too-large ∷ []
+    ∷ attribute-present ∷ no-coherence ∷ yoke-expected ∷ not-comparable ∷ body-too-large ∷ last-attribute ∷ []
 
 unfoldable pub isAmong : List ℕ → ℕ → Bool
 isAmong [] n = false
@@ -89,7 +92,7 @@ isError n = isRunError n || isTypeError n
 
 -- all of them are below this
 abbrev pub error-numbers : ℕ
-error-numbers = 19
+error-numbers = 20
 
 -- ---- refusals, in the order in which they are asked
 abbrev pub bad-buffer : ℕ

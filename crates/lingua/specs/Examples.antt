@@ -1,22 +1,22 @@
 -- Worked examples beside the edges, where a definition is easiest to get wrong. Each is computed and compared. Assumes nothing.
 use mathlib.Core.Path.{_≡_, refl}
-use mathlib.Core.Bool.{true}
+use mathlib.Core.Bool.{true, false}
 use mathlib.Core.List.{List, [], _∷_, _++_}
 use mathlib.Core.Option.{some, none}
 use Prim.Native.Nat.{ℕ}
 use native.Mathlib.Omega.{arith}
 use lib.ListN.{take, drop, set, replicate}
 use lib.IntN.{ℤ, pos}
-use Rattle.lingua.specs.Errors.{overflow, division-by-zero, yoke-not-satisfied, number-expected, attribute-present, no-coherence, yoke-expected, body-too-large, bad-marker, bad-check, type-error-found}
+use Rattle.lingua.specs.Errors.{overflow, division-by-zero, yoke-not-satisfied, number-expected, attribute-present, no-coherence, yoke-expected, body-too-large, record-expected, no-such-attribute, last-attribute, bad-marker, bad-check, type-error-found}
 use Rattle.lingua.specs.Outcome.{Outcome, ok, fail, Result, _>>=_}
-use Rattle.lingua.specs.Body.{Body, boolean, number, word, list-of, record-of, end, attribute}
+use Rattle.lingua.specs.Body.{Body, boolean, number, word, list-of, record-of, Attributes, end, attribute, coherent}
 use Rattle.lingua.specs.WellFormed.{InBounds, WellFormed, formed-number, formed-record, formed-end, formed-attribute}
 use Rattle.lingua.specs.Value.{whole, text, items, item, no-items, fields, field, no-fields, cellsOf, pad, Composite, composite}
-use Rattle.lingua.specs.Operation.{negation, make-record, select, pop, add, divide, less, expand, unaryBody, binaryBody}
-use Rattle.lingua.specs.Expression.{constant, variable, current, unary, binary, all-list, always, yoke, Instruction, skip, assign, set-yoke, sequence, loop, handle}
+use Rattle.lingua.specs.Operation.{negation, make-record, select, pop, remove, add, divide, less, expand, unaryBody, binaryBody}
+use Rattle.lingua.specs.Expression.{Expression, constant, variable, current, unary, binary, all-list, Yoke, always, yoke, Instruction, skip, assign, set-yoke, sequence, loop, handle}
 use Rattle.lingua.specs.Evaluation.{applyUnary, applyBinary, no-current}
-use Rattle.lingua.specs.Store.{Reading, statesIn}
-use Rattle.lingua.specs.Run.{Profile, run, lastState}
+use Rattle.lingua.specs.Store.{Reading, cellsIn, statesIn, bodiesIn}
+use Rattle.lingua.specs.Run.{Declaration, Profile, run, lastState}
 use Rattle.lingua.specs.Typing.{TypeError, Typed, check, layoutOf}
 use Rattle.lingua.specs.Meets.{met, runMet}
 use Rattle.lingua.specs.Format.{profile, limits, blockCheck, fileOf, rowsOf}
@@ -192,6 +192,134 @@ layoutIn (fail e) = []
 pub selected-layout : take 4 (layoutIn (check (unary 1 (select 5) (constant 0 (composite (record-of (attribute 1 number (attribute 3 word (attribute 5 number end)))) (fields no-fields)))) (λ n. boolean) boolean)) ≡ 3 ∷ 0 ∷ 1 ∷ 2 ∷ []
 unfolding computing
 selected-layout = refl
+
+-- ---- seats that gain a part
+-- a seat has attribute 1, its width; a footplate is attribute 2, a headrest attribute 3
+abbrev pub seat : Attributes → Body
+seat fs = record-of (attribute 1 number fs)
+
+abbrev pub with-footplate : Body
+with-footplate = seat (attribute 2 number end)
+
+abbrev pub with-headrest : Body
+with-headrest = seat (attribute 3 number end)
+
+abbrev pub with-both : Body
+with-both = seat (attribute 2 number (attribute 3 number end))
+
+-- one attribute more or less; neither two, nor one taken away and another added, nor another body of a shared one; a list of records is no record
+pub gained : coherent (seat end) with-footplate ≡ true
+unfolding computing
+gained = refl
+
+pub lost : coherent with-both with-headrest ≡ true
+unfolding computing
+lost = refl
+
+pub two-at-once : coherent (seat end) with-both ≡ false
+unfolding computing
+two-at-once = refl
+
+pub exchanged : coherent with-footplate with-headrest ≡ false
+unfolding computing
+exchanged = refl
+
+pub other-shared : coherent (record-of (attribute 1 word end)) with-footplate ≡ false
+unfolding computing
+other-shared = refl
+
+pub inside-a-list : coherent (list-of (seat end)) (list-of with-footplate) ≡ false
+unfolding computing
+inside-a-list = refl
+
+-- an attribute that is not there is named before that the only one would go
+pub removed-body : unaryBody (remove 1) with-footplate ≡ ok (record-of (attribute 2 number end))
+unfolding computing
+removed-body = refl
+
+pub removed-absent : unaryBody (remove 2) (seat end) ≡ fail no-such-attribute
+unfolding computing
+removed-absent = refl
+
+pub removed-only : unaryBody (remove 1) (seat end) ≡ fail last-attribute
+unfolding computing
+removed-only = refl
+
+pub removed-of-none : unaryBody (remove 1) number ≡ fail record-expected
+unfolding computing
+removed-of-none = refl
+
+pub removed-cells : cellsOfResult (applyUnary (remove 1) one-and-five) ≡ pos 50 ∷ []
+unfolding computing
+removed-cells = refl
+
+-- the offset is the removed attribute's in the operand: attribute 3 stands one cell behind the start; in the result nothing stands there
+pub removed-layout : take 4 (layoutIn (check (unary 1 (remove 3) (constant 0 (composite (record-of (attribute 1 number (attribute 3 word (attribute 5 number end)))) (fields no-fields)))) (λ n. boolean) boolean)) ≡ 3 ∷ 0 ∷ 2 ∷ 1 ∷ []
+unfolding computing
+removed-layout = refl
+
+-- ---- runs of SEAT, declared with its width alone
+abbrev pub seatDeclared : Yoke → Declaration
+seatDeclared y = record { name = 83 ∷ 69 ∷ 65 ∷ 84 ∷ 0 ∷ 0 ∷ 0 ∷ 0 ∷ []; body = seat end; declared = y; limit = none }
+
+abbrev pub wide : ℤ → Expression
+wide z = unary 0 (make-record 1) (literal z)
+
+abbrev pub expanded : ℕ → Expression → ℤ → Expression
+expanded n e z = binary 0 (expand n) e (literal z)
+
+abbrev pub own : Expression
+own = variable 0 0
+
+-- SEAT := its width, then with a footplate, then with a headrest too: two attributes may come one after the other
+abbrev pub growing : Instruction
+growing =
+    sequence 0 (assign 1 0 (wide (pos 40)))
+    (sequence 0 (assign 2 0 (expanded 2 own (pos 20))) (assign 3 0 (expanded 3 own (pos 30))))
+
+abbrev pub seatRun : Instruction → Profile
+seatRun i = program (seatDeclared always) i
+
+pub grown : endsWith (seatRun growing) [] 9 ≡ ending 0 0 0 3
+unfolding computing
+grown = refl
+
+-- the present body, which is handed out: a record of three numbers, then zeros
+pub grown-body : bodiesIn (lastState (run (seatRun growing) [] 9) .store) ≡ 5 ∷ 3 ∷ 1 ∷ 2 ∷ 2 ∷ 2 ∷ 3 ∷ 2 ∷ replicate 1528 0
+unfolding computing
+grown-body = refl
+
+-- an unfilled variable's is the declared one
+pub declared-first : bodiesIn (lastState (run (seatRun growing) [] 0) .store) ≡ 5 ∷ 1 ∷ 1 ∷ 2 ∷ replicate 1532 0
+unfolding computing
+declared-first = refl
+
+-- both parts at once are 15, and so is the first width once SEAT has both
+pub both-at-once : endsWith (seatRun (assign 1 0 (expanded 3 (expanded 2 (wide (pos 40)) (pos 20)) (pos 30)))) [] 9 ≡ ending 1 no-coherence 1 1
+unfolding computing
+both-at-once = refl
+
+pub declared-again : endsWith (seatRun (sequence 0 growing (assign 4 0 (wide (pos 50))))) [] 9 ≡ ending 1 no-coherence 4 4
+unfolding computing
+declared-again = refl
+
+-- with its first part gone SEAT's other cells are zero again
+pub narrowed : take 4 (cellsIn (lastState (run (seatRun (sequence 0 growing (assign 4 0 (unary 0 (remove 1) own)))) [] 9) .store)) ≡ pos 20 ∷ pos 30 ∷ pos 0 ∷ pos 0 ∷ []
+unfolding computing
+narrowed = refl
+
+-- a yoke may want a part that only the wider body has: value.2 < 5; its own error comes before coherence
+abbrev pub low-footplate : Yoke
+low-footplate = yoke (binary 3 less (unary 1 (select 2) (current 0)) (literal (pos 5)))
+
+pub yoke-wants-more : endsWith (program (seatDeclared low-footplate) (sequence 0 (assign 1 0 (expanded 2 (wide (pos 40)) (pos 4))) (assign 2 0 (wide (pos 40))))) [] 9 ≡ ending 1 no-such-attribute 2 2
+unfolding computing
+yoke-wants-more = refl
+
+-- a handler may name 19
+pub handled-last : endsWith (seatRun (sequence 0 (assign 1 0 (unary 0 (remove 1) (wide (pos 40)))) (handle 3 last-attribute (skip 2)))) [] 9 ≡ ending 0 0 0 3
+unfolding computing
+handled-last = refl
 
 -- ---- files
 -- a row: its section, its kind, then what its eight bytes begin with

@@ -4,6 +4,7 @@ pub mod Outcome
 pub mod Body
 pub mod WellFormed
 pub mod Value
+pub mod Encode
 pub mod Operation
 pub mod Compute
 pub mod Expression

@@ -1,6 +1,6 @@
 -- Every error that a run meets: what any check gives, also one that an earlier error hides or a handler clears
 -- (document 01, The contract and the cases). An operand in error does not hide the checks of the other operand alone,
--- and an assignment's yoke and body do not hide each other; of a value of another body no limits are asked. What is not
+-- and an assignment's yoke and body do not hide each other; of a value that is not coherent no limits are asked. What is not
 -- evaluated meets nothing. Assumes nothing: these are definitions.
 use mathlib.Core.Bool.{Bool, true, false, not, Bool·beq}
 use mathlib.Core.List.{List, [], _∷_, _++_, map}
@@ -11,13 +11,13 @@ use lib.IntN.{pos}
 use Rattle.lingua.specs.Numbers.{record-attributes, list-places}
 use Rattle.lingua.specs.Errors.{no-error, overflow, division-by-zero, yoke-not-satisfied, list-full, number-expected, boolean-expected, word-expected, list-expected, record-expected, no-such-attribute, attribute-present, no-coherence, yoke-expected, not-comparable, body-too-large}
 use Rattle.lingua.specs.Outcome.{ok, fail, Result, require, orFail, _>>=_, _>>_}
-use Rattle.lingua.specs.Body.{Body, number, sameBody, isNumber, isWord, isSimple, elementBody, attributesOf, attributeBody, countAttributes}
+use Rattle.lingua.specs.Body.{Body, number, sameBody, coherent, isNumber, isWord, isSimple, elementBody, attributesOf, attributeBody, countAttributes}
 use Rattle.lingua.specs.Value.{whole, asWhole, asItems, countValues, inRange, Composite, composite}
 use Rattle.lingua.specs.Operation.{Binary, add, subtract, multiply, divide, less, equal, glue, expand, change, push, present}
 use Rattle.lingua.specs.Compute.{sameNumber}
 use Rattle.lingua.specs.Expression.{settledBy, Expression, constant, variable, current, unary, binary, lazy, choice, all-list, Yoke, always, yoke, Instruction, skip, assign, set-yoke, sequence, branch, loop, handle}
 use Rattle.lingua.specs.Evaluation.{Variables, eval, evalYoke, evalTest, applyUnary, applyBinary, truthOr, elementsOf, no-current}
-use Rattle.lingua.specs.Store.{Variable, variableAt, contents, within, Reading}
+use Rattle.lingua.specs.Store.{Variable, variableAt, presentBody, contents, within, Reading}
 use Rattle.lingua.specs.Run.{State, Progress, going, out, withLeft, withError, exec, Profile, started, takenUnless, takeReadings}
 use Rattle.lingua.specs.Typing.{joined}
 
@@ -131,12 +131,12 @@ yokeChecksMet y vars x =
     ++ onAnswer (truthOr yoke-expected r) (λ t. unlessMet t yoke-not-satisfied))
 
 -- ---- instructions
--- an assignment of a value: its yoke and its body, each for itself, and its limits where it is of the variable's body
+-- an assignment of a value: its yoke and its body, each for itself, and its limits where it is coherent
 unfoldable pub assignMet : List Variable → ℕ → Composite → List ℕ
 assignMet vs n x =
     yokeChecksMet (variableAt vs n .yoke) (contents vs) x
-    ++ unlessMet (sameBody (variableAt vs n .body) (x .body)) no-coherence
-    ++ onTrue (sameBody (variableAt vs n .body) (x .body)) (unlessMet (within (variableAt vs n .limit) (asWhole (x .value))) yoke-not-satisfied)
+    ++ unlessMet (coherent (presentBody (variableAt vs n)) (x .body)) no-coherence
+    ++ onTrue (coherent (presentBody (variableAt vs n)) (x .body)) (unlessMet (within (variableAt vs n .limit) (asWhole (x .value))) yoke-not-satisfied)
 
 unfoldable pub testMet : Expression → Variables → List ℕ
 testMet e vars = met e vars no-current ++ onAnswer (eval e vars no-current) (λ x. errorIn (truthOr boolean-expected x))

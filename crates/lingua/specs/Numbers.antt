@@ -75,13 +75,14 @@ states-length = 32
 abbrev pub layout-length : ℕ
 layout-length = 1024
 
--- ---- the code's own: the bodies of all type rows and of all variables, a variable's limit, the limits of all variables, and the operand
--- stack, with a value for each expression row and one more
-abbrev pub type-bodies-length : ℕ
-type-bodies-length = 3072
-
+-- the present bodies of all variables
 abbrev pub variable-bodies-length : ℕ
 variable-bodies-length = 1536
+
+-- ---- the code's own: the bodies of all type rows, a variable's limit, the limits of all variables, and the operand stack, with a value for
+-- each expression row and one more
+abbrev pub type-bodies-length : ℕ
+type-bodies-length = 3072
 
 abbrev pub limit-cells : ℕ
 limit-cells = 3

@@ -1,17 +1,19 @@
--- The operations of expression kinds 5 to 23 but and, or, if, and their half on bodies: the operands' bodies give the
+-- The operations of expression kinds 5 to 23 but and, or, if, and of 26, and their half on bodies: the operands' bodies give the
 -- result's body, or the lowest type error that applies (document 01, Evaluation). Assumes nothing: these are definitions.
 use mathlib.Core.Bool.{Bool, not, _&&_}
 use Prim.Native.Nat.{ℕ}
-use Rattle.lingua.specs.Errors.{number-expected, boolean-expected, word-expected, list-expected, record-expected, no-such-attribute, attribute-present, no-coherence, not-comparable, body-too-large}
+use lib.Dec.{ltb}
+use Rattle.lingua.specs.Errors.{number-expected, boolean-expected, word-expected, list-expected, record-expected, no-such-attribute, attribute-present, no-coherence, not-comparable, body-too-large, last-attribute}
 use Rattle.lingua.specs.Outcome.{ok, Result, require, orFail, isSome, _>>=_, _>>_}
-use Rattle.lingua.specs.Body.{Body, boolean, number, word, list-of, record-of, Attributes, end, attribute, sameBody, isBoolean, isNumber, isWord, isSimple, elementBody, attributesOf, attributeBody, insertAttribute, tooLarge}
+use Rattle.lingua.specs.Body.{Body, boolean, number, word, list-of, record-of, Attributes, end, attribute, sameBody, isBoolean, isNumber, isWord, isSimple, elementBody, attributesOf, countAttributes, attributeBody, insertAttribute, removeAttribute, tooLarge}
 
--- of one operand: kinds 14, 16, 18, 20, 22, 23; a record's operations name an attribute
+-- of one operand: kinds 14, 16, 18, 20, 22, 23, 26; a record's operations name an attribute
 pub data Unary : Type 0 where
   negation : Unary
   make-record : ℕ → Unary
   select : ℕ → Unary
   make-list top pop : Unary
+  remove : ℕ → Unary
 
 -- of two operands: kinds 5 to 10, 13, 17, 19, 21
 pub data Binary : Type 0 where
@@ -42,6 +44,11 @@ unaryBody top b = orFail (elementBody b) list-expected
 unaryBody pop b = do
   e ← orFail (elementBody b) list-expected
   ok b
+unaryBody (remove n) b = do
+  fs ← orFail (attributesOf b) record-expected
+  require (present n fs) no-such-attribute
+  require (ltb 1 (countAttributes fs)) last-attribute
+  ok (record-of (removeAttribute n fs))
 
 -- two numbers
 unfoldable pub numbersTo : Body → Body → Body → Result Body

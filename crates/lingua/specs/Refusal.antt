@@ -5,7 +5,7 @@ use Prim.Native.Nat.{ℕ, _%_}
 use lib.Dec.{eqb, ltb}
 use lib.ListN.{length}
 use lib.Signed.{leZ}
-use Rattle.lingua.specs.Numbers.{row-bytes, rows-length, cells-length, states-length, layout-length, most-readings, declaration-section, limit-section}
+use Rattle.lingua.specs.Numbers.{row-bytes, rows-length, cells-length, states-length, layout-length, variable-bodies-length, most-readings, declaration-section, limit-section}
 use Rattle.lingua.specs.Errors.{no-error, bad-buffer, bad-length, bad-marker, bad-header, bad-check, bad-form, bad-count, bad-name, bad-constant, bad-reference, bad-use, misplaced, bad-type, models-differ, bad-limit, bad-reading, type-error-found}
 use Rattle.lingua.specs.Outcome.{ok, fail, Result, isOk, if_then_else_}
 use Rattle.lingua.specs.Body.{Body, isNumber}
@@ -132,8 +132,13 @@ runRules fits i =
     ++ (rule bad-reading (readingWrong (rowsOf (i .profile)) (i .variables))
     ∷ []))
 
-unfoldable pub checkedRefusal : Inputs → Buffers → ℕ
-checkedRefusal i b = lowest (runRules (runFits i b) i)
+-- the rules that both runs share
+unfoldable pub runRefusal : Inputs → Buffers → ℕ
+runRefusal i b = lowest (runRules (runFits i b) i)
+
+-- a checked run's buffers have the present bodies too
+unfoldable pub checkedRefusal : Inputs → Buffers → List ℕ → ℕ
+checkedRefusal i b bodies = lowest (runRules (eqb (length bodies) variable-bodies-length && runFits i b) i)
 
 -- an erased run's buffers have the layout table too, and the type check must pass (17)
 unfoldable pub erasedRefusal : Inputs → Buffers → List ℕ → ℕ

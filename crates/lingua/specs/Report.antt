@@ -5,7 +5,7 @@ use Prim.Native.Nat.{ℕ, zero, suc, _+_, _/_, _%_}
 use lib.Dec.{ltb}
 use lib.ListN.{replicate}
 use lib.IntN.{ℤ, pos, negsuc}
-use Rattle.lingua.specs.Numbers.{cells-length, states-length, report-budget}
+use Rattle.lingua.specs.Numbers.{cells-length, states-length, variable-bodies-length, report-budget}
 use Rattle.lingua.specs.Outcome.{if_then_else_}
 use Rattle.lingua.specs.Value.{Composite, cellsOf}
 use Rattle.lingua.specs.Store.{Variable}
@@ -53,7 +53,7 @@ unfoldable pub cellTexts : List ℤ → List ℕ
 cellTexts [] = []
 cellTexts (z ∷ zs) = space ∷ (signedDecimal z ++ cellTexts zs)
 
--- the body's cells, or - where the variable is not filled
+-- the cells of the present body, or - where the variable is not filled
 unfoldable pub contentText : Option Composite → List ℕ
 contentText none = space ∷ 45 ∷ []
 contentText (some x) = cellTexts (cellsOf (x .body) (x .value))
@@ -78,4 +78,6 @@ reportUnless (suc n) prof lims = refusedText (suc n)
 -- the checked run with no readings and a budget of 1,000, on buffers of the listed lengths
 unfoldable pub reportText : List ℕ → List ℕ → List ℕ
 reportText prof lims =
-    reportUnless (checkedRefusal (inputs prof lims [] []) (buffers (replicate cells-length (pos 0)) (replicate states-length 0))) prof lims
+    reportUnless
+    (checkedRefusal (inputs prof lims [] []) (buffers (replicate cells-length (pos 0)) (replicate states-length 0)) (replicate variable-bodies-length 0))
+    prof lims

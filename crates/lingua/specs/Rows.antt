@@ -13,7 +13,7 @@ use Rattle.lingua.specs.Numbers.{row-bytes, type-section, expression-sec
 use Rattle.lingua.specs.Outcome.{if_then_else_}
 use Rattle.lingua.specs.Body.{Body, boolean, number, word}
 use Rattle.lingua.specs.Value.{truth, whole, text, Composite, composite}
-use Rattle.lingua.specs.Operation.{Unary, negation, make-record, select, make-list, top, pop, Binary, add, subtract, multiply, divide, less, equal, glue, expand, change, push}
+use Rattle.lingua.specs.Operation.{Unary, negation, make-record, select, make-list, top, pop, remove, Binary, add, subtract, multiply, divide, less, equal, glue, expand, change, push}
 use Rattle.lingua.specs.Expression.{Connective, conjunction, disjunction}
 
 -- ---- fields
@@ -198,6 +198,7 @@ expressionKinds =
     ∷ field-kind 23 2 (λ a b c. unary-row pop a)
     ∷ field-kind 24 0 (λ a b c. current-row)
     ∷ field-kind 25 2 (λ a b c. all-list-row a)
+    ∷ field-kind 26 4 (λ a b c. unary-row (remove b) a)
     ∷ []
 
 unfoldable pub expressionAt : List ℕ → ℕ → ExpressionRow

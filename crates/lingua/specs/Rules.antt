@@ -10,7 +10,7 @@ use Rattle.lingua.specs.Numbers.{attribute-numbers, word-length, most-va
 use Rattle.lingua.specs.Errors.{isError}
 use Rattle.lingua.specs.Outcome.{if_then_else_}
 use Rattle.lingua.specs.Value.{inRange, isCharacter, allOf}
-use Rattle.lingua.specs.Operation.{Unary, negation, make-record, select, make-list, top, pop, Binary, add, subtract, multiply, divide, less, equal, glue, expand, change, push}
+use Rattle.lingua.specs.Operation.{Unary, negation, make-record, select, make-list, top, pop, remove, Binary, add, subtract, multiply, divide, less, equal, glue, expand, change, push}
 use Rattle.lingua.specs.Compute.{sameText}
 use Rattle.lingua.specs.Rows.{rowCount, sectionAt, kindAt, bytesAt, rowIn, tableCount, pairCount, numbered, usedOf, TypeRow, simple-type, list-type, record-type, expand-type, unknown-type, typeKinds, typeRow, Constant, boolean-constant, number-constant, word-constant, ExpressionRow, constant-row, variable-row, current-row, unary-row, binary-row, lazy-row, choice-row, all-list-row, unknown-expression, expressionKinds, expressionRow, InstructionRow, skip-row, assign-row, set-yoke-row, sequence-row, branch-row, loop-row, handle-row, unknown-instruction, instructionKinds, instructionRow}
 use Rattle.lingua.specs.Trees.{nameAt}
@@ -116,6 +116,7 @@ unaryAttribute (select n) = n ∷ []
 unaryAttribute make-list = []
 unaryAttribute top = []
 unaryAttribute pop = []
+unaryAttribute (remove n) = n ∷ []
 
 unfoldable pub binaryAttribute : Binary → List ℕ
 binaryAttribute add = []

@@ -8,11 +8,12 @@ use lib.Dec.{eqb}
 use lib.ListN.{getD, set}
 use lib.IntN.{ℤ, pos}
 use lib.Signed.{leZ}
-use Rattle.lingua.specs.Numbers.{body-cells, cells-length, state-words, states-length}
+use Rattle.lingua.specs.Numbers.{body-cells, cells-length, state-words, states-length, variable-bodies-length}
 use Rattle.lingua.specs.Errors.{overflow, yoke-not-satisfied, no-coherence, yoke-expected}
 use Rattle.lingua.specs.Outcome.{ok, Result, require, _>>=_, _>>_}
-use Rattle.lingua.specs.Body.{Body, boolean, number, sameBody}
+use Rattle.lingua.specs.Body.{Body, boolean, number, coherent}
 use Rattle.lingua.specs.Value.{whole, inRange, asWhole, pad, cellsOf, Composite, composite}
+use Rattle.lingua.specs.Encode.{encoded}
 use Rattle.lingua.specs.Expression.{Yoke, always, yokeNumber}
 use Rattle.lingua.specs.Evaluation.{Variables, truthOr, evalYoke}
 
@@ -21,7 +22,7 @@ pub record Limit : Type 0 where
   pub low : ℤ
   pub high : ℤ
 
--- a variable: its declared body and its limit stay; its content and its yoke change
+-- a variable: its declared body and its limit stay; its content, with a body of its own, and its yoke change
 pub record Variable : Type 0 where
   pub body : Body
   pub limit : Option Limit
@@ -38,6 +39,14 @@ variableAt vs n = getD vs n no-variable
 abbrev pub contents : List Variable → Variables
 contents vs n = variableAt vs n .content
 
+-- the present body: the content's, or the declared one as long as there is none
+abbrev pub presentOf : Body → Option Composite → Body
+presentOf b none = b
+presentOf b (some x) = x .body
+
+abbrev pub presentBody : Variable → Body
+presentBody v = presentOf (v .body) (v .content)
+
 abbrev pub withContent : Variable → Composite → Variable
 withContent v x = record { body = v .body; limit = v .limit; yoke = v .yoke; content = some x }
 
@@ -53,7 +62,7 @@ within (some l) z = leZ (l .low) z && leZ z (l .high)
 unfoldable pub admitted : List Variable → Variable → Composite → Result (Unit {0})
 admitted vs v x = do
   y ← evalYoke (v .yoke) (contents vs) x
-  require (sameBody (v .body) (x .body)) no-coherence
+  require (coherent (presentBody v) (x .body)) no-coherence
   t ← truthOr yoke-expected y
   require (t && within (v .limit) (asWhole (x .value))) yoke-not-satisfied
 
@@ -87,7 +96,7 @@ readingTaken vs r = do
   require (inRange (r .number)) overflow
   assigned vs (r .variable) (composite number (whole (r .number)))
 
--- ---- the store as lent memory: variable v's cells from 64 v on, and its state words from 2 v on
+-- ---- the store as lent memory: variable v's cells from 64 v on, its state words from 2 v on, and its present body's bytes from 96 v on
 unfoldable pub contentCells : Option Composite → List ℤ
 contentCells none = []
 contentCells (some x) = cellsOf (x .body) (x .value)
@@ -108,12 +117,19 @@ unfoldable pub storeStates : List Variable → List ℕ
 storeStates [] = []
 storeStates (v ∷ vs) = stateWords v ++ storeStates vs
 
--- document 01: the 1,024 cells and the 32 marks
+unfoldable pub storeBodies : List Variable → List ℕ
+storeBodies [] = []
+storeBodies (v ∷ vs) = encoded (presentBody v) ++ storeBodies vs
+
+-- document 01: the 1,024 cells and the 32 marks; and the 16 present bodies, zeros for the rest
 unfoldable pub cellsIn : List Variable → List ℤ
 cellsIn vs = pad cells-length (pos 0) (storeCells vs)
 
 unfoldable pub statesIn : List Variable → List ℕ
 statesIn vs = pad states-length 0 (storeStates vs)
+
+unfoldable pub bodiesIn : List Variable → List ℕ
+bodiesIn vs = pad variable-bodies-length 0 (storeBodies vs)
 
 -- where variable n's state words stand among all, by name: nothing else says it
 abbrev pub flagPlace : ℕ → ℕ

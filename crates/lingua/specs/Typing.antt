@@ -8,7 +8,7 @@ use Rattle.lingua.specs.Numbers.{layout-length, instruction-place, decla
 use Rattle.lingua.specs.Errors.{boolean-expected, list-expected, no-coherence, yoke-expected}
 use Rattle.lingua.specs.Outcome.{Outcome, ok, fail, Result, require, orFail, allAnswers, _>>=_, _>>_}
 use Rattle.lingua.specs.Body.{Body, boolean, Attributes, size, sameBody, isBoolean, elementBody, attributesOf, attributeOffset}
-use Rattle.lingua.specs.Operation.{Unary, negation, make-record, select, make-list, top, pop, Binary, add, subtract, multiply, divide, less, equal, glue, expand, change, push, unaryBody, binaryBody}
+use Rattle.lingua.specs.Operation.{Unary, negation, make-record, select, make-list, top, pop, remove, Binary, add, subtract, multiply, divide, less, equal, glue, expand, change, push, unaryBody, binaryBody}
 use Rattle.lingua.specs.Expression.{Expression, constant, variable, current, unary, binary, lazy, choice, all-list, Yoke, always, yoke, Instruction, skip, assign, set-yoke, sequence, branch, loop, handle}
 use Rattle.lingua.specs.Evaluation.{no-current}
 use Rattle.lingua.specs.Run.{Declaration, Profile}
@@ -50,7 +50,7 @@ offsetAmong n (some fs) = attributeOffset n fs
 unfoldable pub offsetIn : ℕ → Body → ℕ
 offsetIn n b = offsetAmong n (attributesOf b)
 
--- the layout table's second number: the selected attribute's offset
+-- the layout table's second number: the selected or the removed attribute's offset in the operand
 unfoldable pub unarySecond : Unary → Body → ℕ
 unarySecond negation b = 0
 unarySecond (make-record n) b = 0
@@ -58,6 +58,7 @@ unarySecond (select n) b = offsetIn n b
 unarySecond make-list b = 0
 unarySecond top b = 0
 unarySecond pop b = 0
+unarySecond (remove n) b = offsetIn n b
 
 -- from the operands' bodies b and c and the result's d: the offset in the result, of a new attribute in the widened record, of a changed
 -- one where it was

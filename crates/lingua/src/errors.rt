@@ -37,8 +37,10 @@ pub const YOKE_EXPECTED: u8 = 16;
 pub const NOT_COMPARABLE: u8 = 17;
 
 pub const BODY_TOO_LARGE: u8 = 18;
+
+pub const LAST_ATTRIBUTE: u8 = 19;
 // errors are numbered from 1, below this; a handler may name each of them
-pub const ERROR_NUMBERS: usize = 19;
+pub const ERROR_NUMBERS: usize = 20;
 // refusals, in the order in which they are asked
 pub const BAD_BUFFER: u8 = 1;
 

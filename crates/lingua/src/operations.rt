@@ -1,5 +1,5 @@
 // The operations of expression rows, as the code tells them apart; a record's operations name an attribute.
-// Of one operand: kinds 14, 16, 18, 20, 22, 23.
+// Of one operand: kinds 14, 16, 18, 20, 22, 23, 26.
 pub enum UnaryOperation {
     Negation,
     MakeRecord(u8),
@@ -7,6 +7,7 @@ pub enum UnaryOperation {
     MakeList,
     Top,
     Pop,
+    Remove(u8),
 }
 
 // Of two operands: kinds 5 to 10, 13, 17, 19, 21.

@@ -42,11 +42,12 @@ pub const STATE_WORDS: usize = 2;
 pub const STATES_LENGTH: usize = 32;
 
 pub const LAYOUT_LENGTH: usize = 1024;
-// the code's own: the bodies of all type rows and of all variables, a variable's limit, the limits of all variables, and the
-// operand stack, with a value for each expression row and one more
-pub const TYPE_BODIES_LENGTH: usize = 3072;
 
+// the present bodies of all variables
 pub const VARIABLE_BODIES_LENGTH: usize = 1536;
+// the code's own: the bodies of all type rows, a variable's limit, the limits of all variables, and the operand stack, with a
+// value for each expression row and one more
+pub const TYPE_BODIES_LENGTH: usize = 3072;
 
 pub const LIMIT_CELLS: usize = 3;
 
