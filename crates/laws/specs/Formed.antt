@@ -10,13 +10,14 @@ use lib.Dec.{eqb, ltb}
 use borrow.Author.Tests.{eqb-false, ltb-true, ltb-false}
 use Rattle.lingua.specs.Numbers.{attribute-numbers}
 use Rattle.lingua.specs.Outcome.{ok, isSome, if_then_else_}
-use Rattle.lingua.specs.Body.{Body, list-of, record-of, Attributes, end, attribute, size, nodes, depth, countAttributes, width, tooLarge, attributeBody, insertAttribute}
+use Rattle.lingua.specs.Body.{Body, list-of, record-of, Attributes, end, attribute, size, nodes, depth, countAttributes, width, tooLarge, attributeBody, insertAttribute, removeAttribute}
 use Rattle.lingua.specs.WellFormed.{InBounds, WellFormed, formed-boolean, formed-number, formed-word, formed-list, formed-record, FormedFrom, formed-end, formed-attribute}
 use Rattle.lingua.specs.Value.{allOf}
-use Rattle.lingua.specs.Operation.{Unary, negation, make-record, select, make-list, top, pop, Binary, add, subtract, multiply, divide, less, equal, glue, expand, change, push, present, unaryBody, binaryBody}
+use Rattle.lingua.specs.Operation.{Unary, negation, make-record, select, make-list, top, pop, remove, Binary, add, subtract, multiply, divide, less, equal, glue, expand, change, push, present, unaryBody, binaryBody}
 use Rattle.lingua.specs.Rules.{unaryAttribute, binaryAttribute, attributesFit}
 use Rattle.laws.specs.Outcomes.{false-is-true, and-left, none-is-some, some-same}
-use Rattle.laws.specs.Halves.{bounded-within, in-bounds, few-attributes, negation-body, make-record-body, select-body, make-list-body, top-body, pop-body, numbers-body, equal-body, glue-body, expand-body, change-body, push-body}
+use Rattle.laws.specs.Removal.{removed-fewer}
+use Rattle.laws.specs.Halves.{bounded-within, in-bounds, few-attributes, negation-body, make-record-body, select-body, make-list-body, top-body, pop-body, remove-body, numbers-body, equal-body, glue-body, expand-body, change-body, push-body}
 
 -- ---- what a well-formed body shows
 pub formed-bounds : {b : Body} → WellFormed b → InBounds b
@@ -78,6 +79,33 @@ count-insert n c (attribute m d fs) = by (ltb n m)
     by true = omega arith
     by false = omega arith
 
+-- attributes numbered from m on are numbered from any lower number on
+formed-lower : {k m : ℕ} {fs : Attributes} → k ≤ m → FormedFrom m fs → FormedFrom k fs
+formed-lower l formed-end = formed-end
+formed-lower {k} l (formed-attribute {m = j} p q h hs) = let lower : k ≤ j = omega arith in formed-attribute lower q h hs
+
+-- an attribute goes, and the others stay in their order
+remove-formed : {k : ℕ} {fs : Attributes} → FormedFrom k fs → (n : ℕ) → FormedFrom k (removeAttribute n fs)
+unfolding removeAttribute
+remove-formed formed-end n = formed-end
+remove-formed {k} (formed-attribute {m = m} {b} {fs} p q h hs) n = by (eqb n m) (remove-formed hs n)
+  where
+    by : (t : Bool) → FormedFrom (suc m) (removeAttribute n fs) → FormedFrom k (if t then fs else attribute m b (removeAttribute n fs))
+    by true ih = formed-lower (omega arith) hs
+    by false ih = formed-attribute p q h ih
+
+pub removed-formed : (n : ℕ) {fs : Attributes} (d : Body) → attributeBody n fs ≡ some d → 1 < countAttributes fs → WellFormed (record-of fs) → WellFormed (record-of (removeAttribute n fs))
+unfolding size nodes depth
+removed-formed n {fs} d e l (formed-record h few many k) =
+    let r = removed-fewer n fs d e in
+    formed-record {fs = removeAttribute n fs}
+    (record {
+      few-cells = omega (arith, r .fewer-cells, h .few-cells);
+      few-nodes = omega (arith, r .fewer-nodes, h .few-nodes);
+      shallow = omega (arith, r .no-deeper, h .shallow);
+    })
+    (omega (arith, r .fewer-attributes)) (omega (arith, r .fewer-attributes)) (remove-formed k n)
+
 -- ---- operations
 -- the one attribute that an operation names
 numbered : (n : ℕ) → attributesFit (n ∷ []) ≡ true → n < attribute-numbers
@@ -100,6 +128,7 @@ unary-formed make-list {b} a h e =
     formed-as (sym is) (list-formed b (subst (λ (c : Body). tooLarge c ≡ false) is (bounded-within (list-of b) e)) h)
 unary-formed top a h e = formed-element (formed-as (top-body e) h)
 unary-formed pop a h e = let p = pop-body e in formed-as (p .1 ∙ sym (p .2)) h
+unary-formed (remove n) a h e = let s = remove-body {n = n} e in formed-as (sym (s .result)) (removed-formed n (s .removed) (s .has) (s .several) (formed-as (s .is) h))
 
 pub binary-formed : (o : Binary) {b c d : Body} → attributesFit (binaryAttribute o) ≡ true → WellFormed b → WellFormed c → binaryBody o b c ≡ ok d → WellFormed d
 unfolding binaryBody binaryAttribute

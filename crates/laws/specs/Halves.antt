@@ -3,17 +3,18 @@
 use mathlib.Core.Path.{_≡_, refl, sym, ap, _∙_, subst}
 use mathlib.Core.Bool.{Bool, true, false, not, _&&_, _||_}
 use mathlib.Core.Option.{some}
-use Prim.Native.Nat.{ℕ, _+_, _≤_}
+use Prim.Native.Nat.{ℕ, _+_, _≤_, _<_}
 use native.Mathlib.Omega.{arith}
 use lib.Dec.{eqb, ltb}
-use borrow.Author.Tests.{not-true, ltb-false, eq-eqb}
+use borrow.Author.Tests.{not-true, ltb-true, ltb-false, eq-eqb}
 use Rattle.lingua.specs.Numbers.{body-cells, body-nodes, body-depth, record-attributes}
-use Rattle.lingua.specs.Errors.{number-expected, boolean-expected, word-expected, list-expected, record-expected, no-such-attribute, attribute-present, no-coherence, not-comparable, body-too-large}
+use Rattle.lingua.specs.Errors.{number-expected, boolean-expected, word-expected, list-expected, record-expected, no-such-attribute, attribute-present, no-coherence, not-comparable, body-too-large, last-attribute}
 use Rattle.lingua.specs.Outcome.{ok, orFail, isSome, if_then_else_}
-use Rattle.lingua.specs.Body.{Body, boolean, number, word, list-of, record-of, Attributes, end, attribute, size, sizes, nodes, depth, width, isBoolean, isNumber, isWord, isSimple, sameBody, elementBody, attributesOf, attributeBody, attributeOffset, insertAttribute, tooLarge}
+use Rattle.lingua.specs.Body.{Body, boolean, number, word, list-of, record-of, Attributes, end, attribute, size, sizes, nodes, depth, width, isBoolean, isNumber, isWord, isSimple, sameBody, elementBody, attributesOf, countAttributes, attributeBody, attributeOffset, insertAttribute, removeAttribute, tooLarge}
 use Rattle.lingua.specs.WellFormed.{InBounds}
-use Rattle.lingua.specs.Operation.{Unary, negation, make-record, select, make-list, top, pop, Binary, add, subtract, multiply, divide, less, equal, glue, expand, change, push, bounded, present, unaryBody, numbersTo, binaryBody}
-use Rattle.laws.specs.Outcomes.{false-is-true, ok-same, required, orFail-ok, asked, and-left, and-right, or-left, or-right, same-body, is-boolean, is-number, is-word, is-list, is-record, none-is-some, some-same}
+use Rattle.lingua.specs.Operation.{Unary, negation, make-record, select, make-list, top, pop, remove, Binary, add, subtract, multiply, divide, less, equal, glue, expand, change, push, bounded, present, unaryBody, numbersTo, binaryBody}
+use Rattle.laws.specs.Outcomes.{false-is-true, ok-same, required, orFail-ok, asked, is-some, and-left, and-right, or-left, or-right, same-body, is-boolean, is-number, is-word, is-list, is-record, none-is-some, some-same}
+use Rattle.laws.specs.Removal.{removed-fewer}
 
 -- ---- bounds
 pub bounded-is : {b d : Body} → bounded b ≡ ok d → d ≡ b
@@ -85,6 +86,32 @@ pop-body {b} {d} e =
     let p = asked (elementBody b) list-expected (λ c. ok b) d e in
     let q = is-list b (p .0) (p .1) in
     (p .0, q, sym (ok-same (p .2)) ∙ q)
+
+-- a record's attributes, one that is not the only one, and the record without it
+pub record Removes (n : ℕ) (b d : Body) : Type 0 where
+  pub attributes : Attributes
+  pub removed : Body
+  pub is : b ≡ record-of attributes
+  pub has : attributeBody n attributes ≡ some removed
+  pub several : 1 < countAttributes attributes
+  pub result : d ≡ record-of (removeAttribute n attributes)
+
+pub remove-body : {n : ℕ} {b d : Body} → unaryBody (remove n) b ≡ ok d → Removes n b d
+unfolding unaryBody present
+remove-body {n} {b} {d} e =
+    let p = asked (attributesOf b) record-expected _ d e in
+    let fs = p .0 in
+    let q = required (present n fs) no-such-attribute _ d (p .2) in
+    let r = required (ltb 1 (countAttributes fs)) last-attribute (ok (record-of (removeAttribute n fs))) d (q .1) in
+    let s = is-some (attributeBody n fs) (q .0) in
+    record {
+      attributes = fs;
+      removed = s .0;
+      is = is-record b fs (p .1);
+      has = s .1;
+      several = ltb-true 1 (countAttributes fs) (r .0);
+      result = sym (ok-same (r .1));
+    }
 
 -- ---- two operands
 pub numbers-body : {r b c d : Body} → numbersTo r b c ≡ ok d → (b ≡ number) × (c ≡ number) × (d ≡ r)
@@ -184,6 +211,10 @@ attribute-small : (n : ℕ) (fs : Attributes) (d : Body) → attributeBody n fs 
 unfolding size
 attribute-small n fs d e h = omega (arith, attribute-within n fs d e, h)
 
+removed-small : (n : ℕ) (fs : Attributes) (d : Body) → attributeBody n fs ≡ some d → size (record-of fs) ≤ body-cells → size (record-of (removeAttribute n fs)) ≤ body-cells
+unfolding size
+removed-small n fs d e h = omega (arith, removed-fewer n fs d e .fewer-cells, h)
+
 boolean-small : size boolean ≤ body-cells
 unfolding size
 boolean-small = omega arith
@@ -205,6 +236,9 @@ unary-small (select n) b {d} h e =
 unary-small make-list b h e = bounded-small (list-of b) e
 unary-small top b {d} h e = element-small d (subst (λ (c : Body). size c ≤ body-cells) (top-body e) h)
 unary-small pop b {d} h e = let p = pop-body e in simple-small (p .2 ∙ sym (p .1)) h
+unary-small (remove n) b h e =
+    let s = remove-body {n = n} e in
+    simple-small (s .result) (removed-small n (s .attributes) (s .removed) (s .has) (subst (λ (c : Body). size c ≤ body-cells) (s .is) h))
 
 pub binary-small : (o : Binary) (b c : Body) {d : Body} → size b ≤ body-cells → size c ≤ body-cells → binaryBody o b c ≡ ok d → size d ≤ body-cells
 unfolding binaryBody

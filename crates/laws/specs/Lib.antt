@@ -3,6 +3,7 @@ pub mod Lengths
 pub mod Records
 pub mod Items
 pub mod Outcomes
+pub mod Coherent
 pub mod Words
 pub mod Sound
 pub mod Determined
@@ -14,6 +15,9 @@ pub mod Blocks
 pub mod Parts
 pub mod Areas
 pub mod Stores
+pub mod Encoded
+pub mod Presents
+pub mod Removal
 pub mod Halves
 pub mod Formed
 pub mod Written

@@ -6,7 +6,7 @@ use Prim.Native.Nat.{ℕ}
 use lib.Dec.{eqb}
 use borrow.Author.Tests.{eqb-true, eq-eqb}
 use native.Mathlib.Omega.{arith}
-use Rattle.lingua.specs.Outcome.{ok, fail, Result, _>>=_, _>>_, require, orFail}
+use Rattle.lingua.specs.Outcome.{ok, fail, Result, _>>=_, _>>_, require, orFail, isSome}
 use Rattle.lingua.specs.Body.{Body, boolean, number, word, list-of, record-of, Attributes, end, attribute, holds, sameBody, sameAttributes, isBoolean, isNumber, isWord, elementBody, attributesOf}
 
 pub false-is-true {ℓ} : {A : Type ℓ} → false ≡ true → A
@@ -31,6 +31,11 @@ orFail-ok none n a e = fail-is-ok e
 pub asked : {A B : Type 0} (m : Option A) (n : ℕ) (f : A → Result B) (b : B) → (orFail m n >>= f) ≡ ok b → (a : A) × (m ≡ some a) × (f a ≡ ok b)
 asked (some x) n f b e = (x, refl, e)
 asked none n f b e = fail-is-ok e
+
+-- an option that holds something
+pub is-some : {A : Type 0} (m : Option A) → isSome m ≡ true → (a : A) × (m ≡ some a)
+is-some (some a) e = (a, refl)
+is-some none e = false-is-true e
 
 pub and-left : (s t : Bool) → (s && t) ≡ true → s ≡ true
 and-left true t e = refl

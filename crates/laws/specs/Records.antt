@@ -1,7 +1,7 @@
--- Attributes of a record on its cells: select is a window at the attribute's offset, change a paste there, and expand an
--- insertion there; and each result fits. Carried by one split of the cells for each, by induction over the fields.
--- That attributes ascend is not needed. Assumes nothing.
-use mathlib.Core.Path.{_≡_, refl, sym, ap, _∙_, subst}
+-- Attributes of a record on its cells: select is a window at the attribute's offset, change a paste there, remove leaves the
+-- cells around it, and expand is an insertion there; and each result fits. Carried by two splits of the cells, at an attribute
+-- and where a new one goes, by induction over the fields. That attributes ascend is not needed. Assumes nothing.
+use mathlib.Core.Path.{_≡_, refl, sym, ap, ap₂, _∙_, subst}
 use mathlib.Core.Bool.{Bool, true, false}
 use mathlib.Core.List.{List, [], _++_, append-assoc, append-nil}
 use mathlib.Core.Option.{some}
@@ -13,14 +13,15 @@ use lib.Seq.{take-at, drop-at}
 use lib.IntN.{ℤ}
 use borrow.Author.Tests.{eq-eqb}
 use Rattle.lingua.specs.Outcome.{isSome, if_then_else_}
-use Rattle.lingua.specs.Body.{Body, record-of, Attributes, end, attribute, size, sizes, attributeBody, attributeOffset, insertAttribute}
+use Rattle.lingua.specs.Body.{Body, record-of, Attributes, end, attribute, size, sizes, attributeBody, attributeOffset, insertAttribute, removeAttribute}
 use Rattle.lingua.specs.Value.{Value, fields, Fields, no-fields, field, Fits, fit-fields, FieldsFit, fit-end, fit-field, asFields, cellsOf, fieldCells}
 use Rattle.lingua.specs.Operation.{present}
-use Rattle.lingua.specs.Compute.{fieldValue, changeField, insertField}
+use Rattle.lingua.specs.Compute.{fieldValue, changeField, insertField, removeField}
 use Rattle.laws.specs.Lengths.{length-cells}
 
--- a record's cells, split at an attribute of body d: how far it stands, its value, and what a change of it gives
-pub record SplitAt (at : ℕ) (d : Body) (fs : Attributes) (value : Value) (cells : List ℤ) (change : Value → Fields) : Type 0 where
+-- a record's cells, split at an attribute of body d: how far it stands, its value, what a change of it gives, and what is left
+-- without it
+pub record SplitAt (at : ℕ) (d : Body) (fs : Attributes) (value : Value) (cells : List ℤ) (change : Value → Fields) (less : Attributes) (rest : Fields) : Type 0 where
   pub before : List ℤ
   pub after : List ℤ
   pub offset : length before ≡ at
@@ -28,18 +29,20 @@ pub record SplitAt (at : ℕ) (d : Body) (fs : Attributes) (value : Value) (cell
   pub fit : Fits value d
   pub changed : (v : Value) → fieldCells fs (change v) ≡ before ++ (cellsOf d v ++ after)
   pub fits : (v : Value) → Fits v d → FieldsFit (change v) fs
+  pub removed : fieldCells less rest ≡ before ++ after
+  pub rest-fits : FieldsFit rest less
 
 abbrev pub Split : ℕ → Body → Attributes → Fields → Type 0
-Split n d fs xs = SplitAt (attributeOffset n fs) d fs (fieldValue n xs) (fieldCells fs xs) (λ v. changeField n v xs)
+Split n d fs xs = SplitAt (attributeOffset n fs) d fs (fieldValue n xs) (fieldCells fs xs) (λ v. changeField n v xs) (removeAttribute n fs) (removeField n xs)
 
 pub split : {xs : Fields} {fs : Attributes} → FieldsFit xs fs → (n : ℕ) (d : Body) → attributeBody n fs ≡ some d → Split n d fs xs
-unfolding attributeBody attributeOffset fieldValue changeField fieldCells
+unfolding attributeBody attributeOffset fieldValue changeField removeAttribute removeField fieldCells
 split fit-end n d e = absurd (let z : _≡_ {A = ℕ} 0 1 = cc in let k : ⊥ = omega arith in k)
 split (fit-field {n = m} {v = w} {b} {xs} {fs} h hs) n d e = go (eqb n m) e (split hs n d)
   where
     go : (t : Bool) → (if t then some b else attributeBody n fs) ≡ some d → (attributeBody n fs ≡ some d → Split n d fs xs)
         → SplitAt (if t then 0 else size b + attributeOffset n fs) d (attribute m b fs) (if t then w else fieldValue n xs) (cellsOf b w ++ fieldCells fs xs)
-        (λ v. if t then field m v xs else field m w (changeField n v xs))
+        (λ v. if t then field m v xs else field m w (changeField n v xs)) (if t then fs else attribute m b (removeAttribute n fs)) (if t then xs else field m w (removeField n xs))
     go true e rest =
         let q : b ≡ d = cc in
         record {
@@ -50,6 +53,8 @@ split (fit-field {n = m} {v = w} {b} {xs} {fs} h hs) n d e = go (eqb n m) e (spl
           fit = subst (λ (c : Body). Fits w c) q h;
           changed = λ v. ap (λ (c : Body). cellsOf c v ++ fieldCells fs xs) q;
           fits = λ v k. fit-field (subst (λ (c : Body). Fits v c) (sym q) k) hs;
+          removed = refl;
+          rest-fits = hs;
         }
     go false e rest =
         let s = rest e in
@@ -61,9 +66,11 @@ split (fit-field {n = m} {v = w} {b} {xs} {fs} h hs) n d e = go (eqb n m) e (spl
           fit = s .fit;
           changed = λ v. ap (λ (l : List ℤ). cellsOf b w ++ l) (s .changed v) ∙ sym (append-assoc (cellsOf b w) (s .before) _);
           fits = λ v k. fit-field h (s .fits v k);
+          removed = ap (λ (l : List ℤ). cellsOf b w ++ l) (s .removed) ∙ sym (append-assoc (cellsOf b w) (s .before) (s .after));
+          rest-fits = fit-field h (s .rest-fits);
         }
 
--- ---- select and change
+-- ---- select, change and remove
 module _ {xs : Fields} {fs : Attributes} (hs : FieldsFit xs fs) (n : ℕ) (d : Body) (e : attributeBody n fs ≡ some d) where
   pub select-cells : take (size d) (drop (attributeOffset n fs) (fieldCells fs xs)) ≡ cellsOf d (fieldValue n xs)
   select-cells =
@@ -75,21 +82,38 @@ module _ {xs : Fields} {fs : Attributes} (hs : FieldsFit xs fs) (n : ℕ) (d : B
   pub select-fits : Fits (fieldValue n xs) d
   select-fits = split hs n d e .fit
 
+  -- the cells before the attribute's, and those behind
+  cells-before : take (attributeOffset n fs) (fieldCells fs xs) ≡ split hs n d e .before
+  cells-before =
+      let s = split hs n d e in
+      ap (λ (l : List ℤ). take (attributeOffset n fs) l) (s .is) ∙ take-at (s .before) _ (attributeOffset n fs) (s .offset)
+
+  cells-after : drop (attributeOffset n fs + size d) (fieldCells fs xs) ≡ split hs n d e .after
+  cells-after =
+      let s = split hs n d e in
+      let own = cellsOf d (fieldValue n xs) in
+      let l : length (s .before ++ own) ≡ attributeOffset n fs + size d = omega (arith, length-append (s .before) own, s .offset, length-cells (s .fit)) in
+      ap (λ (l : List ℤ). drop (attributeOffset n fs + size d) l) (s .is ∙ sym (append-assoc (s .before) own (s .after)))
+      ∙ drop-at (s .before ++ own) (s .after) (attributeOffset n fs + size d) l
+
   -- the new value's cells in the place of the old one's
   pub change-cells : (v : Value) → Fits v d
       → fieldCells fs (changeField n v xs) ≡ take (attributeOffset n fs) (fieldCells fs xs) ++ cellsOf d v ++ drop (attributeOffset n fs + size d) (fieldCells fs xs)
   change-cells v k =
       let s = split hs n d e in
-      let old = cellsOf d (fieldValue n xs) in
-      let l : length (s .before ++ old) ≡ attributeOffset n fs + size d = omega (arith, length-append (s .before) old, s .offset, length-cells (s .fit)) in
       s .changed v
-      ∙ ap (λ (l : List ℤ). l ++ (cellsOf d v ++ s .after)) (sym (ap (λ (l : List ℤ). take (attributeOffset n fs) l) (s .is) ∙ take-at (s .before) _ (attributeOffset n fs) (s .offset)))
-      ∙ ap (λ (l : List ℤ). take (attributeOffset n fs) (fieldCells fs xs) ++ (cellsOf d v ++ l))
-      (sym (ap (λ (l : List ℤ). drop (attributeOffset n fs + size d) l) (s .is ∙ sym (append-assoc (s .before) old (s .after))) ∙ drop-at (s .before ++ old) (s .after) (attributeOffset n fs + size d) l))
+      ∙ sym (ap₂ (λ (l m : List ℤ). l ++ (cellsOf d v ++ m)) cells-before cells-after)
       ∙ sym (append-assoc (take (attributeOffset n fs) (fieldCells fs xs)) (cellsOf d v) _)
 
   pub change-fits : (v : Value) → Fits v d → FieldsFit (changeField n v xs) fs
   change-fits v k = split hs n d e .fits v k
+
+  -- the cells around the attribute's
+  pub remove-cells : fieldCells (removeAttribute n fs) (removeField n xs) ≡ take (attributeOffset n fs) (fieldCells fs xs) ++ drop (attributeOffset n fs + size d) (fieldCells fs xs)
+  remove-cells = split hs n d e .removed ∙ sym (ap₂ (λ (l m : List ℤ). l ++ m) cells-before cells-after)
+
+  pub remove-fits : FieldsFit (removeField n xs) (removeAttribute n fs)
+  remove-fits = split hs n d e .rest-fits
 
 -- ---- expand
 -- a record's cells, split where a new attribute goes, with what the insertion gives

@@ -16,12 +16,12 @@ use Rattle.lingua.specs.Errors.{overflow, division-by-zero, list-full, word-too
 use Rattle.lingua.specs.Outcome.{ok}
 use Rattle.lingua.specs.Body.{Body, number, word, list-of, record-of, Attributes}
 use Rattle.lingua.specs.Value.{Value, whole, text, items, Values, no-items, item, countValues, inRange, Fits, fit-truth, fit-whole, fit-text, fit-items, fit-fields, AllFit, fit-item, FieldsFit, isText, asWhole, asText, asItems, asFields}
-use Rattle.lingua.specs.Operation.{Unary, negation, make-record, select, make-list, top, pop, Binary, add, subtract, multiply, divide, less, equal, glue, expand, change, push, unaryBody, binaryBody}
+use Rattle.lingua.specs.Operation.{Unary, negation, make-record, select, make-list, top, pop, remove, Binary, add, subtract, multiply, divide, less, equal, glue, expand, change, push, unaryBody, binaryBody}
 use Rattle.lingua.specs.Compute.{ranged, sameNumber, quotient, divided, glued, pushed, topOf, popOf, withLast, unaryValue, binaryValue}
 use Rattle.laws.specs.Outcomes.{fail-is-ok, ok-same, required, and-left, and-right, and-both}
-use Rattle.laws.specs.Halves.{negation-body, make-record-body, select-body, make-list-body, top-body, pop-body, numbers-body, equal-body, glue-body, expand-body, change-body, push-body}
+use Rattle.laws.specs.Halves.{negation-body, make-record-body, select-body, make-list-body, top-body, pop-body, remove-body, numbers-body, equal-body, glue-body, expand-body, change-body, push-body}
 use Rattle.laws.specs.Words.{glued-text}
-use Rattle.laws.specs.Records.{make-record-fits, select-fits, change-fits, expand-fits}
+use Rattle.laws.specs.Records.{make-record-fits, select-fits, change-fits, remove-fits, expand-fits}
 use Rattle.laws.specs.Items.{push-fits, fits-lastFrom, pop-fits, single-fits}
 
 -- ---- what a value that fits a body is
@@ -105,6 +105,9 @@ unary-sound pop {x} h e f =
     let p = pop-body e in
     let k = as-body (p .1) h in
     as-body (sym (p .2)) (pop-sound (asItems x) (fit-list k) (fit-count k) f)
+unary-sound (remove n) h e f =
+    let s = remove-body {n = n} e in
+    fits-as (ok-same f) (sym (s .result)) (fit-fields (remove-fits (fit-record (as-body (s .is) h)) n (s .removed) (s .has)))
 
 -- ---- two operands
 pub divided-fits : (x y : ℤ) (v : Value) → inRange x ≡ true → divided x y ≡ ok v → Fits v number
