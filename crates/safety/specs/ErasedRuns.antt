@@ -25,7 +25,7 @@ use Rattle.safety.specs.Everywhere.{Everywhere, at-assign, at-set-yoke, 
 use Rattle.safety.specs.Runs.{Stable, Keeps, exec-keeps, taken-keeps}
 use Rattle.safety.specs.Invariant.{WellMadeProfile}
 use Rattle.safety.specs.Derivation.{anything, DerivedRow}
-use Rattle.safety.specs.Programs.{TypedProfile, StateTyped, typed-stable, kept-body, variables-fit, ReadsNumber, typed-reading, start-typed, readings-typed, program-keeps}
+use Rattle.safety.specs.Programs.{TypedProfile, StateTyped, typed-stable, kept-body, ReadsNumber, typed-reading, start-typed, readings-typed, program-keeps}
 use Rattle.safety.specs.Accepted.{accepted-pair, profile-well-made}
 use Rattle.safety.specs.Passed.{profile-derives, reads-number}
 use Rattle.safety.specs.Erasure.{withBody, eval-erased}
@@ -83,14 +83,14 @@ module _ (H : Entry → Type 0) (ds : List Declaration) where
   assigned-as s h n v =
       ap (λ (b : Body). admittedErased (variableAt (s .store) n .yoke) (variableAt (s .store) n .limit) (valuesOf (contents (s .store))) v >> ok (set (s .store) n (withContent (variableAt (s .store) n) (composite b v))))
       (kept-body ds (s .store) (h .kept) n)
-      ∙ sym (assigned-erased H ds (s .store) (h .kept) (h .yokes) n (composite (bodiesOf ds n) v) refl)
+      ∙ sym (assigned-erased H ds (s .store) (h .kept) (h .fit) (h .yokes) n (composite (bodiesOf ds n) v) refl)
 
   pub assign-same : (s : State) → StateTyped H ds s → (r n : ℕ) (e : Expression) → DerivedRow H (bodiesOf ds) (assign r n e)
       → (evalErased e (valuesOf (contents (s .store))) (truth false) >>= λ v. assignedErased (s .store) n v) ≡ (eval e (contents (s .store)) no-current >>= λ x. assigned (s .store) n x)
   unfolding DerivedRow
   assign-same s h r n e d =
       go (evalErased e (valuesOf (contents (s .store))) (truth false))
-      ∙ ap (λ (o : Result Composite). o >>= λ x. assigned (s .store) n x) (sym (eval-erased (bodiesOf ds) (contents (s .store)) (variables-fit ds (s .store) (h .kept)) e no-current d))
+      ∙ ap (λ (o : Result Composite). o >>= λ x. assigned (s .store) n x) (sym (eval-erased (bodiesOf ds) (contents (s .store)) (h .fit) e no-current d))
     where
       go : (p : Result Value) → (p >>= λ v. assignedErased (s .store) n v) ≡ (withBody (bodiesOf ds n) p >>= λ x. assigned (s .store) n x)
       go (ok v) = assigned-as s h n v
@@ -103,15 +103,15 @@ module _ (H : Entry → Type 0) (ds : List Declaration) where
   exec-erased (assign r n e) k (at-assign d) s h =
       act-same (StateTyped H ds) (typed-stable H ds) s _ _ h (λ t u. ap (λ (o : Result (List Variable)). going (settled t r o)) (assign-same t u r n e d))
   exec-erased (set-yoke r n y) k (at-set-yoke d) s h =
-      act-same (StateTyped H ds) (typed-stable H ds) s _ _ h (λ t u. ap (λ (o : Result (List Variable)). going (settled t r o)) (sym (changed-erased H ds (t .store) (u .kept) n y d)))
+      act-same (StateTyped H ds) (typed-stable H ds) s _ _ h (λ t u. ap (λ (o : Result (List Variable)). going (settled t r o)) (sym (changed-erased H ds (t .store) (u .kept) (u .fit) n y d)))
   exec-erased (sequence r i j) (at-sequence k a b) (at-sequence d c f) s h =
       proceed-same (StateTyped H ds) (typed-stable H ds) (execErased i s) (exec i s) _ _ (exec-erased i a c s h) (exec-keeps (StateTyped H ds) (typed-stable H ds) i a s h) (λ t u. exec-erased j b f t u)
   exec-erased (branch r e i j) (at-branch k a b) (at-branch d c f) s h =
       act-same (StateTyped H ds) (typed-stable H ds) s _ _ h (λ t u. decided-same (StateTyped H ds) (typed-stable H ds) (testErased e (valuesOf (contents (t .store)))) (evalTest e (contents (t .store))) r t _ _ _ _
-      (sym (test-erased H ds (t .store) (u .kept) e d)) (exec-erased i a c t u) (exec-erased j b f t u))
+      (sym (test-erased H ds (t .store) (u .kept) (u .fit) e d)) (exec-erased i a c t u) (exec-erased j b f t u))
   exec-erased (loop r e i) (at-loop k a) (at-loop d c) s h =
       repeat-same (StateTyped H ds) (typed-stable H ds) (suc (s .left)) (λ t. testErased e (valuesOf (contents (t .store)))) (λ t. evalTest e (contents (t .store))) r (λ t. execErased i t) (λ t. exec i t)
-      (λ t u. sym (test-erased H ds (t .store) (u .kept) e d)) (λ t u. exec-erased i a c t u) (λ t u. exec-keeps (StateTyped H ds) (typed-stable H ds) i a t u) s h
+      (λ t u. sym (test-erased H ds (t .store) (u .kept) (u .fit) e d)) (λ t u. exec-erased i a c t u) (λ t u. exec-keeps (StateTyped H ds) (typed-stable H ds) i a t u) s h
   exec-erased (handle r n i) (at-handle k a) (at-handle d c) s h =
       step-same (StateTyped H ds) (typed-stable H ds) s _ _ h (λ t u. handled-same (StateTyped H ds) (typed-stable H ds) (eqb (t .error) n) t _ _ u (λ w v. exec-erased i a c w v))
 
@@ -132,14 +132,14 @@ module _ (H : Entry → Type 0) (ds : List Declaration) where
   readings-erased i (r ∷ rs) (every-more n ns) s h =
       let first = eqb (s .error) no-error in
       ap (readingsErased (suc i) rs) (taken-same first s h i r n)
-      ∙ readings-erased (suc i) rs ns (takenUnless first s i r) (taken-keeps (StateTyped H ds) (typed-stable H ds) first s i r (typed-reading H ds r) h)
+      ∙ readings-erased (suc i) rs ns (takenUnless first s i r) (taken-keeps (StateTyped H ds) (typed-stable H ds) first s i r (typed-reading H ds r n) h)
 
 pub run-erased : {H : Entry → Type 0} (p : Profile) → WellMadeProfile p → TypedProfile H p → (readings : List Reading) → Every (ReadsNumber (p .declarations)) readings → (budget : ℕ)
     → runErased p readings budget ≡ run p readings budget
 unfolding runErased run
 run-erased {H} p made passed readings ns budget =
     ap (execErased (p .program)) (readings-erased H (p .declarations) 0 readings ns (started p budget) (start-typed p made passed budget))
-    ∙ exec-erased H (p .declarations) (p .program) (program-keeps p made passed) (passed .instructions) (takeReadings 0 readings (started p budget)) (readings-typed p made passed readings budget)
+    ∙ exec-erased H (p .declarations) (p .program) (program-keeps p made passed) (passed .instructions) (takeReadings 0 readings (started p budget)) (readings-typed p made passed readings ns budget)
 
 -- a pair of files that no rule refuses and the type check passes
 pub accepted-erased : (prof lims : List ℕ) → lowest (pairRules prof lims) ≡ 0 → (es : List Entry) → checkProfile (profileOf (rowsOf prof) (rowsOf lims)) ≡ ok es

@@ -10,11 +10,11 @@ use native.Mathlib.Omega.{arith}
 use lib.ListN.{set}
 use Rattle.lingua.specs.Errors.{yoke-not-satisfied, boolean-expected, no-coherence, yoke-expected, not-filled}
 use Rattle.lingua.specs.Outcome.{ok, fail, Result, _>>=_, _>>_, require, orFail, if_then_else_, allAnswers}
-use Rattle.lingua.specs.Body.{sameBody, isBoolean}
+use Rattle.lingua.specs.Body.{coherent, isBoolean}
 use Rattle.lingua.specs.Value.{asTruth, asWhole, allOf, Composite}
 use Rattle.lingua.specs.Expression.{settledBy, Expression, constant, variable, current, unary, binary, lazy, choice, all-list, Yoke, always, yoke}
 use Rattle.lingua.specs.Evaluation.{Variables, applyUnary, applyBinary, truthOr, booleanOf, allTrue, elementsOf, eval, evalYoke, evalTest, no-current}
-use Rattle.lingua.specs.Store.{Variable, variableAt, contents, withContent, withYoke, within, admitted, assigned, yokeHolds, yokeChanged}
+use Rattle.lingua.specs.Store.{Variable, variableAt, presentBody, contents, withContent, withYoke, within, admitted, assigned, yokeHolds, yokeChanged}
 use Rattle.lingua.specs.Typing.{joined}
 use Rattle.lingua.specs.Meets.{errorIn, onAnswer, onTrue, unlessMet, binaryMet, firstMet, secondMet, notBoolean, met, yokeMet, yokeChecksMet, assignMet, testMet, onFilled}
 use Rattle.safety.specs.Answers.{same-answer, bound, true-is-false}
@@ -229,32 +229,32 @@ assign-met vs k x n e = first (then-fails (admitted vs v x) _ n e)
     st : Variables
     st = contents vs
 
-    coherent : List ℕ
-    coherent = unlessMet (sameBody (v .body) (x .body)) no-coherence
+    unlike : List ℕ
+    unlike = unlessMet (coherent (presentBody v) (x .body)) no-coherence
 
     limited : List ℕ
-    limited = onTrue (sameBody (v .body) (x .body)) (unlessMet (within (v .limit) (asWhole (x .value))) yoke-not-satisfied)
+    limited = onTrue (coherent (presentBody v) (x .body)) (unlessMet (within (v .limit) (asWhole (x .value))) yoke-not-satisfied)
 
     all : List ℕ
-    all = yokeChecksMet (v .yoke) st x ++ coherent ++ limited
+    all = yokeChecksMet (v .yoke) st x ++ unlike ++ limited
 
     by-yoke : (evalYoke (v .yoke) st x ≡ fail n) ⊎ ((r : Composite) × (evalYoke (v .yoke) st x ≡ ok r) × ((truthOr yoke-expected r ≡ fail n) ⊎ ((truthOr yoke-expected r ≡ ok false) × (yoke-not-satisfied ≡ n)))) → In n all
-    by-yoke h = Memᴰ·append-left limited (Memᴰ·append-left coherent (yoke-checks-met (v .yoke) st x n h))
+    by-yoke h = Memᴰ·append-left limited (Memᴰ·append-left unlike (yoke-checks-met (v .yoke) st x n h))
 
-    last : sameBody (v .body) (x .body) ≡ true → (y : Composite) → evalYoke (v .yoke) st x ≡ ok y → (t : Bool) → truthOr yoke-expected y ≡ ok t → (t && within (v .limit) (asWhole (x .value))) ≡ false → yoke-not-satisfied ≡ n → In n all
-    last s y a true b c d = Memᴰ·append-right (yokeChecksMet (v .yoke) st x ++ coherent) (true-in (sameBody (v .body) (x .body)) _ n s (unless-in (within (v .limit) (asWhole (x .value))) yoke-not-satisfied n c d))
+    last : coherent (presentBody v) (x .body) ≡ true → (y : Composite) → evalYoke (v .yoke) st x ≡ ok y → (t : Bool) → truthOr yoke-expected y ≡ ok t → (t && within (v .limit) (asWhole (x .value))) ≡ false → yoke-not-satisfied ≡ n → In n all
+    last s y a true b c d = Memᴰ·append-right (yokeChecksMet (v .yoke) st x ++ unlike) (true-in (coherent (presentBody v) (x .body)) _ n s (unless-in (within (v .limit) (asWhole (x .value))) yoke-not-satisfied n c d))
     last s y a false b c d = by-yoke (inr (y, a, inr (b, d)))
 
-    third : sameBody (v .body) (x .body) ≡ true → (y : Composite) → evalYoke (v .yoke) st x ≡ ok y → (truthOr yoke-expected y ≡ fail n) ⊎ ((t : Bool) × (truthOr yoke-expected y ≡ ok t) × (require (t && within (v .limit) (asWhole (x .value))) yoke-not-satisfied ≡ fail n)) → In n all
+    third : coherent (presentBody v) (x .body) ≡ true → (y : Composite) → evalYoke (v .yoke) st x ≡ ok y → (truthOr yoke-expected y ≡ fail n) ⊎ ((t : Bool) × (truthOr yoke-expected y ≡ ok t) × (require (t && within (v .limit) (asWhole (x .value))) yoke-not-satisfied ≡ fail n)) → In n all
     third s y a (inl q) = by-yoke (inr (y, a, inl q))
     third s y a (inr p) = let z = require-fails (p .0 && within (v .limit) (asWhole (x .value))) yoke-not-satisfied n (p .2) in last s y a (p .0) (p .1) (z .0) (z .1)
 
-    second : (evalYoke (v .yoke) st x ≡ fail n) ⊎ ((y : Composite) × (evalYoke (v .yoke) st x ≡ ok y) × ((require (sameBody (v .body) (x .body)) no-coherence >> (truthOr yoke-expected y >>= λ t. require (t && within (v .limit) (asWhole (x .value))) yoke-not-satisfied)) ≡ fail n)) → In n all
+    second : (evalYoke (v .yoke) st x ≡ fail n) ⊎ ((y : Composite) × (evalYoke (v .yoke) st x ≡ ok y) × ((require (coherent (presentBody v) (x .body)) no-coherence >> (truthOr yoke-expected y >>= λ t. require (t && within (v .limit) (asWhole (x .value))) yoke-not-satisfied)) ≡ fail n)) → In n all
     second (inl q) = by-yoke (inl q)
-    second (inr p) = body (required-fails (sameBody (v .body) (x .body)) no-coherence _ n (p .2))
+    second (inr p) = body (required-fails (coherent (presentBody v) (x .body)) no-coherence _ n (p .2))
       where
-        body : ((sameBody (v .body) (x .body) ≡ false) × (no-coherence ≡ n)) ⊎ ((sameBody (v .body) (x .body) ≡ true) × ((truthOr yoke-expected (p .0) >>= λ t. require (t && within (v .limit) (asWhole (x .value))) yoke-not-satisfied) ≡ fail n)) → In n all
-        body (inl q) = Memᴰ·append-left limited (Memᴰ·append-right (yokeChecksMet (v .yoke) st x) (unless-in (sameBody (v .body) (x .body)) no-coherence n (q .0) (q .1)))
+        body : ((coherent (presentBody v) (x .body) ≡ false) × (no-coherence ≡ n)) ⊎ ((coherent (presentBody v) (x .body) ≡ true) × ((truthOr yoke-expected (p .0) >>= λ t. require (t && within (v .limit) (asWhole (x .value))) yoke-not-satisfied) ≡ fail n)) → In n all
+        body (inl q) = Memᴰ·append-left limited (Memᴰ·append-right (yokeChecksMet (v .yoke) st x) (unless-in (coherent (presentBody v) (x .body)) no-coherence n (q .0) (q .1)))
         body (inr q) = third (q .0) (p .0) (p .1) (fails (truthOr yoke-expected (p .0)) _ n (q .1))
 
     first : (admitted vs v x ≡ fail n) ⊎ (_≡_ {A = Result (List Variable)} (ok (set vs k (withContent v x))) (fail n)) → In n all

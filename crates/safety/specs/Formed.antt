@@ -1,6 +1,5 @@
 -- The bodies of an accepted profile are well-formed: those of its type rows and declarations (`type-formed`, `declared-formed`), those of
--- whatever its expressions give (`eval-formed`, `tree-eval-formed`), and those that a run's filled variables have (`filled-formed`).
--- Assumes nothing.
+-- whatever its expressions give (`eval-formed`, `tree-eval-formed`). Assumes nothing.
 use mathlib.Core.Path.{_≡_, refl, sym, subst}
 use mathlib.Core.Bool.{Bool, true, false, Bool·beq}
 use mathlib.Core.List.{List, [], _∷_, map}
@@ -18,20 +17,17 @@ use Rattle.lingua.specs.Operation.{make-record, make-list, expand, unaryBody, b
 use Rattle.lingua.specs.Compute.{unaryValue, binaryValue}
 use Rattle.lingua.specs.Expression.{settledBy, Expression, constant, variable, current, unary, binary, lazy, choice, all-list}
 use Rattle.lingua.specs.Evaluation.{Variables, applyUnary, applyBinary, truthOr, booleanOf, allTrue, elementsOf, eval}
-use Rattle.lingua.specs.Run.{Declaration, run, lastState}
-use Rattle.lingua.specs.Store.{Reading, contents}
+use Rattle.lingua.specs.Run.{Declaration}
 use Rattle.lingua.specs.Typing.{bodiesOf}
 use Rattle.lingua.specs.Rows.{kindAt, aAt, rowIn, tableCount, pairCount, detailRow, RowKind, numbered, said, TypeRow, simple-type, list-type, record-type, expand-type, unknown-type, typeKinds, typeAt, typeRow, Constant, boolean-constant, number-constant, word-constant, constantValue, ExpressionRow, constant-row, variable-row, current-row, unary-row, binary-row, lazy-row, choice-row, all-list-row, unknown-expression, expressionRow}
 use Rattle.lingua.specs.Trees.{no-expression, typeBodyOf, typeBodyIn, typeBody, expressionOf, expressionIn, expressionTree, bodyOr, declaredBody, declarationAt, profileOf}
-use Rattle.lingua.specs.Format.{rowsOf}
 use Rattle.lingua.specs.Rules.{unaryAttribute, binaryAttribute, attributesFit, expressionAttributes, typeAttributes}
-use Rattle.lingua.specs.Refusal.{lowest, pairRules}
 use Rattle.laws.specs.Outcomes.{ok-same, orFail-ok}
 use Rattle.laws.specs.Formed.{formed-as, unary-formed, binary-formed}
 use Rattle.safety.specs.Answers.{same-answer, never-ok, bound, demanded}
 use Rattle.safety.specs.Every.{Every, every-none, every-more, every-tabulate}
 use Rattle.safety.specs.Forest.{ConstantHas, lower-has}
-use Rattle.safety.specs.Accepted.{AcceptedRows, accepted-pair, type-attributes, expression-attributes, declared-type, type-body-is, declared-body-is, accepted-invariant}
+use Rattle.safety.specs.Accepted.{AcceptedRows, type-attributes, expression-attributes, declared-type, type-body-is, declared-body-is}
 
 -- ---- types
 -- a row of a simple type
@@ -222,10 +218,3 @@ eval-formed (all-list r e) h vars v cur k x q =
 pub tree-eval-formed : (rows : List ℕ) → AcceptedRows rows → (r : ℕ) → r < tableCount rows expression-section → (vars : Variables) → ContentsFormed vars → (cur : Composite) → WellFormed (cur .body)
     → (x : Composite) → eval (expressionTree rows r) vars cur ≡ ok x → WellFormed (x .body)
 tree-eval-formed rows accepted r l vars v cur k x q = eval-formed (expressionTree rows r) (tree-names rows accepted r l) vars v cur k x q
-
--- ---- runs
-pub filled-formed : (prof lims : List ℕ) → lowest (pairRules prof lims) ≡ 0 → (readings : List Reading) (budget : ℕ)
-    → ContentsFormed (contents (lastState (run (profileOf (rowsOf prof) (rowsOf lims)) readings budget) .store))
-unfolding ContentsFormed
-filled-formed prof lims e readings budget n x q =
-    formed-as (sym (accepted-invariant prof lims e readings budget n x q .declared)) (bodies-formed (rowsOf prof) (accepted-pair prof lims e) (rowsOf lims) n)

@@ -51,12 +51,12 @@ module _ {vars : Bodies} (v : (n : ℕ) → WellFormed (vars n)) where
       (formed-boolean, every-append (checked-formed d h (formed-element (formed-as (is-list cur c q) k)) .1) (every-one (record { current = k; result = formed-boolean })))
 
 -- ---- yokes and instructions
-unfoldable YokeNames : Yoke → Type 0
+unfoldable pub YokeNames : Yoke → Type 0
 YokeNames always = Unit {0}
 YokeNames (yoke e) = NamesFormed e
 
 -- of an instruction's own row
-unfoldable RowNames : Instruction → Type 0
+unfoldable pub RowNames : Instruction → Type 0
 RowNames (skip r) = Unit {0}
 RowNames (assign r n e) = NamesFormed e
 RowNames (set-yoke r n y) = YokeNames y
@@ -123,7 +123,7 @@ module _ (rows : List ℕ) (accepted : AcceptedRows rows) where
   node-names r (handle-row n i) look h = tt
   node-names r unknown-instruction look h = tt
 
-  row-names : (r : ℕ) → r < tableCount rows instruction-section → RowNames (instructionTree rows r)
+  pub row-names : (r : ℕ) → r < tableCount rows instruction-section → RowNames (instructionTree rows r)
   unfolding instructionTree instructionIn
   row-names r l = node-names r (instructionRow rows r) _ (instruction-roots rows accepted r l)
 

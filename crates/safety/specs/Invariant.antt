@@ -1,12 +1,13 @@
--- The invariant of runs: at the end of every run at every budget, each filled variable fits its declared body, satisfies its current
+-- The invariant of runs: at the end of every run at every budget, each filled variable fits its present body, satisfies its current
 -- yoke and lies within its limit (`run-invariant`), whether or not the type check passes the profile. It is asked of the profile that
 -- constants fit and that yokes read no variable. Assumes nothing.
-use mathlib.Core.Path.{_≡_, refl, sym, _∙_, subst}
+use mathlib.Core.Path.{_≡_, refl, sym, ap, _∙_, subst}
 use mathlib.Core.Bool.{true}
 use mathlib.Core.List.{List, [], _∷_, map}
 use mathlib.Core.Option.{Option, some, none}
 use Prim.Native.Nat.{ℕ, zero, suc}
 use Rattle.lingua.specs.Outcome.{ok}
+use Rattle.lingua.specs.Body.{attributesOf}
 use Rattle.lingua.specs.Value.{fit-truth, Fits, asWhole, Composite}
 use Rattle.lingua.specs.Expression.{Instruction, skip, assign, set-yoke, sequence, branch, loop, handle}
 use Rattle.lingua.specs.Evaluation.{Variables, eval, evalYoke, booleanOf, no-current}
@@ -48,6 +49,12 @@ unfolding StoreKept ClosedYoke
 start-kept every-none n = unfilled-kept no-variable refl tt
 start-kept (every-more {x = d} h hs) zero = unfilled-kept (unfilled d) refl h
 start-kept (every-more {x = d} h hs) (suc n) = start-kept hs n
+
+-- nothing is filled
+pub start-empty : (ds : List Declaration) (n : ℕ) → contents (map unfilled ds) n ≡ none
+start-empty [] n = refl
+start-empty (d ∷ ds) zero = refl
+start-empty (d ∷ ds) (suc n) = start-empty ds n
 
 -- ---- the run
 -- a state whose store is kept
@@ -92,10 +99,10 @@ declared-body [] n = refl
 declared-body (d ∷ ds) zero = refl
 declared-body (d ∷ ds) (suc n) = declared-body ds n
 
--- a filled variable of a store: the body is the declared one, and the value fits it; the current yoke gives true on it in every store; the
--- value lies within the limit that was declared
+-- a filled variable of a store: its value fits the present body, which is the declared one unless that is a record; the current yoke gives
+-- true on it in every store; the value lies within the limit that was declared
 pub record FilledWell (p : Profile) (n : ℕ) (v : Variable) (x : Composite) : Type 0 where
-  pub declared : x .body ≡ bodiesOf (p .declarations) n
+  pub unless-record : attributesOf (bodiesOf (p .declarations) n) ≡ none → x .body ≡ bodiesOf (p .declarations) n
   pub fits : Fits (x .value) (x .body)
   pub satisfied : (vars : Variables) → evalYoke (v .yoke) vars x ≡ ok (booleanOf true)
   pub limited : within (variableAt (declaredStore p) n .limit) (asWhole (x .value)) ≡ true
@@ -107,4 +114,4 @@ unfolding StateKept StoreKept
 run-invariant p h readings budget n x e =
     let k = run-kept p h readings budget n in
     let s = k .settled x e in
-    record { declared = s .coherent ∙ k .same-body ∙ declared-body (p .declarations) n; fits = s .fits; satisfied = s .satisfied; limited = subst (λ (l : Option Limit). within l (asWhole (x .value)) ≡ true) (k .same-limit) (s .limited) }
+    record { unless-record = λ r. s .unless-record (ap attributesOf (k .same-body ∙ declared-body (p .declarations) n) ∙ r) ∙ k .same-body ∙ declared-body (p .declarations) n; fits = s .fits; satisfied = s .satisfied; limited = subst (λ (l : Option Limit). within l (asWhole (x .value)) ≡ true) (k .same-limit) (s .limited) }

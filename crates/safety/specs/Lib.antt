@@ -29,6 +29,7 @@ pub mod ErasedSteps
 pub mod ErasedRuns
 pub mod Formed
 pub mod FormedEntries
+pub mod FormedRuns
 pub mod Named
 pub mod Memory
 pub mod Failures

@@ -1,5 +1,5 @@
 -- The type check of an accepted pair of files is sound: where it passes, no run of the pair meets a type error, for readings of number
--- variables and at every budget (`accepted-safe`). So each call that is not refused runs without type errors: `checked-call-safe`,
+-- variables and at every budget (`accepted-safe`). So each call that is not refused runs without type errors: `run-call-safe`,
 -- `erased-call-safe`. Assumes nothing.
 use mathlib.Core.Path.{_≡_, refl, sym, ap, _∙_, subst}
 use mathlib.Core.Bool.{Bool, true, false, not, _&&_}
@@ -23,7 +23,7 @@ use Rattle.lingua.specs.Rows.{tableCount, pairCount}
 use Rattle.lingua.specs.Trees.{tabulateFrom, tabulate, instructionTree, declaredBody, bodyOr, declarationAt, profileOf}
 use Rattle.lingua.specs.Format.{rowsOf}
 use Rattle.lingua.specs.Inputs.{Inputs, Buffers}
-use Rattle.lingua.specs.Refusal.{lowest, pairRules, isNumberBody, isNumberVariable, readingWrong, runFits, runRules, checkedRefusal, erasedRefusal}
+use Rattle.lingua.specs.Refusal.{lowest, pairRules, isNumberBody, isNumberVariable, readingWrong, runFits, runRules, runRefusal, erasedRefusal}
 use Rattle.lingua.specs.Calls.{readingsOf}
 use Rattle.laws.specs.Outcomes.{and-left, and-right, is-number, false-is-true, or-right}
 use Rattle.safety.specs.Answers.{same-answer, bound, all-answered}
@@ -139,29 +139,29 @@ reading-rule rows variables e =
     all-true (λ v. isNumberVariable rows v) variables (not-false _ (or-right (ltb most-readings (length variables)) (not (allOf (λ v. isNumberVariable rows v) variables)) e))
 
 -- a run that is not refused takes readings of number variables
-pub rules-readings : (i : Inputs) (b : Buffers) → checkedRefusal i b ≡ 0
+pub rules-readings : (i : Inputs) (b : Buffers) → runRefusal i b ≡ 0
     → Every (λ r. isNumberVariable (rowsOf (i .profile)) (r .variable) ≡ true) (readingsOf (i .variables) (i .numbers))
-unfolding checkedRefusal
+unfolding runRefusal
 rules-readings i b e = readings-of-numbers (rowsOf (i .profile)) (i .variables) (i .numbers) (reading-rule (rowsOf (i .profile)) (i .variables) (none-refuses i _ e .1))
 
-pub rules-pair : (i : Inputs) (b : Buffers) → checkedRefusal i b ≡ 0 → lowest (pairRules (i .profile) (i .limits)) ≡ 0
-unfolding checkedRefusal
+pub rules-pair : (i : Inputs) (b : Buffers) → runRefusal i b ≡ 0 → lowest (pairRules (i .profile) (i .limits)) ≡ 0
+unfolding runRefusal
 rules-pair i b e = none-refuses i _ e .0
 
-pub checked-call-safe : (i : Inputs) (b : Buffers) → checkedRefusal i b ≡ 0
+pub run-call-safe : (i : Inputs) (b : Buffers) → runRefusal i b ≡ 0
     → (es : List Entry) → checkProfile (profileOf (rowsOf (i .profile)) (rowsOf (i .limits))) ≡ ok es → (budget : ℕ)
     → RunErrors (runMet (profileOf (rowsOf (i .profile)) (rowsOf (i .limits))) (readingsOf (i .variables) (i .numbers)) budget)
-checked-call-safe i b e es passed budget =
+run-call-safe i b e es passed budget =
     accepted-safe (i .profile) (i .limits) (rules-pair i b e) es passed (readingsOf (i .variables) (i .numbers)) (rules-readings i b e) budget
 
 -- an erased run is refused where the type check finds an error
 pub record ErasedAccepted (i : Inputs) (b : Buffers) : Type 0 where
   pub entries : List Entry
   pub passes : checkProfile (profileOf (rowsOf (i .profile)) (rowsOf (i .limits))) ≡ ok entries
-  pub rules : checkedRefusal i b ≡ 0
+  pub rules : runRefusal i b ≡ 0
 
 pub erased-accepted : (i : Inputs) (b : Buffers) (layout : List ℕ) → erasedRefusal i b layout ≡ 0 → ErasedAccepted i b
-unfolding erasedRefusal checkedRefusal
+unfolding erasedRefusal runRefusal
 erased-accepted i b layout e =
     let a = erased-none i (eqb (length layout) layout-length && runFits i b) _ e in
     let c = answered (checkProfile (profileOf (rowsOf (i .profile)) (rowsOf (i .limits)))) (not-false _ (a .1)) in
@@ -180,4 +180,4 @@ pub erased-call-safe : (i : Inputs) (b : Buffers) (layout : List ℕ) → erased
     → (budget : ℕ) → RunErrors (runMet (profileOf (rowsOf (i .profile)) (rowsOf (i .limits))) (readingsOf (i .variables) (i .numbers)) budget)
 erased-call-safe i b layout e budget =
     let a = erased-accepted i b layout e in
-    checked-call-safe i b (a .rules) (a .entries) (a .passes) budget
+    run-call-safe i b (a .rules) (a .entries) (a .passes) budget

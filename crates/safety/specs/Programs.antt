@@ -1,30 +1,30 @@
 -- The type check is sound for whole programs: a well made profile whose yokes and instructions all pass meets no type error in any run,
 -- for readings of number variables and at every budget: `run-safe`. Assumes nothing.
-use mathlib.Core.Path.{_≡_, refl, sym, _∙_, subst}
+use mathlib.Core.Path.{_≡_, refl, sym, ap, _∙_, subst}
 use mathlib.Core.Bool.{true}
 use mathlib.Core.List.{List, map}
 use mathlib.Core.Option.{Option, some, none}
 use Prim.Native.Nat.{ℕ}
 use Rattle.lingua.specs.Errors.{overflow, yoke-not-satisfied, boolean-expected, no-coherence, yoke-expected}
 use Rattle.lingua.specs.Outcome.{ok}
-use Rattle.lingua.specs.Body.{Body, boolean, number, sameBody}
+use Rattle.lingua.specs.Body.{Body, boolean, number, coherent}
 use Rattle.lingua.specs.Value.{whole, fit-truth, fit-whole, inRange, asWhole, Composite, composite}
 use Rattle.lingua.specs.Expression.{Expression, Yoke, always, yoke, Instruction, skip, assign, set-yoke, sequence, branch, loop, handle}
 use Rattle.lingua.specs.Evaluation.{eval, evalYoke, no-current}
-use Rattle.lingua.specs.Store.{Variable, variableAt, contents, withContent, withYoke, within, admitted, assigned, yokeHolds, yokeChanged, Reading, readingTaken}
+use Rattle.lingua.specs.Store.{Variable, variableAt, presentOf, presentBody, contents, withContent, withYoke, within, admitted, assigned, yokeHolds, yokeChanged, Reading, readingTaken}
 use Rattle.lingua.specs.Run.{State, Declaration, Profile, unfilled, started, takeReadings, run, lastState}
 use Rattle.lingua.specs.Typing.{Entry, Bodies, no-current-body, bodiesOf}
 use Rattle.lingua.specs.Meets.{yokeMet, yokeChecksMet, assignMet, testMet, onFilled, readingMet, runMet}
-use Rattle.laws.specs.Outcomes.{same-body, body-same}
+use Rattle.laws.specs.Coherent.{coherent-same}
 use Rattle.laws.specs.Classes.{overflow-runs, yoke-runs}
-use Rattle.safety.specs.Answers.{bound, demanded, after, same-answer}
-use Rattle.safety.specs.Every.{Every, every-none, every-append, every-all, every-implies}
+use Rattle.safety.specs.Answers.{bound, demanded, after, same-answer, none-is-some}
+use Rattle.safety.specs.Every.{Every, every-none, every-append, every-implies}
 use Rattle.safety.specs.Constants.{Fitting, ConstantsFit, ClosedYoke}
-use Rattle.safety.specs.Stored.{StoreKept, replaced}
+use Rattle.safety.specs.Stored.{StoreKept, replaced, assigned-each, changed-each}
 use Rattle.safety.specs.Everywhere.{Everywhere, everywhere-implies, everywhere-both}
 use Rattle.safety.specs.Runs.{Stable, Keeps, KeepsReading, exec-keeps, readings-keep}
-use Rattle.safety.specs.Invariant.{WellMade, WellMadeProfile, declaredStore, StateKept, well-made-keeps, reading-keeps, start-kept, declared-body}
-use Rattle.safety.specs.RunErrors.{RunErrors, gives, answer-met, truth-met, truth-answer-met, unless-met, unless-run-error}
+use Rattle.safety.specs.Invariant.{WellMade, WellMadeProfile, declaredStore, StateKept, well-made-keeps, reading-keeps, start-kept, start-empty, declared-body}
+use Rattle.safety.specs.RunErrors.{RunErrors, gives, good-answer, answer-met, truth-met, truth-answer-met, unless-met, unless-run-error}
 use Rattle.safety.specs.TypeSound.{VariablesFit, Safe, derived-sound}
 use Rattle.safety.specs.Derivation.{Derived, DerivedYoke, DerivedRow}
 use Rattle.safety.specs.Quiet.{Quiet, QuietReading, on-true-met, exec-quiet, readings-quiet}
@@ -40,28 +40,49 @@ pub record TypedProfile (H : Entry → Type 0) (p : Profile) : Type 0 where
   pub instructions : Everywhere (DerivedRow H (bodiesOf (p .declarations))) (p .program)
 
 -- ---- the states of a run
+-- what a run of a passed profile keeps: besides, every filled variable has its declared body
 pub record StateTyped (H : Entry → Type 0) (ds : List Declaration) (s : State) : Type 0 where
   pub kept : StoreKept (map unfilled ds) (s .store)
   pub yokes : YokesDerived H (bodiesOf ds) (s .store)
+  pub fit : VariablesFit (bodiesOf ds) (contents (s .store))
 
 pub typed-stable : (H : Entry → Type 0) (ds : List Declaration) → Stable (StateTyped H ds)
 typed-stable H ds =
-    record { marked = λ s n p h. record { kept = h .kept; yokes = h .yokes }; stepped = λ s n e h. record { kept = h .kept; yokes = h .yokes } }
+    record { marked = λ s n p h. record { kept = h .kept; yokes = h .yokes; fit = h .fit }; stepped = λ s n e h. record { kept = h .kept; yokes = h .yokes; fit = h .fit } }
 
 pub kept-body : (ds : List Declaration) (vs : List Variable) → StoreKept (map unfilled ds) vs → (n : ℕ) → variableAt vs n .body ≡ bodiesOf ds n
 unfolding StoreKept
 kept-body ds vs h n = h n .same-body ∙ declared-body ds n
 
-pub variables-fit : (ds : List Declaration) (vs : List Variable) → StoreKept (map unfilled ds) vs → VariablesFit (bodiesOf ds) (contents vs)
-unfolding VariablesFit StoreKept
-variables-fit ds vs h n x e = let s = h n .settled x e in (s .coherent ∙ kept-body ds vs h n, s .fits)
+-- every variable's present body is the declared one, filled or not
+pub present-declared : (ds : List Declaration) (vs : List Variable) → StoreKept (map unfilled ds) vs → VariablesFit (bodiesOf ds) (contents vs) → (n : ℕ) → presentBody (variableAt vs n) ≡ bodiesOf ds n
+unfolding VariablesFit
+present-declared ds vs h fit n = by (variableAt vs n .content) refl
+  where
+    by : (c : Option Composite) → variableAt vs n .content ≡ c → presentOf (variableAt vs n .body) c ≡ bodiesOf ds n
+    by none e = kept-body ds vs h n
+    by (some x) e = fit n x e .0
+
+-- ---- a store of declared bodies
+pub start-fit : (ds : List Declaration) → VariablesFit (bodiesOf ds) (contents (map unfilled ds))
+unfolding VariablesFit
+start-fit ds n x e = none-is-some (sym (start-empty ds n) ∙ e)
+
+-- a value of the declared body
+pub assigned-fit : (vars : Bodies) (vs : List Variable) → VariablesFit vars (contents vs) → (n : ℕ) (x : Composite) → x .body ≡ vars n → Fitting x → (ws : List Variable) → assigned vs n x ≡ ok ws → VariablesFit vars (contents ws)
+unfolding VariablesFit
+assigned-fit vars vs fit n x b h ws e = assigned-each (λ m z. (z .body ≡ vars m) × Fitting z) vs fit n x (b, h) ws e
+
+pub changed-fit : (vars : Bodies) (vs : List Variable) → VariablesFit vars (contents vs) → (n : ℕ) (y : Yoke) (ws : List Variable) → yokeChanged vs n y ≡ ok ws → VariablesFit vars (contents ws)
+unfolding VariablesFit
+changed-fit vars vs fit n y ws e = changed-each (λ m z. (z .body ≡ vars m) × Fitting z) vs fit n y ws e
 
 -- ---- yokes, tests and assignments
-module _ (H : Entry → Type 0) (ds : List Declaration) (vs : List Variable) (kept : StoreKept (map unfilled ds) vs) where
+module _ (H : Entry → Type 0) (ds : List Declaration) (vs : List Variable) (kept : StoreKept (map unfilled ds) vs) (fit : VariablesFit (bodiesOf ds) (contents vs)) where
   pub yoke-safe : (y : Yoke) → ClosedYoke y → (x : Composite) → Fitting x → DerivedYoke H (bodiesOf ds) y (x .body) → Safe boolean (evalYoke y (contents vs) x) (yokeMet y (contents vs) x)
   unfolding evalYoke yokeMet ClosedYoke DerivedYoke
   yoke-safe always c x h d = record { good = gives refl fit-truth; meets = every-none }
-  yoke-safe (yoke e) c x h d = derived-sound (bodiesOf ds) (contents vs) (variables-fit ds vs kept) e (c .constants) x h d
+  yoke-safe (yoke e) c x h d = derived-sound (bodiesOf ds) (contents vs) fit e (c .constants) x h d
 
   pub yoke-checks-safe : (y : Yoke) → ClosedYoke y → (x : Composite) → Fitting x → DerivedYoke H (bodiesOf ds) y (x .body) → RunErrors (yokeChecksMet y (contents vs) x)
   unfolding yokeChecksMet
@@ -73,7 +94,7 @@ module _ (H : Entry → Type 0) (ds : List Declaration) (vs : List Variable) (ke
   pub test-safe : (e : Expression) → ConstantsFit e → Derived H (bodiesOf ds) e no-current-body boolean → RunErrors (testMet e (contents vs))
   unfolding testMet
   test-safe e c d =
-      let s = derived-sound (bodiesOf ds) (contents vs) (variables-fit ds vs kept) e c no-current fit-truth d in
+      let s = derived-sound (bodiesOf ds) (contents vs) fit e c no-current fit-truth d in
       every-append (s .meets) (answer-met (s .good) (λ x u f. truth-met boolean-expected x u))
 
   -- a value of the declared body
@@ -83,9 +104,9 @@ module _ (H : Entry → Type 0) (ds : List Declaration) (vs : List Variable) (ke
       every-append
       (every-append
       (yoke-checks-safe (variableAt vs n .yoke) (kept n .closed) x h (subst (λ (b : Body). DerivedYoke H (bodiesOf ds) (variableAt vs n .yoke) b) (sym e) (ys n)))
-      (unless-met (sameBody (variableAt vs n .body) (x .body)) no-coherence
-      (subst (λ (b : Body). sameBody (variableAt vs n .body) b ≡ true) (kept-body ds vs kept n ∙ sym e) (body-same (variableAt vs n .body)))))
-      (on-true-met (sameBody (variableAt vs n .body) (x .body)) _ (λ q. unless-run-error (within (variableAt vs n .limit) (asWhole (x .value))) yoke-not-satisfied yoke-runs))
+      (unless-met (coherent (presentBody (variableAt vs n)) (x .body)) no-coherence
+      (coherent-same (presentBody (variableAt vs n)) (x .body) (present-declared ds vs kept fit n ∙ sym e))))
+      (on-true-met (coherent (presentBody (variableAt vs n)) (x .body)) _ (λ q. unless-run-error (within (variableAt vs n .limit) (asWhole (x .value))) yoke-not-satisfied yoke-runs))
 
 -- ---- instructions
 module _ (H : Entry → Type 0) (vars : Bodies) (vs : List Variable) (derived : YokesDerived H vars vs) where
@@ -114,27 +135,28 @@ module _ (H : Entry → Type 0) (ds : List Declaration) where
   derived-keeps (skip r) h = tt
   derived-keeps (assign r n e) h = λ s k ws q.
       let p = bound (eval e (contents (s .store)) no-current) _ ws q in
-      record { kept = well-made-keeps (map unfilled ds) (assign r n e) (h .0) s (k .kept) ws q; yokes = assigned-yokes H (bodiesOf ds) (s .store) (k .yokes) n (p .0) ws (p .2) }
+      let g = good-answer (derived-sound (bodiesOf ds) (contents (s .store)) (k .fit) e (h .0) no-current fit-truth (h .1) .good) (p .0) (p .1) in
+      record { kept = well-made-keeps (map unfilled ds) (assign r n e) (h .0) s (k .kept) ws q; yokes = assigned-yokes H (bodiesOf ds) (s .store) (k .yokes) n (p .0) ws (p .2); fit = assigned-fit (bodiesOf ds) (s .store) (k .fit) n (p .0) (g .0) (g .1) ws (p .2) }
   derived-keeps (set-yoke r n y) h = λ s k ws q.
-      record { kept = well-made-keeps (map unfilled ds) (set-yoke r n y) (h .0) s (k .kept) ws q; yokes = changed-yokes H (bodiesOf ds) (s .store) (k .yokes) n y (h .1) ws q }
+      record { kept = well-made-keeps (map unfilled ds) (set-yoke r n y) (h .0) s (k .kept) ws q; yokes = changed-yokes H (bodiesOf ds) (s .store) (k .yokes) n y (h .1) ws q; fit = changed-fit (bodiesOf ds) (s .store) (k .fit) n y ws q }
   derived-keeps (sequence r i j) h = tt
   derived-keeps (branch r e i j) h = tt
   derived-keeps (loop r e i) h = tt
   derived-keeps (handle r n i) h = tt
 
   pub derived-quiet : (i : Instruction) → WellMade i × DerivedRow H (bodiesOf ds) i → Quiet (StateTyped H ds) i
-  unfolding Quiet WellMade DerivedRow StoreKept
+  unfolding Quiet WellMade DerivedRow StoreKept VariablesFit
   derived-quiet (skip r) h = tt
   derived-quiet (assign r n e) h = λ s k.
-      let c = derived-sound (bodiesOf ds) (contents (s .store)) (variables-fit ds (s .store) (k .kept)) e (h .0) no-current fit-truth (h .1) in
-      every-append (c .meets) (answer-met (c .good) (λ x u f. assign-safe H ds (s .store) (k .kept) (k .yokes) n x f u))
+      let c = derived-sound (bodiesOf ds) (contents (s .store)) (k .fit) e (h .0) no-current fit-truth (h .1) in
+      every-append (c .meets) (answer-met (c .good) (λ x u f. assign-safe H ds (s .store) (k .kept) (k .fit) (k .yokes) n x f u))
   derived-quiet (set-yoke r n y) h = λ s k.
-      filled-met (variableAt (s .store) n .content) _ (λ x e. let v = k .kept n .settled x e in
-      yoke-checks-safe H ds (s .store) (k .kept) y (h .0) x (v .fits)
-      (subst (λ (b : Body). DerivedYoke H (bodiesOf ds) y b) (sym (v .coherent ∙ kept-body ds (s .store) (k .kept) n)) (h .1)))
+      filled-met (variableAt (s .store) n .content) _ (λ x e. let v = k .fit n x e in
+      yoke-checks-safe H ds (s .store) (k .kept) (k .fit) y (h .0) x (v .1)
+      (subst (λ (b : Body). DerivedYoke H (bodiesOf ds) y b) (sym (v .0)) (h .1)))
   derived-quiet (sequence r i j) h = tt
-  derived-quiet (branch r e i j) h = λ s k. test-safe H ds (s .store) (k .kept) e (h .0) (h .1)
-  derived-quiet (loop r e i) h = λ s k. test-safe H ds (s .store) (k .kept) e (h .0) (h .1)
+  derived-quiet (branch r e i j) h = λ s k. test-safe H ds (s .store) (k .kept) (k .fit) e (h .0) (h .1)
+  derived-quiet (loop r e i) h = λ s k. test-safe H ds (s .store) (k .kept) (k .fit) e (h .0) (h .1)
   derived-quiet (handle r n i) h = tt
 
 -- ---- readings of number variables
@@ -142,17 +164,17 @@ unfoldable pub ReadsNumber : List Declaration → Reading → Type 0
 ReadsNumber ds r = bodiesOf ds (r .variable) ≡ number
 
 module _ (H : Entry → Type 0) (ds : List Declaration) (r : Reading) where
-  pub typed-reading : KeepsReading (StateTyped H ds) r
-  unfolding KeepsReading StateKept readingTaken
-  typed-reading s k ws e =
+  pub typed-reading : ReadsNumber ds r → KeepsReading (StateTyped H ds) r
+  unfolding KeepsReading StateKept readingTaken ReadsNumber
+  typed-reading h s k ws e =
       let p = demanded (inRange (r .number)) overflow _ ws e in
-      record { kept = reading-keeps (map unfilled ds) r s (k .kept) ws e; yokes = assigned-yokes H (bodiesOf ds) (s .store) (k .yokes) (r .variable) (composite number (whole (r .number))) ws (p .1) }
+      record { kept = reading-keeps (map unfilled ds) r s (k .kept) ws e; yokes = assigned-yokes H (bodiesOf ds) (s .store) (k .yokes) (r .variable) (composite number (whole (r .number))) ws (p .1); fit = assigned-fit (bodiesOf ds) (s .store) (k .fit) (r .variable) (composite number (whole (r .number))) (sym h) (fit-whole (p .0)) ws (p .1) }
 
   quiet-reading : ReadsNumber ds r → QuietReading (StateTyped H ds) r
   unfolding QuietReading ReadsNumber readingMet
   quiet-reading h s k =
       every-append (unless-run-error (inRange (r .number)) overflow overflow-runs)
-      (on-true-met (inRange (r .number)) _ (λ e. assign-safe H ds (s .store) (k .kept) (k .yokes) (r .variable) (composite number (whole (r .number))) (fit-whole e) (sym h)))
+      (on-true-met (inRange (r .number)) _ (λ e. assign-safe H ds (s .store) (k .kept) (k .fit) (k .yokes) (r .variable) (composite number (whole (r .number))) (fit-whole e) (sym h)))
 
 -- ---- whole runs
 module _ {H : Entry → Type 0} (p : Profile) (made : WellMadeProfile p) (passed : TypedProfile H p) where
@@ -161,26 +183,26 @@ module _ {H : Entry → Type 0} (p : Profile) (made : WellMadeProfile p) (passed
 
   pub start-typed : (budget : ℕ) → StateTyped H (p .declarations) (started p budget)
   unfolding started
-  start-typed budget = record { kept = start-kept (made .yokes); yokes = passed .yokes }
+  start-typed budget = record { kept = start-kept (made .yokes); yokes = passed .yokes; fit = start-fit (p .declarations) }
 
-  pub readings-typed : (readings : List Reading) (budget : ℕ) → StateTyped H (p .declarations) (takeReadings 0 readings (started p budget))
-  readings-typed readings budget =
-      readings-keep (StateTyped H (p .declarations)) (typed-stable H (p .declarations)) 0 readings (every-all (typed-reading H (p .declarations)) readings) (started p budget) (start-typed budget)
+  pub readings-typed : (readings : List Reading) → Every (ReadsNumber (p .declarations)) readings → (budget : ℕ) → StateTyped H (p .declarations) (takeReadings 0 readings (started p budget))
+  readings-typed readings ns budget =
+      readings-keep (StateTyped H (p .declarations)) (typed-stable H (p .declarations)) 0 readings (every-implies (typed-reading H (p .declarations)) ns) (started p budget) (start-typed budget)
 
   -- every instruction of the program keeps what is known of the states
   pub program-keeps : Everywhere (Keeps (StateTyped H (p .declarations))) (p .program)
   program-keeps = everywhere-implies (derived-keeps H (p .declarations)) both
 
-  pub run-typed : (readings : List Reading) (budget : ℕ) → StateTyped H (p .declarations) (lastState (run p readings budget))
+  pub run-typed : (readings : List Reading) → Every (ReadsNumber (p .declarations)) readings → (budget : ℕ) → StateTyped H (p .declarations) (lastState (run p readings budget))
   unfolding run
-  run-typed readings budget =
-      exec-keeps (StateTyped H (p .declarations)) (typed-stable H (p .declarations)) (p .program) program-keeps (takeReadings 0 readings (started p budget)) (readings-typed readings budget)
+  run-typed readings ns budget =
+      exec-keeps (StateTyped H (p .declarations)) (typed-stable H (p .declarations)) (p .program) program-keeps (takeReadings 0 readings (started p budget)) (readings-typed readings ns budget)
 
   pub run-safe : (readings : List Reading) → Every (ReadsNumber (p .declarations)) readings → (budget : ℕ) → RunErrors (runMet p readings budget)
   unfolding runMet
   run-safe readings ns budget =
       let ds = p .declarations in
       every-append
-      (readings-quiet (StateTyped H ds) (typed-stable H ds) 0 readings (every-all (typed-reading H ds) readings) (every-implies (quiet-reading H ds) ns) (started p budget) (start-typed budget))
+      (readings-quiet (StateTyped H ds) (typed-stable H ds) 0 readings (every-implies (typed-reading H ds) ns) (every-implies (quiet-reading H ds) ns) (started p budget) (start-typed budget))
       (exec-quiet (StateTyped H ds) (typed-stable H ds) (p .program) program-keeps (everywhere-implies (derived-quiet H ds) both)
-      (takeReadings 0 readings (started p budget)) (readings-typed readings budget))
+      (takeReadings 0 readings (started p budget)) (readings-typed readings ns budget))

@@ -15,7 +15,7 @@ use Rattle.lingua.specs.Errors.{isRunError, overflow, division-by-zero, list-fu
 use Rattle.lingua.specs.Outcome.{ok, fail, Result, _>>=_, _>>_, require, orFail, if_then_else_}
 use Rattle.lingua.specs.Body.{Body, boolean, number, record-of, Attributes, end, attribute, size, nodes, depth, countAttributes, width, tooLarge, isBoolean, isNumber, isWord, isSimple, sameBody, elementBody, attributesOf, attributeBody, insertAttribute}
 use Rattle.lingua.specs.Value.{Value, Fits, Values, no-items, item, countValues, inRange, asTruth, asWhole, asText, asItems, Composite, composite}
-use Rattle.lingua.specs.Operation.{Unary, negation, make-record, select, make-list, top, pop, Binary, add, subtract, multiply, divide, less, equal, glue, expand, change, push, bounded, present, unaryBody, numbersTo, binaryBody}
+use Rattle.lingua.specs.Operation.{Unary, negation, make-record, select, make-list, top, pop, remove, Binary, add, subtract, multiply, divide, less, equal, glue, expand, change, push, bounded, present, unaryBody, numbersTo, binaryBody}
 use Rattle.lingua.specs.Compute.{ranged, sameNumber, divided, glued, pushed, topOf, popOf, unaryValue, binaryValue}
 use Rattle.lingua.specs.Evaluation.{applyUnary, applyBinary, truthOr}
 use Rattle.lingua.specs.Meets.{errorIn, onAnswer, unlessMet, expandMet, changeMet, pushMet, firstMet, divisorMet, secondMet, binaryMet}
@@ -47,6 +47,11 @@ good-as {r = r} e h = subst (λ (d : Body). Good d r) e h
 pub good-then : {b c : Body} {r : Result Composite} {f : Composite → Result Composite} → Good b r → ((x : Composite) → x .body ≡ b → Fitting x → Good c (f x)) → Good c (r >>= f)
 good-then (gives {x} e h) k = k x e h
 good-then (stops l) k = stops l
+
+-- an answer has the body, and fits it
+pub good-answer : {b : Body} {r : Result Composite} → Good b r → (x : Composite) → r ≡ ok x → (x .body ≡ b) × Fitting x
+good-answer {b} (gives e h) x q = subst (λ (z : Composite). (z .body ≡ b) × Fitting z) (same-answer q) (e, h)
+good-answer (stops l) x q = never-ok q
 
 pub answer-met : {b : Body} {r : Result Composite} {f : Composite → List ℕ} → Good b r → ((x : Composite) → x .body ≡ b → Fitting x → RunErrors (f x)) → RunErrors (onAnswer r f)
 answer-met (gives {x} e h) k = k x e h
@@ -107,6 +112,7 @@ unary-only (select n) x = tt
 unary-only make-list x = tt
 unary-only top x = top-only (asItems x)
 unary-only pop x = pop-only (asItems x)
+unary-only (remove n) x = tt
 
 ranged-only : (z : ℤ) → RunErrorOnly (ranged z)
 unfolding ranged

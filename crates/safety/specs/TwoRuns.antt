@@ -1,6 +1,7 @@
 -- Demand 3 of document 01 about what two calls gave, the checked run's and the erased run's, each with its own lent memory: one claim
 -- (`TwoRuns`) over all passed pairs of files, all readings and all budgets. The calls' contracts give it, and nothing else is asked of them:
--- `two-runs`, and `demand-3` with what it supposes on the claim's side. Assumes nothing.
+-- `two-runs`, and `demand-3` with what it supposes on the claim's side. Of the checked run alone the invariant holds for every accepted
+-- pair: `checked-holds`. Assumes nothing.
 use mathlib.Core.Path.{_≡_, refl, sym, ap, ap₂, _∙_, subst}
 use mathlib.Core.Bool.{Bool, not, _&&_}
 use mathlib.Core.List.{List, [], _∷_, _++_}
@@ -10,26 +11,26 @@ use lib.Dec.{eqb}
 use lib.ListN.{length}
 use lib.IntN.{ℤ}
 use borrow.Author.Tests.{eq-eqb}
-use Rattle.lingua.specs.Numbers.{cells-length, states-length, layout-length}
+use Rattle.lingua.specs.Numbers.{cells-length, states-length, variable-bodies-length, layout-length}
 use Rattle.lingua.specs.Errors.{bad-buffer, type-error-found}
 use Rattle.lingua.specs.Outcome.{Outcome, ok, isOk}
-use Rattle.lingua.specs.Store.{flagAt}
+use Rattle.lingua.specs.Store.{bodiesIn, flagAt}
 use Rattle.lingua.specs.Run.{lastState}
 use Rattle.lingua.specs.Typing.{TypeError, Entry, checkProfile, layoutOf}
 use Rattle.lingua.specs.Meets.{runMet}
 use Rattle.lingua.specs.Trees.{profileOf}
 use Rattle.lingua.specs.Format.{rowsOf}
 use Rattle.lingua.specs.Inputs.{Inputs, Buffers}
-use Rattle.lingua.specs.Refusal.{rule, lowest, pairRules, typeCheckRefusal, runFits, runRules, checkedRefusal, erasedRefusal}
+use Rattle.lingua.specs.Refusal.{rule, lowest, pairRules, typeCheckRefusal, runFits, runRules, runRefusal, checkedRefusal, erasedRefusal}
 use Rattle.lingua.specs.Answers.{refused}
-use Rattle.lingua.specs.Calls.{RunCall, ErasedCall, readingsOf, ran, runOf, runUnless, checkedCall, withLayout, erasedUnless, erasedCall, typeCheckVerdict, typeCheckUnless, typeCheckCall, runResult, erasedResult}
-use Rattle.lingua.specs.declared.RunAnswer.{RunAnswer}
+use Rattle.lingua.specs.Calls.{CheckedCall, ErasedCall, readingsOf, ran, runOf, withBodies, checkedUnless, checkedCall, withLayout, erasedUnless, erasedCall, typeCheckVerdict, typeCheckUnless, typeCheckCall}
 use Rattle.laws.specs.Refusals.{lowest-skip}
 use Rattle.safety.specs.RunErrors.{RunErrors}
-use Rattle.safety.specs.RunRules.{passed-refuse}
+use Rattle.safety.specs.RunRules.{none-refuses, passed-refuse}
 use Rattle.safety.specs.Passed.{accepted-safe, rules-readings}
 use Rattle.safety.specs.Recorded.{NoTypeError, accepted-error}
-use Rattle.safety.specs.Memory.{HoldsValue, accepted-memory}
+use Rattle.safety.specs.Invariant.{declaredStore}
+use Rattle.safety.specs.Memory.{HoldsValue, PresentHold, accepted-memory, passed-memory, passed-bodies}
 
 -- ---- what the claim supposes
 -- a pair of files passes: no rule refuses it, and the type check finds no error
@@ -39,9 +40,10 @@ pub record Passes (prof lims : List ℕ) : Type 0 where
   pub checked : checkProfile (profileOf (rowsOf prof) (rowsOf lims)) ≡ ok entries
 
 -- the buffers of both calls have the listed lengths; primed is the erased run's
-pub record ListedLengths (b b′ : Buffers) (layout : List ℕ) : Type 0 where
+pub record ListedLengths (b : Buffers) (bodies : List ℕ) (b′ : Buffers) (layout : List ℕ) : Type 0 where
   pub cells-are : length (b .cells) ≡ cells-length
   pub states-are : length (b .states) ≡ states-length
+  pub bodies-are : length bodies ≡ variable-bodies-length
   pub cells′-are : length (b′ .cells) ≡ cells-length
   pub states′-are : length (b′ .states) ≡ states-length
   pub layout-is : length layout ≡ layout-length
@@ -51,18 +53,18 @@ pub record ListedLengths (b b′ : Buffers) (layout : List ℕ) : Type 0 where
 pub record FilledHold (i : Inputs) (cells : List ℤ) (states : List ℕ) : Type 0 where
   pub holds : (n : ℕ) → n < length (profileOf (rowsOf (i .profile)) (rowsOf (i .limits)) .declarations) → flagAt states n ≡ 1 → HoldsValue (rowsOf (i .profile)) (rowsOf (i .limits)) cells states n
 
-module _ (i : Inputs) (budget : ℕ) (b : Buffers) (c : RunCall) (b′ : Buffers) (layout : List ℕ) (d : ErasedCall) where
+module _ (i : Inputs) (budget : ℕ) (b : Buffers) (bodies : List ℕ) (c : CheckedCall) (b′ : Buffers) (layout : List ℕ) (d : ErasedCall) where
   -- one number refuses both, and each leaves its own memory as it was
   pub record BothRefused : Type 0 where
     pub number : ℕ
-    pub refuses : checkedRefusal i b ≡ number
+    pub refuses : checkedRefusal i b bodies ≡ number
     pub some : 0 < number
-    pub checked : c ≡ record { answer = refused number; cells = b .cells; states = b .states }
+    pub checked : c ≡ record { answer = refused number; cells = b .cells; states = b .states; bodies = bodies }
     pub erased : d ≡ record { answer = refused number; cells = b′ .cells; states = b′ .states; layout = layout }
 
   -- neither is refused
   pub record BothRan : Type 0 where
-    pub refuses-none : checkedRefusal i b ≡ 0
+    pub refuses-none : checkedRefusal i b bodies ≡ 0
     -- alike in end, error, place and steps, in all cells and in all state words
     pub same-answer : d .answer ≡ c .answer
     pub same-cells : d .cells ≡ c .cells
@@ -70,9 +72,11 @@ module _ (i : Inputs) (budget : ℕ) (b : Buffers) (c : RunCall) (b′ : Buffers
     -- each is the definition's run, whatever its memory held, and the erased run leaves the type check's layout table
     pub entries : List Entry
     pub passed : checkProfile (profileOf (rowsOf (i .profile)) (rowsOf (i .limits))) ≡ ok entries
-    pub checked : c ≡ ran budget (runOf i budget)
+    pub checked : c ≡ withBodies (ran budget (runOf i budget)) (bodiesIn (lastState (runOf i budget) .store))
     pub erased : d ≡ withLayout (ran budget (runOf i budget)) (layoutOf entries)
     pub layout-as-checked : d .layout ≡ typeCheckCall (i .profile) (i .limits) layout .layout
+    -- no variable has another body than the declared one
+    pub declared-bodies : c .bodies ≡ bodiesIn (declaredStore (profileOf (rowsOf (i .profile)) (rowsOf (i .limits))))
     -- no type error is met, and none recorded
     pub meets : RunErrors (runMet (profileOf (rowsOf (i .profile)) (rowsOf (i .limits))) (readingsOf (i .variables) (i .numbers)) budget)
     pub recorded : NoTypeError (lastState (runOf i budget) .error)
@@ -87,20 +91,25 @@ module _ (i : Inputs) (budget : ℕ) (b : Buffers) (c : RunCall) (b′ : Buffers
 
   -- the claim with what it supposes: a promise for any two calls of the code
   pub record Demand3 : Type 0 where
-    pub claim : Passes (i .profile) (i .limits) → ListedLengths b b′ layout → TwoRuns
+    pub claim : Passes (i .profile) (i .limits) → ListedLengths b bodies b′ layout → TwoRuns
 
 -- ---- one number refuses both
+-- rule 1 does not apply to present bodies of the listed length
+pub checked-shares : (i : Inputs) (b : Buffers) (bodies : List ℕ) → length bodies ≡ variable-bodies-length → checkedRefusal i b bodies ≡ runRefusal i b
+unfolding checkedRefusal runRefusal
+checked-shares i b bodies l = ap (λ (t : Bool). lowest (runRules (t && runFits i b) i)) (eq-eqb (length bodies) variable-bodies-length l)
+
 -- rule 17 does not apply to a pair that passes, nor rule 1 to a layout table of the listed length
-pub same-refusal : (i : Inputs) (b : Buffers) (layout : List ℕ) → length layout ≡ layout-length
-    → (es : List Entry) → checkProfile (profileOf (rowsOf (i .profile)) (rowsOf (i .limits))) ≡ ok es → erasedRefusal i b layout ≡ checkedRefusal i b
-unfolding erasedRefusal checkedRefusal
-same-refusal i b layout l es e =
+pub erased-shares : (i : Inputs) (b : Buffers) (layout : List ℕ) → length layout ≡ layout-length
+    → (es : List Entry) → checkProfile (profileOf (rowsOf (i .profile)) (rowsOf (i .limits))) ≡ ok es → erasedRefusal i b layout ≡ runRefusal i b
+unfolding erasedRefusal runRefusal
+erased-shares i b layout l es e =
     ap (λ (t : Bool). lowest (runRules (t && runFits i b) i ++ (rule type-error-found (not (isOk (checkProfile (profileOf (rowsOf (i .profile)) (rowsOf (i .limits)))))) ∷ []))) (eq-eqb (length layout) layout-length l)
     ∙ passed-refuse i (runFits i b) _ (ap (λ (o : Outcome TypeError (List Entry)). not (isOk o)) e)
 
 -- of the cells and the state words the rules see the lengths alone
-same-lengths : (i : Inputs) (b b′ : Buffers) → length (b .cells) ≡ length (b′ .cells) → length (b .states) ≡ length (b′ .states) → checkedRefusal i b ≡ checkedRefusal i b′
-unfolding checkedRefusal runFits
+same-lengths : (i : Inputs) (b b′ : Buffers) → length (b .cells) ≡ length (b′ .cells) → length (b .states) ≡ length (b′ .states) → runRefusal i b ≡ runRefusal i b′
+unfolding runRefusal runFits
 same-lengths i b b′ c s =
     ap₂ (λ (n m : ℕ). lowest (runRules (eqb (length (i .variables)) (length (i .numbers)) && eqb n cells-length && eqb m states-length) i)) c s
 
@@ -113,12 +122,13 @@ passed-layout prof lims layout p l =
     ∙ ap (λ (o : Outcome TypeError (List Entry)). typeCheckVerdict o .layout) (p .checked)
 
 -- ---- the claim about the definitions' calls
-module _ (i : Inputs) (budget : ℕ) (b b′ : Buffers) (layout : List ℕ) (p : Passes (i .profile) (i .limits)) (listed : ListedLengths b b′ layout) where
-  ran-both : checkedRefusal i b ≡ 0 → BothRan i budget b (ran budget (runOf i budget)) b′ layout (erasedUnless 0 i budget b′ layout)
-  unfolding ran runOf erasedUnless
+module _ (i : Inputs) (budget : ℕ) (b : Buffers) (bodies : List ℕ) (b′ : Buffers) (layout : List ℕ) (p : Passes (i .profile) (i .limits)) (listed : ListedLengths b bodies b′ layout) where
+  ran-both : checkedRefusal i b bodies ≡ 0 → BothRan i budget b bodies (checkedUnless 0 i budget b bodies) b′ layout (erasedUnless 0 i budget b′ layout)
+  unfolding ran runOf checkedUnless erasedUnless
   ran-both z =
       let readings = readingsOf (i .variables) (i .numbers) in
-      let numeric = rules-readings i b z in
+      let numeric = rules-readings i b (sym (checked-shares i b bodies (listed .bodies-are)) ∙ z) in
+      let holds = passed-memory (i .profile) (i .limits) (p .accepted) (p .entries) (p .checked) readings numeric budget in
       record {
         refuses-none = z;
         same-answer = refl;
@@ -129,39 +139,52 @@ module _ (i : Inputs) (budget : ℕ) (b b′ : Buffers) (layout : List ℕ) (p :
         checked = refl;
         erased = ap (withLayout (ran budget (runOf i budget))) (passed-layout (i .profile) (i .limits) layout p (listed .layout-is));
         layout-as-checked = refl;
+        declared-bodies = passed-bodies (i .profile) (i .limits) (p .accepted) (p .entries) (p .checked) readings numeric budget;
         meets = accepted-safe (i .profile) (i .limits) (p .accepted) (p .entries) (p .checked) readings numeric budget;
         recorded = accepted-error (i .profile) (i .limits) (p .accepted) (p .entries) (p .checked) readings numeric budget;
-        checked-filled = record { holds = λ n l q. accepted-memory (i .profile) (i .limits) (p .accepted) readings budget n l q };
-        erased-filled = record { holds = λ n l q. accepted-memory (i .profile) (i .limits) (p .accepted) readings budget n l q };
+        checked-filled = record { holds = holds };
+        erased-filled = record { holds = holds };
       }
 
-  by-number : (k : ℕ) → checkedRefusal i b ≡ k → TwoRuns i budget b (runUnless k i budget b) b′ layout (erasedUnless k i budget b′ layout)
-  unfolding runUnless erasedUnless
+  by-number : (k : ℕ) → checkedRefusal i b bodies ≡ k → TwoRuns i budget b bodies (checkedUnless k i budget b bodies) b′ layout (erasedUnless k i budget b′ layout)
+  unfolding checkedUnless erasedUnless
   by-number zero z = both-ran (ran-both z)
   by-number (suc k) z = both-refused (record { number = suc k; refuses = z; some = omega arith; checked = refl; erased = refl })
 
-  calls-agree : TwoRuns i budget b (checkedCall i budget b) b′ layout (erasedCall i budget b′ layout)
+  calls-agree : TwoRuns i budget b bodies (checkedCall i budget b bodies) b′ layout (erasedCall i budget b′ layout)
   unfolding checkedCall erasedCall
   calls-agree =
-      let k : ℕ = checkedRefusal i b in
+      let k : ℕ = checkedRefusal i b bodies in
       let same : k ≡ erasedRefusal i b′ layout =
-      same-lengths i b b′ (listed .cells-are ∙ sym (listed .cells′-are)) (listed .states-are ∙ sym (listed .states′-are))
-      ∙ sym (same-refusal i b′ layout (listed .layout-is) (p .entries) (p .checked)) in
-      subst (λ (j : ℕ). TwoRuns i budget b (runUnless k i budget b) b′ layout (erasedUnless j i budget b′ layout)) same (by-number k refl)
+      checked-shares i b bodies (listed .bodies-are)
+      ∙ same-lengths i b b′ (listed .cells-are ∙ sym (listed .cells′-are)) (listed .states-are ∙ sym (listed .states′-are))
+      ∙ sym (erased-shares i b′ layout (listed .layout-is) (p .entries) (p .checked)) in
+      subst (λ (j : ℕ). TwoRuns i budget b bodies (checkedUnless k i budget b bodies) b′ layout (erasedUnless j i budget b′ layout)) same (by-number k refl)
 
 -- ---- the claim about two calls of the code, by their contracts
-module _ (i : Inputs) (budget : ℕ) (b b′ : Buffers) (layout : List ℕ)
-    (r r′ : RunAnswer) (after : List ℤ) (states-after : List ℕ) (after′ : List ℤ) (states-after′ layout-after : List ℕ) where
-  pub two-runs : runResult r after states-after ≡ checkedCall i budget b
-      → erasedResult r′ after′ states-after′ layout-after ≡ erasedCall i budget b′ layout
-      → Passes (i .profile) (i .limits) → ListedLengths b b′ layout
-      → TwoRuns i budget b (runResult r after states-after) b′ layout (erasedResult r′ after′ states-after′ layout-after)
+module _ (i : Inputs) (budget : ℕ) (b : Buffers) (bodies : List ℕ) (b′ : Buffers) (layout : List ℕ) (c : CheckedCall) (d : ErasedCall) where
+  pub two-runs : c ≡ checkedCall i budget b bodies → d ≡ erasedCall i budget b′ layout → Passes (i .profile) (i .limits) → ListedLengths b bodies b′ layout
+      → TwoRuns i budget b bodies c b′ layout d
   two-runs e e′ p listed =
-      subst (λ (c : RunCall). TwoRuns i budget b c b′ layout (erasedResult r′ after′ states-after′ layout-after)) (sym e)
-      (subst (λ (d : ErasedCall). TwoRuns i budget b (checkedCall i budget b) b′ layout d) (sym e′)
-      (calls-agree i budget b b′ layout p listed))
+      subst (λ (z : CheckedCall). TwoRuns i budget b bodies z b′ layout d) (sym e)
+      (subst (λ (z : ErasedCall). TwoRuns i budget b bodies (checkedCall i budget b bodies) b′ layout z) (sym e′)
+      (calls-agree i budget b bodies b′ layout p listed))
 
-  pub demand-3 : runResult r after states-after ≡ checkedCall i budget b
-      → erasedResult r′ after′ states-after′ layout-after ≡ erasedCall i budget b′ layout
-      → Demand3 i budget b (runResult r after states-after) b′ layout (erasedResult r′ after′ states-after′ layout-after)
+  pub demand-3 : c ≡ checkedCall i budget b bodies → d ≡ erasedCall i budget b′ layout → Demand3 i budget b bodies c b′ layout d
   demand-3 e e′ = record { claim = two-runs e e′ }
+
+-- ---- the invariant about one call of the checked run, by its contract: every accepted pair, whether or not it passes
+-- what is said of each declared variable, where the call is not refused
+pub record CheckedHolds (i : Inputs) (b : Buffers) (bodies : List ℕ) (c : CheckedCall) : Type 0 where
+  pub holds : checkedRefusal i b bodies ≡ 0 → PresentHold (rowsOf (i .profile)) (rowsOf (i .limits)) (c .cells) (c .states) (c .bodies)
+
+pub checked-holds : (i : Inputs) (budget : ℕ) (b : Buffers) (bodies : List ℕ) (c : CheckedCall) → c ≡ checkedCall i budget b bodies → CheckedHolds i b bodies c
+unfolding checkedCall checkedUnless ran runOf checkedRefusal
+checked-holds i budget b bodies c e =
+    record {
+      holds = λ z.
+          let accepted = none-refuses i _ z .0 in
+          let whole = e ∙ ap (λ (k : ℕ). checkedUnless k i budget b bodies) z in
+          subst (λ (d : CheckedCall). PresentHold (rowsOf (i .profile)) (rowsOf (i .limits)) (d .cells) (d .states) (d .bodies)) (sym whole)
+          (accepted-memory (i .profile) (i .limits) accepted (readingsOf (i .variables) (i .numbers)) budget);
+    }

@@ -1,5 +1,6 @@
 -- A pair of files that passes and that both runs carry out, computed: no clause of the claim about two runs (TwoRuns) is empty. A variable is
--- filled under a yoke of its own and under a limit, an error is met, and a handler clears it. Assumes nothing.
+-- filled under a yoke of its own and under a limit, an error is met, and a handler clears it. And a pair that does not pass, whose checked run
+-- leaves a variable with another body than the declared one. Assumes nothing.
 use mathlib.Core.Path.{_≡_, refl, sym, ap}
 use mathlib.Core.List.{List, [], _∷_, _++_}
 use mathlib.Core.Option.{some}
@@ -7,8 +8,8 @@ use Prim.Native.Nat.{ℕ}
 use native.Mathlib.Omega.{arith}
 use lib.ListN.{length, replicate, length-replicate}
 use lib.IntN.{ℤ, pos}
-use Rattle.lingua.specs.Numbers.{cells-length, states-length, layout-length, declaration-section}
-use Rattle.lingua.specs.Errors.{yoke-not-satisfied}
+use Rattle.lingua.specs.Numbers.{cells-length, states-length, variable-bodies-length, layout-length, declaration-section}
+use Rattle.lingua.specs.Errors.{yoke-not-satisfied, no-coherence}
 use Rattle.lingua.specs.Outcome.{Outcome, ok, fail}
 use Rattle.lingua.specs.Body.{number}
 use Rattle.lingua.specs.Value.{whole, composite}
@@ -18,15 +19,16 @@ use Rattle.lingua.specs.Store.{flagAt}
 use Rattle.lingua.specs.Typing.{TypeError, Entry, checkProfile}
 use Rattle.lingua.specs.Meets.{runMet}
 use Rattle.lingua.specs.Trees.{yokeTree, limitOf, nameAt, profileOf}
-use Rattle.lingua.specs.Format.{profile, rowsOf, fileOf}
-use Rattle.lingua.specs.Answers.{answered, ending, runMeaning}
+use Rattle.lingua.specs.Format.{profile, limits, rowsOf, fileOf}
+use Rattle.lingua.specs.Refusal.{checkedRefusal}
+use Rattle.lingua.specs.Answers.{answered, ending, faulted, runMeaning}
 use Rattle.lingua.specs.Inputs.{Inputs, inputs, Buffers, buffers}
-use Rattle.lingua.specs.Calls.{RunCall, readingsOf, checkedCall, erasedCall, runResult, erasedResult}
+use Rattle.lingua.specs.Calls.{CheckedCall, readingsOf, typeCheckCall, checkedCall, erasedCall, checkedResult, erasedResult}
 use Rattle.lingua.specs.Examples.{row, example-limits, example-limits-file}
 use Rattle.lingua.specs.Computing.{computing}
 use Rattle.lingua.specs.declared.RunAnswer.the-variants as run-answer
-use Rattle.safety.specs.Memory.{HoldsValue}
-use Rattle.safety.specs.TwoRuns.{Passes, TwoRuns, both-refused, both-ran, two-runs}
+use Rattle.safety.specs.Memory.{HoldsValue, HoldsPresent}
+use Rattle.safety.specs.TwoRuns.{Passes, TwoRuns, both-refused, both-ran, two-runs, checked-holds}
 
 -- ---- the files
 -- SPEED, a number with the own yoke value < 300, and TURN; SPEED := 120; SPEED := 700; on error 3 do skip
@@ -72,6 +74,10 @@ speed-cells = pos 120 ∷ replicate 1023 (pos 0)
 abbrev pub speed-states : List ℕ
 speed-states = 1 ∷ 3 ∷ replicate 30 0
 
+-- both have their declared body, a number, in 96 bytes each
+abbrev pub speed-bodies : List ℕ
+speed-bodies = (2 ∷ replicate 95 0) ++ (2 ∷ replicate 1439 0)
+
 -- each row's result takes one cell
 abbrev pub witness-layout : List ℕ
 witness-layout = 1 ∷ 0 ∷ 1 ∷ 0 ∷ 1 ∷ 0 ∷ 1 ∷ 0 ∷ 1 ∷ 0 ∷ replicate 1014 0
@@ -86,8 +92,11 @@ fives = buffers (replicate cells-length (pos 5)) (replicate states-length 5)
 abbrev pub sixes : Buffers
 sixes = buffers (replicate cells-length (pos 6)) (replicate states-length 6)
 
-pub checked-gives : checkedCall witness-inputs 9 fives
-    ≡ record { answer = answered (ending 0 0 0 4); cells = speed-cells; states = speed-states }
+abbrev pub sevens : List ℕ
+sevens = replicate variable-bodies-length 7
+
+pub checked-gives : checkedCall witness-inputs 9 fives sevens
+    ≡ record { answer = answered (ending 0 0 0 4); cells = speed-cells; states = speed-states; bodies = speed-bodies }
 unfolding computing witness-file witness-rows example-limits-file example-limits
 checked-gives = refl
 
@@ -113,25 +122,87 @@ speed-limit = refl
 -- ---- so the claim holds of calls of the code that give this, and says of SPEED what it says of a filled variable
 unfoldable pub WitnessRuns : Type 0
 WitnessRuns =
-    TwoRuns witness-inputs 9 fives (runResult (run-answer.Finished 4) speed-cells speed-states)
+    TwoRuns witness-inputs 9 fives sevens (checkedResult (run-answer.Finished 4) speed-cells speed-states speed-bodies)
     sixes (replicate layout-length 8) (erasedResult (run-answer.Finished 4) speed-cells speed-states witness-layout)
 
 pub witness-two-runs : WitnessRuns
 unfolding WitnessRuns
 witness-two-runs =
-    two-runs witness-inputs 9 fives sixes (replicate layout-length 8)
-    (run-answer.Finished 4) (run-answer.Finished 4) speed-cells speed-states speed-cells speed-states witness-layout
-    (unfold runResult runMeaning in sym checked-gives) (unfold erasedResult runMeaning in sym erased-gives) witness-passes
-    (record { cells-are = length-replicate cells-length (pos 5); states-are = length-replicate {A = ℕ} states-length 5; cells′-are = length-replicate cells-length (pos 6); states′-are = length-replicate {A = ℕ} states-length 6; layout-is = length-replicate {A = ℕ} layout-length 8 })
+    two-runs witness-inputs 9 fives sevens sixes (replicate layout-length 8)
+    (checkedResult (run-answer.Finished 4) speed-cells speed-states speed-bodies) (erasedResult (run-answer.Finished 4) speed-cells speed-states witness-layout)
+    (unfold checkedResult runMeaning in sym checked-gives) (unfold erasedResult runMeaning in sym erased-gives) witness-passes
+    (record { cells-are = length-replicate cells-length (pos 5); states-are = length-replicate {A = ℕ} states-length 5; bodies-are = length-replicate {A = ℕ} variable-bodies-length 7; cells′-are = length-replicate cells-length (pos 6); states′-are = length-replicate {A = ℕ} states-length 6; layout-is = length-replicate {A = ℕ} layout-length 8 })
 
 two-variables : length (profileOf (rowsOf witness-file) (rowsOf example-limits-file) .declarations) ≡ 2
 unfolding computing witness-file witness-rows example-limits-file example-limits
 two-variables = refl
 
 pub speed-holds : HoldsValue (rowsOf witness-file) (rowsOf example-limits-file) speed-cells speed-states 0
-unfolding WitnessRuns runResult runMeaning flagAt
+unfolding WitnessRuns checkedResult runMeaning flagAt
 speed-holds = by witness-two-runs
   where
     by : WitnessRuns → HoldsValue (rowsOf witness-file) (rowsOf example-limits-file) speed-cells speed-states 0
-    by (both-refused b) = let same = ap (λ (c : RunCall). c .answer) (b .checked) in absurd (let z : _≡_ {A = ℕ} 0 1 = cc in let y : ⊥ = omega arith in y)
+    by (both-refused b) = let same = ap (λ (c : CheckedCall). c .answer) (b .checked) in absurd (let z : _≡_ {A = ℕ} 0 1 = cc in let y : ⊥ = omega arith in y)
     by (both-ran b) = b .checked-filled .holds 0 (omega (arith, two-variables)) refl
+
+-- ---- a seat that gains a part
+-- SEAT, a record with attribute 1; SEAT := 40 at 1; SEAT := SEAT expanded at 2 by 20
+unfoldable pub seat-rows : List ℕ
+seat-rows =
+    row 1 0 (83 ∷ 69 ∷ 65 ∷ 84 ∷ [])
+    ++ (row 1 1 (1 ∷ [])
+    ++ (row 2 2 []
+    ++ (row 2 5 (1 ∷ [])
+    -- 40, the record, SEAT, 20, SEAT expanded
+    ++ (row 3 2 (40 ∷ [])
+    ++ (row 3 16 (1 ∷ [])
+    ++ (row 3 4 []
+    ++ (row 3 2 (20 ∷ [])
+    ++ (row 3 17 (2 ∷ 0 ∷ 2 ∷ 0 ∷ 3 ∷ [])
+    ++ (row 4 2 (0 ∷ 0 ∷ 1 ∷ [])
+    ++ (row 4 2 (0 ∷ 0 ∷ 4 ∷ [])
+    ++ row 4 4 (0 ∷ 0 ∷ 1 ∷ [])))))))))))
+
+unfoldable pub seat-file : List ℕ
+seat-file = fileOf profile 7 seat-rows
+
+unfoldable pub no-limits-file : List ℕ
+no-limits-file = fileOf limits 7 []
+
+-- the type check wants the declared body
+pub seat-faulted : typeCheckCall seat-file no-limits-file (replicate layout-length 8) ≡ record { answer = answered (faulted no-coherence 513); layout = replicate layout-length 0 }
+unfolding computing seat-file seat-rows no-limits-file
+seat-faulted = refl
+
+abbrev pub seat-inputs : Inputs
+seat-inputs = inputs seat-file no-limits-file [] []
+
+abbrev pub seat-cells : List ℤ
+seat-cells = pos 40 ∷ pos 20 ∷ replicate 1022 (pos 0)
+
+abbrev pub seat-states : List ℕ
+seat-states = 1 ∷ 0 ∷ replicate 30 0
+
+-- a record of two numbers, at 1 and 2
+abbrev pub seat-bodies : List ℕ
+seat-bodies = 5 ∷ 2 ∷ 1 ∷ 2 ∷ 2 ∷ 2 ∷ replicate 1530 0
+
+abbrev pub seat-call : CheckedCall
+seat-call = record { answer = answered (ending 0 0 0 2); cells = seat-cells; states = seat-states; bodies = seat-bodies }
+
+pub seat-gives : checkedCall seat-inputs 9 fives sevens ≡ seat-call
+unfolding computing seat-file seat-rows no-limits-file
+seat-gives = refl
+
+seat-accepted : checkedRefusal seat-inputs fives sevens ≡ 0
+unfolding computing seat-file seat-rows no-limits-file
+seat-accepted = refl
+
+one-variable : length (profileOf (rowsOf seat-file) (rowsOf no-limits-file) .declarations) ≡ 1
+unfolding computing seat-file seat-rows no-limits-file
+one-variable = refl
+
+-- what the invariant says of such a call speaks of SEAT
+pub seat-holds : HoldsPresent (rowsOf seat-file) (rowsOf no-limits-file) seat-cells seat-states seat-bodies 0
+unfolding flagAt
+seat-holds = checked-holds seat-inputs 9 fives sevens seat-call (sym seat-gives) .holds seat-accepted .filled 0 (omega (arith, one-variable)) refl
