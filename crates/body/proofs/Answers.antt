@@ -9,8 +9,9 @@ use lib.ListN.{replicate}
 use Rattle.lingua.specs.Outcome.{ok, fail, Result}
 use Rattle.lingua.specs.Body.{Body, size, nodes, depth, width, tooLarge}
 use Rattle.lingua.specs.Value.{pad}
+use Rattle.lingua.specs.Encode.{bytes, encoded}
 use Rattle.body.specs.declared.typed.Typed.{Typed}
-use Rattle.body.specs.Encode.{bytes, encoded, Holds}
+use Rattle.body.specs.Encode.{Holds}
 use Rattle.body.specs.Typed.{typed, Fit, Types, simpleOf}
 
 pub failed-is : (e : ℕ) → 1 ≤ e → (o : ℕ) → Types (record { error = e; body = replicate 96 0; cells = 0; offset = 0 }) (fail e) o

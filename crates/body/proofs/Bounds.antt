@@ -6,8 +6,9 @@ use Prim.Native.Nat.{ℕ, _+_, _*_, _≤_, _<_}
 use native.Mathlib.Omega.{arith}
 use lib.Dec.{ltb}
 use Rattle.lingua.specs.Body.{Body, list-of, record-of, end, attribute, size, nodes, depth, countAttributes, width, tooLarge}
+use Rattle.lingua.specs.Encode.{encoded}
 use Rattle.body.specs.declared.walk.Measure.{Measure}
-use Rattle.body.specs.Encode.{encoded, Holds, Held}
+use Rattle.body.specs.Encode.{Holds, Held}
 use Rattle.body.specs.Walk.{Measured}
 use Rattle.body.proofs.Bytes.{within, depth-below}
 use Rattle.body.proofs.Answers.{large-is}

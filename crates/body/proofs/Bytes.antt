@@ -2,14 +2,14 @@
 use mathlib.Core.Path.{_≡_, refl}
 use mathlib.Core.Bool.{Bool, true, false, _||_}
 use mathlib.Core.List.{List, _++_}
-use Prim.Native.Nat.{ℕ, _+_, _-_, _*_, _≤_}
+use Prim.Native.Nat.{ℕ, _≤_}
 use native.Mathlib.Omega.{arith}
 use borrow.Author.Tests.{ltb-false}
 use lib.Dec.{ltb}
-use lib.ListN.{length, getD, replicate, length-append, length-replicate}
+use lib.ListN.{length, getD}
 use Rattle.lingua.specs.Body.{Body, boolean, number, word, list-of, record-of, Attributes, end, attribute, size, nodes, attributeNodes, depth, attributeDepth, width, tooLarge}
-use Rattle.lingua.specs.Value.{pad}
-use Rattle.body.specs.Encode.{bytes, attributeBytes, encoded}
+use Rattle.lingua.specs.Encode.{bytes}
+use Rattle.laws.specs.Encoded.{bytes-below}
 
 -- the first byte
 unfoldable pub tag : Body → ℕ
@@ -34,22 +34,6 @@ first-byte number rest = refl
 first-byte word rest = refl
 first-byte (list-of b) rest = refl
 first-byte (record-of fs) rest = refl
-
--- a node brings its tag, a count if it is a record, and a number if it is an attribute's: the root is no attribute's
-mutual
-  unfolding bytes nodes
-
-  pub bytes-below : (b : Body) → length (bytes b) + 1 ≤ 3 * nodes b
-  bytes-below boolean = omega arith
-  bytes-below number = omega arith
-  bytes-below word = omega arith
-  bytes-below (list-of b) = omega (arith, bytes-below b)
-  bytes-below (record-of fs) = omega (arith, attribute-bytes-below fs)
-
-  pub attribute-bytes-below : (fs : Attributes) → length (attributeBytes fs) ≤ 3 * attributeNodes fs
-  attribute-bytes-below end = omega arith
-  attribute-bytes-below (attribute n b fs) =
-      omega (arith, length-append (bytes b) (attributeBytes fs), bytes-below b, attribute-bytes-below fs)
 
 -- every body within its bounds fits 96 bytes
 or-left : (s t : Bool) → s || t ≡ false → s ≡ false
@@ -97,8 +81,3 @@ mutual
   pub attribute-depth-below : (fs : Attributes) → attributeDepth fs ≤ attributeNodes fs
   attribute-depth-below end = omega arith
   attribute-depth-below (attribute n b fs) = omega (arith, depth-below b, attribute-depth-below fs)
-
-pub length-encoded : (b : Body) → nodes b ≤ 32 → length (encoded b) ≡ 96
-unfolding encoded pad
-length-encoded b h =
-    omega (arith, length-append (bytes b) (replicate (96 - length (bytes b)) 0), length-replicate {A = ℕ} (96 - length (bytes b)) 0, bytes-below b)

@@ -40,6 +40,13 @@ pad-pad n k xs h l =
     let e : n - length (pad k 0 xs) ≡ n - k = omega (arith, length-pad k xs h) in
     ap (λ (j : ℕ). pad k 0 xs ++ replicate j 0) e ∙ sym (pad-split n k xs h l)
 
+-- zeros that are there already
+pub pad-zeros : (n : ℕ) (xs : List ℕ) (j : ℕ) → length xs + j ≤ n → pad n 0 (xs ++ replicate j 0) ≡ pad n 0 xs
+unfolding pad
+pad-zeros n xs j h =
+    ap (λ (k : ℕ). pad n 0 (xs ++ replicate k 0)) (let e : j ≡ length xs + j - length xs = omega arith in e)
+    ∙ pad-pad n (length xs + j) xs (omega arith) h
+
 pub cons-pad : (n x : ℕ) (xs : List ℕ) → x ∷ pad n 0 xs ≡ pad (suc n) 0 (x ∷ xs)
 unfolding pad
 cons-pad n x xs = ap (λ (j : ℕ). x ∷ (xs ++ replicate j 0)) (let e : n - length xs ≡ suc n - suc (length xs) = omega arith in e)

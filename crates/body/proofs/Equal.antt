@@ -10,7 +10,8 @@ use borrow.Author.Tests.{eqb-true, eq-eqb}
 use lib.ListN.{length, getD}
 use lib.Seq.{ext-getD}
 use Rattle.lingua.specs.Body.{Body, boolean, number, word, list-of, record-of, Attributes, end, attribute, isBoolean, isNumber, isWord, elementBody, attributesOf, sameBody, sameAttributes}
-use Rattle.body.specs.Encode.{encoded, Holds}
+use Rattle.lingua.specs.Encode.{encoded}
+use Rattle.body.specs.Encode.{Holds}
 use Rattle.body.proofs.Parser.{encoded-injective}
 
 and-true : (s t : Bool) → true ≡ s → true ≡ t → true ≡ s && t

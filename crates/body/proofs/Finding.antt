@@ -10,10 +10,11 @@ use borrow.Author.Tests.{eq-eqb, ne-eqb, lt-ltb, le-ltb}
 use lib.ListN.{length, getD}
 use Rattle.lingua.specs.Outcome.{isSome}
 use Rattle.lingua.specs.Body.{Body, record-of, Attributes, end, attribute, size, sizes, nodes, attributeNodes, countAttributes, attributeBody, attributeOffset}
+use Rattle.lingua.specs.Encode.{bytes}
 use Rattle.body.specs.declared.walk.Measure.{Measure}
-use Rattle.body.specs.Encode.{bytes, Holds}
+use Rattle.body.specs.Encode.{Holds}
 use Rattle.body.specs.Walk.{At, AttributesAt, SomeAttributesAt, Measured}
-use Rattle.body.specs.Find.{HeldRecord, FoundIs, bytesBelow}
+use Rattle.body.specs.Find.{HeldRecord, FoundIs, bytesBefore, bytesBelow}
 use Rattle.body.proofs.Parser.{encoded-injective}
 use Rattle.body.proofs.Places.{record-below, record-count, record-part, attribute-number, attribute-part, attribute-rest, MoreView, more-view}
 use Rattle.body.proofs.Making.{held-at}
@@ -43,7 +44,7 @@ pub some-ahead : (x : List ℕ) (left at : ℕ) → Ahead x left at → SomeAttr
 some-ahead x left at s =
     record { attributes = s .ahead; here = s .here; counted = s .counted; few-cells = s .few-cells; few-nodes = s .few-nodes }
 
-pub ahead-start : (x : List ℕ) → HeldRecord x → Ahead x (getD x 1 0) 2
+unfoldable pub ahead-start : (x : List ℕ) → HeldRecord x → Ahead x (getD x 1 0) 2
 unfolding size nodes
 ahead-start x h =
     let fs = h .attributes in
@@ -63,7 +64,7 @@ module _ (x : List ℕ) (left at : ℕ) (f : left ≡ 0 → ⊥) (s : Ahead x le
   pub next-view : MoreView left (s .ahead)
   next-view = more-view left (s .ahead) f (s .counted)
 
-  unfoldable next-here : AttributesAt x at (attribute (next-view .first-number) (next-view .first-body) (next-view .others))
+  unfoldable pub next-here : AttributesAt x at (attribute (next-view .first-number) (next-view .first-body) (next-view .others))
   next-here = subst (λ (gs : Attributes). AttributesAt x at gs) (next-view .is) (s .here)
 
   pub next-number : getD x at 0 ≡ next-view .first-number
@@ -73,7 +74,7 @@ module _ (x : List ℕ) (left at : ℕ) (f : left ≡ 0 → ⊥) (s : Ahead x le
   next-body = attribute-part x at (next-view .first-number) (next-view .first-body) (next-view .others) next-here
 
   module _ (m : Measure) (g : (b : Body) → At x (at + 1) b → Measured m (at + 1) b) where
-    pub passed : Ahead x (left - 1) (m .next)
+    unfoldable pub passed : Ahead x (left - 1) (m .next)
     unfolding size nodes
     passed =
         let v = next-view in
@@ -93,13 +94,20 @@ module _ (x : List ℕ) (left at : ℕ) (f : left ≡ 0 → ⊥) (s : Ahead x le
 pub record Searching (x : List ℕ) (n left at offset : ℕ) : Type 0 where
   pub state : Ahead x left at
   pub same-body : attributeBody n (state .all) ≡ attributeBody n (state .ahead)
+  pub same-place : 2 + bytesBefore n (state .all) ≡ at + bytesBefore n (state .ahead)
   pub same-offset : attributeOffset n (state .all) ≡ offset + attributeOffset n (state .ahead)
   pub few-cells : offset + sizes (state .ahead) ≤ 64
 
 pub search-start : (x : List ℕ) (n : ℕ) → HeldRecord x → Searching x n (getD x 1 0) 2 0
 unfolding ahead-start size
 search-start x n h =
-    record { state = ahead-start x h; same-body = refl; same-offset = omega arith; few-cells = omega (arith, h .holds .few-cells) }
+    record {
+      state = ahead-start x h;
+      same-body = refl;
+      same-place = refl;
+      same-offset = omega arith;
+      few-cells = omega (arith, h .holds .few-cells);
+    }
 
 module _ (x : List ℕ) (n left at offset : ℕ) (s : Searching x n left at offset) where
   pub search-miss : left ≡ 0 → (fs : Attributes) → Holds x (record-of fs) → FoundIs (record { found = false; at = 0; offset = 0 }) x n fs
@@ -115,6 +123,7 @@ module _ (x : List ℕ) (n left at offset : ℕ) (s : Searching x n left at offs
           record {
             is-found = sym (ap isSome e);
             stands = λ b q. absurd (let k : _≡_ {A = ℕ} 0 1 = cc in let z : ⊥ = omega arith in z);
+            is-place = λ q. absurd (let k : _≡_ {A = ℕ} 0 1 = cc in let z : ⊥ = omega arith in z);
             is-offset = λ q. absurd (let k : _≡_ {A = ℕ} 0 1 = cc in let z : ⊥ = omega arith in z);
           }
       none-left (attribute m b gs) c e = absurd (let k : ⊥ = omega (arith, c) in k)
@@ -122,17 +131,19 @@ module _ (x : List ℕ) (n left at offset : ℕ) (s : Searching x n left at offs
   module _ (f : left ≡ 0 → ⊥) where
     pub search-hit : getD x at 0 ≡ n → (fs : Attributes) → Holds x (record-of fs)
         → FoundIs (record { found = true; at = at + 1; offset = offset }) x n fs
-    unfolding attributeBody attributeOffset
+    unfolding attributeBody attributeOffset bytesBefore
     search-hit e =
         let a = s .state in
         let v = next-view x left at f a in
         let q = eq-eqb n (v .first-number) (sym e ∙ next-number x left at f a) in
         let p : attributeBody n (a .ahead) ≡ some (v .first-body) = ap (attributeBody n) (v .is) ∙ rw q refl in
         let o : attributeOffset n (a .ahead) ≡ 0 = ap (attributeOffset n) (v .is) ∙ rw q refl in
+        let w : bytesBefore n (a .ahead) ≡ 0 = ap (bytesBefore n) (v .is) ∙ rw q refl in
         for-record (λ (fs : Attributes). FoundIs (record { found = true; at = at + 1; offset = offset }) x n fs) (a .holds)
         (record {
           is-found = sym (ap isSome (s .same-body ∙ p));
           stands = λ b r. subst (λ (c : Body). At x (at + 1) c) (let t : v .first-body ≡ b = same-some (sym p ∙ sym (s .same-body) ∙ r) in t) (next-body x left at f a);
+          is-place = λ r. omega (arith, s .same-place, w);
           is-offset = λ r. omega (arith, s .same-offset, o);
         })
       where
@@ -141,17 +152,20 @@ module _ (x : List ℕ) (n left at offset : ℕ) (s : Searching x n left at offs
 
     pub search-on : (getD x at 0 ≡ n → ⊥) → (m : Measure) → ((b : Body) → At x (at + 1) b → Measured m (at + 1) b)
         → Searching x n (left - 1) (m .next) (offset + m .cells)
-    unfolding attributeBody attributeOffset size passed
+    unfolding attributeBody attributeOffset bytesBefore size passed
     search-on e m g =
         let a = s .state in
         let v = next-view x left at f a in
         let q = ne-eqb n (v .first-number) (λ r. e (next-number x left at f a ∙ sym r)) in
-        let c = g (v .first-body) (next-body x left at f a) .is-cells in
+        let i = g (v .first-body) (next-body x left at f a) in
+        let c = i .is-cells in
         let p : attributeBody n (a .ahead) ≡ attributeBody n (v .others) = ap (attributeBody n) (v .is) ∙ rw q refl in
         let o : attributeOffset n (a .ahead) ≡ size (v .first-body) + attributeOffset n (v .others) = ap (attributeOffset n) (v .is) ∙ rw q refl in
+        let w : bytesBefore n (a .ahead) ≡ 1 + length (bytes (v .first-body)) + bytesBefore n (v .others) = ap (bytesBefore n) (v .is) ∙ rw q refl in
         record {
           state = passed x left at f a m g;
           same-body = s .same-body ∙ p;
+          same-place = omega (arith, s .same-place, w, i .is-next);
           same-offset = omega (arith, s .same-offset, o, c);
           few-cells = omega (arith, s .few-cells, c, ap sizes (v .is));
         }

@@ -3,9 +3,10 @@ use mathlib.Core.Path.{_≡_, refl}
 use mathlib.Core.Bool.{true, false}
 use mathlib.Core.Option.{some, none}
 use Prim.Native.Nat.{ℕ}
+use lib.Dec.{ltb}
 use Rattle.lingua.specs.Outcome.{ok, fail, isSome}
-use Rattle.lingua.specs.Body.{Body, list-of, record-of, Attributes, end, attribute, sameBody, isBoolean, isNumber, isWord, isSimple, elementBody, attributesOf, attributeBody, insertAttribute, tooLarge}
-use Rattle.lingua.specs.Operation.{negation, make-record, select, make-list, top, pop, equal, glue, expand, change, push, bounded, present, numbersTo, unaryBody, binaryBody}
+use Rattle.lingua.specs.Body.{Body, list-of, record-of, Attributes, end, attribute, sameBody, isBoolean, isNumber, isWord, isSimple, elementBody, attributesOf, countAttributes, attributeBody, insertAttribute, removeAttribute, tooLarge}
+use Rattle.lingua.specs.Operation.{negation, make-record, select, make-list, top, pop, remove, equal, glue, expand, change, push, bounded, present, numbersTo, unaryBody, binaryBody}
 use Rattle.body.specs.Typed.{simpleOf}
 
 -- ---- one operand
@@ -60,6 +61,22 @@ pop-other b e0 = rw (e0) refl
 pub pop-list : (b c : Body) → elementBody b ≡ some c → unaryBody pop b ≡ ok b
 unfolding unaryBody
 pop-list b c e0 = rw (e0) refl
+
+pub remove-other : (n : ℕ) (b : Body) → attributesOf b ≡ none → unaryBody (remove n) b ≡ fail 12
+unfolding unaryBody
+remove-other n b e0 = rw (e0) refl
+
+pub remove-missing : (n : ℕ) (b : Body) (fs : Attributes) → attributesOf b ≡ some fs → isSome (attributeBody n fs) ≡ false → unaryBody (remove n) b ≡ fail 13
+unfolding unaryBody present
+remove-missing n b fs e0 e1 = rw (e0, e1) refl
+
+pub remove-last : (n : ℕ) (b : Body) (fs : Attributes) → attributesOf b ≡ some fs → isSome (attributeBody n fs) ≡ true → ltb 1 (countAttributes fs) ≡ false → unaryBody (remove n) b ≡ fail 19
+unfolding unaryBody present
+remove-last n b fs e0 e1 e2 = rw (e0, e1, e2) refl
+
+pub remove-found : (n : ℕ) (b : Body) (fs : Attributes) → attributesOf b ≡ some fs → isSome (attributeBody n fs) ≡ true → ltb 1 (countAttributes fs) ≡ true → unaryBody (remove n) b ≡ ok (record-of (removeAttribute n fs))
+unfolding unaryBody present
+remove-found n b fs e0 e1 e2 = rw (e0, e1, e2) refl
 
 -- ---- two operands
 pub numbers-first : (d b c : Body) → isNumber b ≡ false → numbersTo d b c ≡ fail 8

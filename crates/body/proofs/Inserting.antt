@@ -10,11 +10,12 @@ use lib.ListN.{length, take, drop, set, getD, replicate, length-append, length-d
 use lib.Seq.{take-append-le, drop-append-le, take-append-seam, drop-drop, take-append-add, drop-append-add, length-take-le, take-at, append-snoc, paste}
 use Rattle.lingua.specs.Body.{Body, boolean, number, word, list-of, record-of, Attributes, end, attribute, nodes, attributeNodes, countAttributes, insertAttribute}
 use Rattle.lingua.specs.Value.{pad}
-use Rattle.body.specs.Encode.{bytes, attributeBytes, encoded, Holds}
+use Rattle.lingua.specs.Encode.{bytes, attributeBytes, encoded}
+use Rattle.laws.specs.Encoded.{bytes-below}
+use Rattle.body.specs.Encode.{Holds}
 use Rattle.body.specs.Walk.{Measured}
 use Rattle.body.specs.Find.{Room, bytesBelow}
 use Rattle.body.specs.declared.walk.Measure.{Measure}
-use Rattle.body.proofs.Bytes.{bytes-below}
 use Rattle.body.proofs.Copies.{paste-pad, set-pad}
 use Rattle.body.proofs.Places.{record-count, record-part}
 use Rattle.body.proofs.Making.{held-at, held-96}

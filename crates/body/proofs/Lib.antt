@@ -7,11 +7,13 @@ pub mod Measures
 pub mod Making
 pub mod Finding
 pub mod Inserting
+pub mod Removing
 pub mod Tags
 pub mod Answers
 pub mod Halves
 pub mod Bounds
 pub mod Selecting
+pub mod Lacking
 pub mod Expanding
 pub mod Results
 pub mod Offsets

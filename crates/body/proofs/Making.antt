@@ -7,9 +7,11 @@ use lib.ListN.{length, take, drop, getD, set, replicate, length-append}
 use lib.Seq.{take-append-seam, paste}
 use Rattle.lingua.specs.Body.{Body, boolean, number, word, list-of, record-of, end, attribute, size, nodes, countAttributes}
 use Rattle.lingua.specs.Value.{pad}
-use Rattle.body.specs.Encode.{bytes, encoded, Holds, Held}
+use Rattle.lingua.specs.Encode.{bytes, encoded}
+use Rattle.laws.specs.Encoded.{bytes-below, length-encoded}
+use Rattle.body.specs.Encode.{Holds, Held}
 use Rattle.body.specs.Walk.{At, SomeAt}
-use Rattle.body.proofs.Bytes.{tag, bytes-below, length-encoded}
+use Rattle.body.proofs.Bytes.{tag}
 use Rattle.body.proofs.Places.{at-tag}
 use Rattle.body.proofs.Copies.{take-pad, pad-pad, cons-pad, paste-pad}
 

@@ -5,8 +5,8 @@ use Prim.Native.Nat.{ℕ, _+_, _-_, _*_, _≤_, _<_, max}
 use native.Mathlib.Omega.{arith}
 use lib.ListN.{length, getD, length-append}
 use Rattle.lingua.specs.Body.{Body, Attributes, end, attribute, size, sizes, nodes, attributeNodes, depth, attributeDepth, countAttributes}
+use Rattle.lingua.specs.Encode.{bytes, attributeBytes}
 use Rattle.body.specs.declared.walk.Measure.{Measure}
-use Rattle.body.specs.Encode.{bytes, attributeBytes}
 use Rattle.body.specs.Walk.{At, AttributesAt, SomeAt, SomeAttributesAt, Measured, AttributesMeasured}
 use Rattle.body.proofs.Bytes.{depth-below, attribute-depth-below}
 use Rattle.body.proofs.Places.{at-end, at-below, at-tag, list-part, record-count, record-below, record-part, attribute-part, attribute-rest, list-view, record-view, simple-view, more-view}

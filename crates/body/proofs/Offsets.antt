@@ -1,24 +1,22 @@
 -- The halves on bodies with the layout table's second number: the code's offset is the definition's, and it is small, since it lies
 -- within a record that has few cells. Assumes nothing.
-use mathlib.Core.Path.{_≡_, refl, sym, ap, _∙_, subst}
+use mathlib.Core.Path.{_≡_, refl, sym, ap, _∙_}
 use mathlib.Core.Bool.{Bool, true, false, not}
 use mathlib.Core.List.{List}
-use mathlib.Core.Option.{Option, some, none}
-use Prim.Native.Nat.{ℕ, _+_, _≤_, _<_}
+use Prim.Native.Nat.{ℕ, _+_, _≤_}
 use native.Mathlib.Omega.{arith}
 use lib.Dec.{eqb}
 use Rattle.lingua.specs.Numbers.{body-cells}
 use Rattle.lingua.specs.Errors.{attribute-present, no-such-attribute, no-coherence, body-too-large}
-use Rattle.lingua.specs.Outcome.{Outcome, ok, fail, Result, require, orFail, if_then_else_, _>>=_, _>>_}
+use Rattle.lingua.specs.Outcome.{ok, fail, Result, require, if_then_else_, _>>_}
 use Rattle.lingua.specs.Body.{Body, boolean, number, word, list-of, record-of, Attributes, end, attribute, size, sizes, sameBody, attributesOf, attributeBody, attributeOffset, insertAttribute, tooLarge}
-use Rattle.lingua.specs.Operation.{Unary, negation, make-record, select, make-list, top, pop, Binary, add, subtract, multiply, divide, less, equal, glue, expand, change, push, bounded, present, unaryBody, binaryBody}
-use Rattle.lingua.specs.Typing.{offsetAmong, offsetIn, unarySecond, binarySecond}
+use Rattle.lingua.specs.Operation.{Unary, negation, make-record, select, make-list, top, pop, remove, Binary, add, subtract, multiply, divide, less, equal, glue, expand, change, push, bounded, present, unaryBody, binaryBody}
+use Rattle.lingua.specs.Typing.{offsetIn, unarySecond, binarySecond}
 use Rattle.laws.specs.Outcomes.{fail-is-ok, ok-same, required, asked}
 use Rattle.body.specs.Encode.{Holds}
 use Rattle.body.specs.declared.typed.Typed.{Typed as Half-typed}
-use Rattle.body.specs.Typed.{typed, Fit, Types, unaryOffset, binaryOffset, offsetAfter}
-use Rattle.body.specs.Typed as code
-use Rattle.body.specs.Half.{Half-passes, Half-fails, Half}
+use Rattle.body.specs.Typed.{typed, Fit, Types, binaryOffset, offsetAfter}
+use Rattle.body.specs.Half.{Half}
 
 -- ---- offsets
 attribute-within : (n : ℕ) (fs : Attributes) → attributeOffset n fs ≤ sizes fs
@@ -38,14 +36,6 @@ offset-within n word = omega arith
 offset-within n (list-of b) = omega arith
 offset-within n (record-of fs) = attribute-within n fs
 
-same-offset : (n : ℕ) (b : Body) → code.offsetIn n (attributesOf b) ≡ offsetIn n b
-unfolding offsetIn attributesOf code.offsetIn
-same-offset n boolean = refl
-same-offset n number = refl
-same-offset n word = refl
-same-offset n (list-of b) = refl
-same-offset n (record-of fs) = refl
-
 -- what is to be shown of an offset: it is the second number, and small
 record Second (o s : ℕ) : Type 0 where
   is : o ≡ s
@@ -54,22 +44,19 @@ record Second (o s : ℕ) : Type 0 where
 none-is : (s : ℕ) → s ≡ 0 → Second 0 s
 none-is s e = record { is = sym e; small = omega arith }
 
-offset-is : (n : ℕ) (b : Body) → size b ≤ body-cells → Second (code.offsetIn n (attributesOf b)) (offsetIn n b)
-offset-is n b h =
-    record { is = same-offset n b; small = omega (arith, same-offset n b, offset-within n b) }
-
-unary-second : (o : Unary) (b : Body) → size b ≤ body-cells → Second (unaryOffset o b) (unarySecond o b)
-unfolding unaryOffset unarySecond
-unary-second negation b h = none-is 0 refl
-unary-second (make-record n) b h = none-is 0 refl
-unary-second (select n) b h = offset-is n b h
-unary-second make-list b h = none-is 0 refl
-unary-second top b h = none-is 0 refl
-unary-second pop b h = none-is 0 refl
+unary-small : (o : Unary) (b : Body) → size b ≤ body-cells → unarySecond o b ≤ body-cells
+unfolding unarySecond
+unary-small negation b h = omega arith
+unary-small (make-record n) b h = omega arith
+unary-small (select n) b h = omega (arith, offset-within n b)
+unary-small make-list b h = omega arith
+unary-small top b h = omega arith
+unary-small pop b h = omega arith
+unary-small (remove n) b h = omega (arith, offset-within n b)
 
 -- an expanded record is the record with the attribute in its place
-expanded : (n : ℕ) (b c d : Body) → binaryBody (expand n) b c ≡ ok d → code.offsetAfter n c (attributesOf b) ≡ offsetIn n d
-unfolding binaryBody attributesOf bounded code.offsetAfter offsetIn
+expanded : (n : ℕ) (b c d : Body) → binaryBody (expand n) b c ≡ ok d → offsetAfter n c (attributesOf b) ≡ offsetIn n d
+unfolding binaryBody attributesOf bounded offsetAfter offsetIn
 expanded n boolean c d e = fail-is-ok e
 expanded n number c d e = fail-is-ok e
 expanded n word c d e = fail-is-ok e
@@ -103,8 +90,7 @@ binary-second glue b c d e h = none-is 0 refl
 binary-second (expand n) b c d e h =
     record { is = expanded n b c d e; small = omega (arith, expanded n b c d e, offset-within n d) }
 binary-second (change n) b c d e h =
-    subst (λ (x : Body). Second (code.offsetIn n (attributesOf b)) (offsetIn n x)) (changed n b c d e)
-    (offset-is n b (subst (λ (x : Body). size x ≤ body-cells) (sym (changed n b c d e)) h))
+    record { is = ap (λ (x : Body). offsetIn n x) (changed n b c d e); small = omega (arith, ap (λ (x : Body). offsetIn n x) (changed n b c d e), offset-within n d) }
 binary-second push b c d e h = none-is 0 refl
 
 -- ---- halves
@@ -121,8 +107,9 @@ by-types t (ok d) o second h f =
     }
 by-types t (fail n) o second h f = record { some-error = h .fit; error = ap (λ (x : Half-typed). x .error) (h .is) }
 
-pub unary-is : (t : Half-typed) (o : Unary) (x : List ℕ) (b : Body) → Holds x b → Types t (unaryBody o b) (unaryOffset o b) → Half t (unaryBody o b) (λ d. unarySecond o b)
-unary-is t o x b h k = by-types t (unaryBody o b) (unaryOffset o b) _ k (λ d e s. unary-second o b (h .few-cells))
+pub unary-is : (t : Half-typed) (o : Unary) (x : List ℕ) (b : Body) → Holds x b → Types t (unaryBody o b) (unarySecond o b) → Half t (unaryBody o b) (λ d. unarySecond o b)
+unary-is t o x b h k =
+    by-types t (unaryBody o b) (unarySecond o b) _ k (λ d e s. record { is = refl; small = unary-small o b (h .few-cells) })
 
 pub binary-is : (t : Half-typed) (o : Binary) (b c : Body) → Types t (binaryBody o b c) (binaryOffset o b c) → Half t (binaryBody o b c) (λ d. binarySecond o b c d)
 binary-is t o b c k = by-types t (binaryBody o b c) (binaryOffset o b c) _ k (λ d e s. binary-second o b c d e s)

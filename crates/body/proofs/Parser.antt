@@ -9,7 +9,8 @@ use lib.ListN.{length, replicate}
 use Rattle.lingua.specs.Outcome.{if_then_else_}
 use Rattle.lingua.specs.Body.{Body, boolean, number, word, list-of, record-of, Attributes, end, attribute, depth, attributeDepth, countAttributes}
 use Rattle.lingua.specs.Value.{pad}
-use Rattle.body.specs.Encode.{bytes, attributeBytes, encoded, Holds}
+use Rattle.lingua.specs.Encode.{bytes, attributeBytes, encoded}
+use Rattle.body.specs.Encode.{Holds}
 
 pub record Parsed : Type 0 where
   pub body : Body

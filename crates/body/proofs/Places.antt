@@ -7,7 +7,7 @@ use native.Mathlib.Omega.{arith}
 use lib.ListN.{length, drop, getD, length-append, length-drop}
 use lib.Seq.{getD-drop, drop-drop, drop-append-seam}
 use Rattle.lingua.specs.Body.{Body, boolean, number, word, list-of, record-of, Attributes, end, attribute, size, nodes, depth, countAttributes}
-use Rattle.body.specs.Encode.{bytes, attributeBytes}
+use Rattle.lingua.specs.Encode.{bytes, attributeBytes}
 use Rattle.body.specs.Walk.{At, AttributesAt}
 use Rattle.body.proofs.Bytes.{tag, some-bytes, first-byte}
 

@@ -8,10 +8,11 @@ use native.Mathlib.Omega.{arith}
 use lib.Dec.{eqb}
 use Rattle.lingua.specs.Outcome.{isSome}
 use Rattle.lingua.specs.Body.{Body, record-of, Attributes, end, attribute, size, sizes, nodes, attributeNodes, attributeBody, attributeOffset}
+use Rattle.lingua.specs.Encode.{encoded}
 use Rattle.body.specs.declared.find.Found.{Found}
-use Rattle.body.specs.Encode.{encoded, Holds, Held}
+use Rattle.body.specs.Encode.{Holds, Held}
 use Rattle.body.specs.Walk.{At, SomeAt}
-use Rattle.body.specs.Find.{FoundIs}
+use Rattle.body.specs.Find.{HeldRecord, FoundIs, PlacedAt, SomePlacedAt}
 
 -- an attribute has no more cells and nodes than its record
 pub record Smaller (d : Body) (fs : Attributes) : Type 0 where
@@ -73,6 +74,14 @@ module _ (x : List ℕ) (n : ℕ) (f : Found) (g : (fs : Attributes) → Holds x
         few-cells = omega (arith, l .cells-of, h .few-cells);
         few-nodes = omega (arith, l .nodes-of, h .few-nodes);
       }
+
+  pub placed : (fs : Attributes) → Holds x (record-of fs) → f .found ≡ true → PlacedAt (f .at) n fs
+  placed fs h e =
+      let s = something (attributeBody n fs) (sym (g fs h .is-found) ∙ e) in
+      record { body = s .it; there = s .is; is-place = g fs h .is-place e }
+
+  pub some-found : HeldRecord x → f .found ≡ true → SomePlacedAt x (f .at)
+  some-found h e = record { attributes = h .attributes; holds = h .holds; number = n; placed = placed (h .attributes) (h .holds) e }
 
 module _ (x : List ℕ) (n : ℕ) (f : Found) (fs : Attributes) (a : Got x f n fs) where
   pub some-got : SomeAt x (f .at)

@@ -9,7 +9,7 @@ use Rattle.lingua.specs.Body.{Body}
 use Rattle.lingua.specs.Operation.{negation, Binary, equal, glue, numbersTo, unaryBody, binaryBody}
 use Rattle.lingua.specs.Typing.{unarySecond, binarySecond}
 use Rattle.body.specs.Encode.{Holds}
-use Rattle.body.specs.Typed.{Types, simpleOf, unaryOffset, binaryOffset}
+use Rattle.body.specs.Typed.{Types, simpleOf, binaryOffset}
 use Rattle.body.specs.Half.{Half, simpleTyped, SimpleHalf}
 use Rattle.body.proofs.Tags.{is-boolean, is-number, is-word, is-simple, same-simple}
 use Rattle.body.proofs.Answers.{likewise, scalar-is}
@@ -24,7 +24,7 @@ unfolding simpleTyped
 simple-types t h k r e = likewise (simpleTyped t) (simpleOf t) 0 (scalar-is t _ refl h k) r e
 
 pub negation-simple : (x : List ℕ) (b : Body) → Holds x b → getD x 0 0 ≡ 1 → SimpleHalf 1 (unaryBody negation b) (λ d. unarySecond negation b)
-unfolding unaryOffset
+unfolding unarySecond
 negation-simple x b h e =
     record {
       half = λ p. unary-is (simpleTyped 1) negation x b h

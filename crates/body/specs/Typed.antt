@@ -7,9 +7,10 @@ use lib.ListN.{replicate}
 use Rattle.lingua.specs.Numbers.{body-cells, body-nodes, body-bytes}
 use Rattle.lingua.specs.Outcome.{ok, fail, Result, if_then_else_}
 use Rattle.lingua.specs.Body.{Body, boolean, number, word, Attributes, attributesOf, attributeOffset, insertAttribute, size, nodes}
-use Rattle.lingua.specs.Operation.{Unary, negation, make-record, select, make-list, top, pop, Binary, add, subtract, multiply, divide, less, equal, glue, expand, change, push}
+use Rattle.lingua.specs.Encode.{encoded}
+use Rattle.lingua.specs.Operation.{Binary, add, subtract, multiply, divide, less, equal, glue, expand, change, push}
+use Rattle.lingua.specs.Typing.{offsetIn}
 use Rattle.body.specs.declared.typed.Typed.{Typed}
-use Rattle.body.specs.Encode.{encoded}
 
 -- no error, the body, its cells and the attribute's offset; or the error's number
 unfoldable pub typed : Result Body → ℕ → Typed
@@ -30,23 +31,11 @@ pub record Types (t : Typed) (r : Result Body) (o : ℕ) : Type 0 where
 unfoldable pub simpleOf : ℕ → Body
 simpleOf t = if eqb t 1 then boolean else (if eqb t 2 then number else word)
 
--- ---- the attribute's offset that the layout table keeps beside the cells
-unfoldable pub offsetIn : ℕ → Option Attributes → ℕ
-offsetIn n (some fs) = attributeOffset n fs
-offsetIn n none = 0
-
+-- ---- the attribute's offset that the layout table keeps beside the cells, by the operands alone
 -- of a new attribute, the offset in the widened record
 unfoldable pub offsetAfter : ℕ → Body → Option Attributes → ℕ
 offsetAfter n c (some fs) = attributeOffset n (insertAttribute n c fs)
 offsetAfter n c none = 0
-
-unfoldable pub unaryOffset : Unary → Body → ℕ
-unaryOffset negation b = 0
-unaryOffset (make-record n) b = 0
-unaryOffset (select n) b = offsetIn n (attributesOf b)
-unaryOffset make-list b = 0
-unaryOffset top b = 0
-unaryOffset pop b = 0
 
 unfoldable pub binaryOffset : Binary → Body → Body → ℕ
 binaryOffset add b c = 0
@@ -57,5 +46,5 @@ binaryOffset less b c = 0
 binaryOffset equal b c = 0
 binaryOffset glue b c = 0
 binaryOffset (expand n) b c = offsetAfter n c (attributesOf b)
-binaryOffset (change n) b c = offsetIn n (attributesOf b)
+binaryOffset (change n) b c = offsetIn n b
 binaryOffset push b c = 0

@@ -5,8 +5,8 @@ use Prim.Native.Nat.{ℕ, _+_, _≤_}
 use lib.ListN.{length, drop}
 use Rattle.lingua.specs.Numbers.{body-cells, body-nodes}
 use Rattle.lingua.specs.Body.{Body, Attributes, size, sizes, nodes, attributeNodes, depth, attributeDepth, countAttributes}
+use Rattle.lingua.specs.Encode.{bytes, attributeBytes}
 use Rattle.body.specs.declared.walk.Measure.{Measure}
-use Rattle.body.specs.Encode.{bytes, attributeBytes}
 
 -- the bytes of a body, and of attributes, stand at a place
 pub record At (bs : List ℕ) (at : ℕ) (b : Body) : Type 0 where

@@ -7,16 +7,18 @@ use crate::walk::RECORD;
 use crate::walk::WORD;
 use crate::walk::measure_at;
 use crate::walk::measure_body;
+use crate::walk::measured;
 use lingua::sizes::BODY_BYTES;
 ghost use mathlib.Core.Path.{_≡_};
 ghost use mathlib.Core.List.{[], _∷_};
-ghost use Prim.Native.Nat.{_+_, _<_};
+ghost use Prim.Native.Nat.{ℕ, _+_, _<_};
 ghost use Rattle.lingua.specs.Numbers.{body-bytes};
-ghost use Rattle.lingua.specs.Body.{Body, list-of, record-of, Attributes, end, attribute, nodes, insertAttribute};
+ghost use Rattle.lingua.specs.Body.{Body, list-of, record-of, Attributes, end, attribute, nodes, insertAttribute, removeAttribute};
 ghost use Rattle.lingua.specs.Value.{pad};
-ghost use Rattle.body.specs.Encode.{encoded, Holds};
+ghost use Rattle.lingua.specs.Encode.{encoded};
+ghost use Rattle.body.specs.Encode.{Holds};
 ghost use Rattle.body.specs.Walk.{At, SomeAt};
-ghost use Rattle.body.specs.Find.{Room};
+ghost use Rattle.body.specs.Find.{Room, PlacedAt, SomePlacedAt};
 
 // the bytes past a tag
 const PAST_TAG: usize = BODY_BYTES - 1;
@@ -86,4 +88,17 @@ pub fn insert(body: [u8; BODY_BYTES], n: u8, added: [u8; BODY_BYTES]) -> [u8; BO
     below[at] = n;
     let both = pasted(below, at + 1, added, 0, more);
     pasted(both, at + 1 + more, body, at, end - at)
+}
+
+// A record without the attribute whose body stands at a place: what stands behind it, zeros too, moves to where its number stood.
+pub fn cut(body: [u8; BODY_BYTES], at: usize) -> [u8; BODY_BYTES]
+    requires { ⌜ SomePlacedAt body at ⌝ }
+    ensures { λ r. ⌜ ((n : ℕ) (fs : Attributes) → Holds body (record-of fs) → PlacedAt at n fs → Holds r (record-of (removeAttribute n fs))) ⌝ }
+{
+    let m = measured(body, at);
+    let behind = m.next;
+    let number = at - 1;
+    let mut head = part(body, 0, number);
+    head[1] = body[1] - 1;
+    pasted(head, number, body, behind, BODY_BYTES - behind)
 }

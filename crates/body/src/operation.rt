@@ -10,6 +10,7 @@ use crate::unary::make_list;
 use crate::unary::make_record;
 use crate::unary::negation;
 use crate::unary::pop;
+use crate::unary::remove;
 use crate::unary::select;
 use crate::unary::top;
 use crate::walk::BOOLEAN;
@@ -38,6 +39,7 @@ pub fn unary_half(o: UnaryOperation, x: [u8; BODY_BYTES]) -> Typed
         UnaryOperation::MakeList => make_list(x),
         UnaryOperation::Top => top(x),
         UnaryOperation::Pop => pop(x),
+        UnaryOperation::Remove(n) => remove(n, x),
     }
 }
 
@@ -77,6 +79,7 @@ pub fn simple_unary(o: UnaryOperation, x: [u8; BODY_BYTES]) -> u8
         UnaryOperation::MakeList => 0,
         UnaryOperation::Top => 0,
         UnaryOperation::Pop => 0,
+        UnaryOperation::Remove(_) => 0,
     }
 }
 

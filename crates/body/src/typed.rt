@@ -13,7 +13,7 @@ ghost use Rattle.lingua.specs.Numbers.{body-cells, body-nodes, body-depth, reco
 ghost use Rattle.lingua.specs.Outcome.{ok, fail};
 ghost use Rattle.body.specs.Typed.{Types, simpleOf};
 
-// The result's body with its cells, and the attribute's cell offset of 17 to 19; or a type error.
+// The result's body with its cells, and the attribute's cell offset of 17 to 19 and 26; or a type error.
 pub struct Typed {
     pub error: u8,
     pub body: [u8; BODY_BYTES],

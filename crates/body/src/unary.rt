@@ -1,6 +1,7 @@
 // The half on bodies of the operations of one operand.
 use crate::find::find;
 use crate::make::body_at;
+use crate::make::cut;
 use crate::make::element;
 use crate::make::list_of;
 use crate::make::record_of;
@@ -14,6 +15,7 @@ use crate::walk::RECORD;
 use crate::walk::measure_body;
 use lingua::errors::BODY_TOO_LARGE;
 use lingua::errors::BOOLEAN_EXPECTED;
+use lingua::errors::LAST_ATTRIBUTE;
 use lingua::errors::LIST_EXPECTED;
 use lingua::errors::NO_SUCH_ATTRIBUTE;
 use lingua::errors::RECORD_EXPECTED;
@@ -21,9 +23,10 @@ use lingua::sizes::BODY_BYTES;
 use lingua::sizes::LIST_PLACES;
 ghost use mathlib.Core.Path.{_≡_};
 ghost use Rattle.lingua.specs.Body.{Body, isBoolean};
-ghost use Rattle.lingua.specs.Operation.{negation, make-record, select, make-list, top, pop, unaryBody};
+ghost use Rattle.lingua.specs.Operation.{negation, make-record, select, make-list, top, pop, remove, unaryBody};
+ghost use Rattle.lingua.specs.Typing.{unarySecond};
 ghost use Rattle.body.specs.Encode.{Holds, Held};
-ghost use Rattle.body.specs.Typed.{Types, unaryOffset};
+ghost use Rattle.body.specs.Typed.{Types};
 
 // What a test and a yoke are asked.
 pub fn is_boolean(x: [u8; BODY_BYTES]) -> bool
@@ -66,7 +69,7 @@ pub fn make_record(n: u8, x: [u8; BODY_BYTES]) -> Typed
 // Kind 18.
 pub fn select(n: u8, x: [u8; BODY_BYTES]) -> Typed
     requires { ⌜ Held x ⌝ }
-    ensures { λ r. ⌜ ((b : Body) → Holds x b → Types r (unaryBody (select n) b) (unaryOffset (select n) b)) ⌝ }
+    ensures { λ r. ⌜ ((b : Body) → Holds x b → Types r (unaryBody (select n) b) (unarySecond (select n) b)) ⌝ }
 {
     if x[0] != RECORD {
         return failed(RECORD_EXPECTED);
@@ -136,5 +139,33 @@ pub fn pop(x: [u8; BODY_BYTES]) -> Typed
         body: x,
         cells: m.cells,
         offset: 0,
+    }
+}
+
+// Kind 26. A record that lacks the attribute comes before one that has no other. The offset is that in the operand.
+pub fn remove(n: u8, x: [u8; BODY_BYTES]) -> Typed
+    requires { ⌜ Held x ⌝ }
+    ensures { λ r. ⌜ ((b : Body) → Holds x b → Types r (unaryBody (remove n) b) (unarySecond (remove n) b)) ⌝ }
+{
+    if x[0] != RECORD {
+        return failed(RECORD_EXPECTED);
+    }
+    let count = x[1];
+    let f = find(x, n);
+    let there = f.found;
+    let offset = f.offset;
+    if !there {
+        return failed(NO_SUCH_ATTRIBUTE);
+    }
+    if count < 2 {
+        return failed(LAST_ATTRIBUTE);
+    }
+    let body = cut(x, f.at);
+    let m = measure_body(body);
+    Typed {
+        error: 0,
+        body: body,
+        cells: m.cells,
+        offset: offset,
     }
 }

@@ -1,8 +1,9 @@
 -- `body::binary::change` meets its contract: the attribute's body is compared with the new value's. Assumes nothing.
 use mathlib.Core.Path.{sym, ap, _∙_}
 use Rattle.lingua.specs.Operation.{binaryBody, change}
+use Rattle.lingua.specs.Typing.{offsetAmong, offsetIn}
 use borrow.Author.Tests.{not-true, not-false}
-use Rattle.body.specs.Typed.{binaryOffset, offsetIn}
+use Rattle.body.specs.Typed.{binaryOffset}
 use Rattle.body.proofs.Tags.{is-record, not-record, held-record}
 use Rattle.body.proofs.Answers.{failing, given}
 use Rattle.body.proofs.Halves.{change-other, change-missing, change-unlike, change-like}
@@ -88,7 +89,7 @@ returns-4 c = λ b d h k.
     let w = is-record (args .t2) b h (if1 .left) in
     let g = got (args .t2) (args .n) (find .result) (find .ensures) (w .attributes) (w .holds) (not-false (find .result .found) (if2 .left)) in
     let s = same .ensures (g .body) d (holds-got (args .t2) (args .n) (find .result) (w .attributes) g (body-at .result) (body-at .ensures)) k in
-    let f = g .is-offset ∙ sym (ap (offsetIn (args .n)) (w .is)) in
+    let f = g .is-offset ∙ sym (ap (offsetAmong (args .n)) (w .is)) in
     given (args .t2) (c .measure-body .result .cells) (find .result .offset) b (binaryOffset o b d) h
     (c .measure-body .ensures b h .is-cells) f (binaryBody o b d)
     (change-like (args .n) b d (g .body) (w .attributes) (w .is) (g .is) (sym s ∙ not-false (same .result) (c .before .if3 .left)))

@@ -3,7 +3,7 @@ use mathlib.Core.Path.{_≡_, _∙_}
 use Prim.Native.Nat.{_-_}
 use native.Mathlib.Omega.{arith}
 use lib.ListN.{length}
-use Rattle.body.specs.Encode.{bytes}
+use Rattle.lingua.specs.Encode.{bytes}
 use Rattle.body.proofs.Places.{at-below, at-end}
 use Rattle.body.proofs.Making.{part-taken, simple-taken}
 use borrow.Author.Needs.{needs}

@@ -30,6 +30,9 @@ enum-told-5 c = search needs
 enum-told-6 : tie.Need-enum-told-6
 enum-told-6 c = search needs
 
+enum-told-7 : tie.Need-enum-told-7
+enum-told-7 c = search needs
+
 returns-2 : tie.Need-returns-2
 returns-2 c = λ b h. no-tag _ _
 
@@ -48,6 +51,9 @@ returns-6 c = λ b h. no-tag _ _
 returns-7 : tie.Need-returns-7
 returns-7 c = λ b h. no-tag _ _
 
+returns-8 : tie.Need-returns-8
+returns-8 c = λ b h. no-tag _ _
+
 pub simple-unary-spec : {M : Type 1} → statement M
 simple-unary-spec =
     tie.close
@@ -60,9 +66,11 @@ simple-unary-spec =
     enum-told-4
     enum-told-5
     enum-told-6
+    enum-told-7
     returns-2
     returns-3
     returns-4
     returns-5
     returns-6
-    returns-7)
+    returns-7
+    returns-8)

@@ -1,8 +1,8 @@
 use denote.Ref.{now}
 use borrow.Author.Needs.{needs}
-use Rattle.lingua.specs.Operation.{negation, make-record, select, make-list, top, pop}
+use Rattle.lingua.specs.Operation.{negation, make-record, select, make-list, top, pop, remove}
 use Rattle.lingua.specs.Operations.{unaryMeaning}
-use Rattle.body.specs.Typed.{unaryOffset}
+use Rattle.lingua.specs.Typing.{unarySecond}
 use Rattle.body.proofs.Offsets.{unary-is}
 use Rattle.body.proofs.operation.unary_half.Statement.{statement}
 use Rattle.body.proofs.operation.unary_half.Tie as tie
@@ -43,29 +43,39 @@ enum-told-4 c = search needs
 pop-requires : tie.Need-pop-requires
 pop-requires c κs = search needs
 
+enum-known-o-3 : tie.Need-enum-known-o-3
+enum-known-o-3 c = search needs
+
+remove-requires : tie.Need-remove-requires
+remove-requires c κs = search needs
+
 returns : tie.Need-returns
-unfolding unaryMeaning unaryOffset
+unfolding unaryMeaning unarySecond
 returns c = λ b h. rw (c .before .enum-told .given .1) (unary-is _ (negation) _ b h (c .negation .ensures b h))
 
 returns-2 : tie.Need-returns-2
-unfolding unaryMeaning unaryOffset
+unfolding unaryMeaning unarySecond
 returns-2 c = λ b h. rw (c .before .before .o .given .1) (unary-is _ (make-record _) _ b h (c .make-record .ensures b h))
 
 returns-3 : tie.Need-returns-3
-unfolding unaryMeaning unaryOffset
+unfolding unaryMeaning unarySecond
 returns-3 c = λ b h. rw (c .before .before .o2 .given .1) (unary-is _ (select _) _ b h (c .select .ensures b h))
 
 returns-4 : tie.Need-returns-4
-unfolding unaryMeaning unaryOffset
+unfolding unaryMeaning unarySecond
 returns-4 c = λ b h. rw (c .before .enum-told2 .given .1) (unary-is _ (make-list) _ b h (c .make-list .ensures b h))
 
 returns-5 : tie.Need-returns-5
-unfolding unaryMeaning unaryOffset
+unfolding unaryMeaning unarySecond
 returns-5 c = λ b h. rw (c .before .enum-told3 .given .1) (unary-is _ (top) _ b h (c .top .ensures b h))
 
 returns-6 : tie.Need-returns-6
-unfolding unaryMeaning unaryOffset
+unfolding unaryMeaning unarySecond
 returns-6 c = λ b h. rw (c .before .enum-told4 .given .1) (unary-is _ (pop) _ b h (c .pop .ensures b h))
+
+returns-7 : tie.Need-returns-7
+unfolding unaryMeaning unarySecond
+returns-7 c = λ b h. rw (c .before .before .o3 .given .1) (unary-is _ (remove _) _ b h (c .remove .ensures b h))
 
 pub unary-half-spec : {M : Type 1} → statement M
 unary-half-spec =
@@ -83,9 +93,12 @@ unary-half-spec =
     top-requires
     enum-told-4
     pop-requires
+    enum-known-o-3
+    remove-requires
     returns
     returns-2
     returns-3
     returns-4
     returns-5
-    returns-6)
+    returns-6
+    returns-7)

@@ -1,8 +1,8 @@
 -- `body::unary::select` meets its contract: what is found stands at its place, with its offset. Assumes nothing.
 use mathlib.Core.Path.{sym, ap, _∙_}
 use Rattle.lingua.specs.Operation.{unaryBody, select}
+use Rattle.lingua.specs.Typing.{offsetAmong, offsetIn, unarySecond}
 use borrow.Author.Tests.{not-true, not-false}
-use Rattle.body.specs.Typed.{unaryOffset, offsetIn}
 use Rattle.body.proofs.Tags.{is-record, not-record, held-record}
 use Rattle.body.proofs.Answers.{failing, given}
 use Rattle.body.proofs.Halves.{select-other, select-missing, select-found}
@@ -22,7 +22,7 @@ returns c = λ b h.
     let args = c .before .before .args in
     let o = select (args .n) in
     failing (c .failed .result) 12 (c .failed .ensures) (unaryBody o b)
-    (select-other (args .n) b (not-record (args .t2) b h (c .before .if1 .taken))) (unaryOffset o b)
+    (select-other (args .n) b (not-record (args .t2) b h (c .before .if1 .taken))) (unarySecond o b)
 
 find-requires : tie.Need-find-requires
 find-requires c κs = held-record (c .before .args .t2) (c .before .pre) (c .if1 .left)
@@ -39,7 +39,7 @@ returns-2 c = λ b h.
     let v = is-record (args .t2) b h (if1 .left) in
     let e = missing (args .t2) (args .n) (find .result) (find .ensures) (v .attributes) (v .holds) (not-true (find .result .found) (c .before .if2 .taken)) in
     failing (c .failed2 .result) 13 (c .failed2 .ensures) (unaryBody o b)
-    (select-missing (args .n) b (v .attributes) (v .is) e) (unaryOffset o b)
+    (select-missing (args .n) b (v .attributes) (v .is) e) (unarySecond o b)
 
 body-at-requires : tie.Need-body-at-requires
 body-at-requires c κs =
@@ -63,7 +63,7 @@ measure-body-requires c κs =
     (c .body-at .result) (c .body-at .ensures)
 
 returns-3 : tie.Need-returns-3
-unfolding unaryOffset offsetIn
+unfolding unarySecond offsetIn
 returns-3 c = λ b h.
     let args = c .before .before .before .before .before .before .args in
     let if1 = c .before .before .before .before .before .if1 in
@@ -74,8 +74,8 @@ returns-3 c = λ b h.
     let w = is-record (args .t2) b h (if1 .left) in
     let g = got (args .t2) (args .n) (find .result) (find .ensures) (w .attributes) (w .holds) (not-false (find .result .found) (if2 .left)) in
     let k = holds-got (args .t2) (args .n) (find .result) (w .attributes) g (body-at .result) (body-at .ensures) in
-    let f = g .is-offset ∙ sym (ap (offsetIn (args .n)) (w .is)) in
-    given (body-at .result) (c .measure-body .result .cells) (find .result .offset) (g .body) (unaryOffset o b) k
+    let f = g .is-offset ∙ sym (ap (offsetAmong (args .n)) (w .is)) in
+    given (body-at .result) (c .measure-body .result .cells) (find .result .offset) (g .body) (unarySecond o b) k
     (c .measure-body .ensures (g .body) k .is-cells) f (unaryBody o b)
     (select-found (args .n) b (g .body) (w .attributes) (w .is) (g .is))
 
