@@ -1,4 +1,4 @@
--- What the moves of cells make of records: the results of select, change and expand. Assumes nothing.
+-- What the moves of cells make of records: the results of select, change, expand and remove. Assumes nothing.
 use mathlib.Core.Path.{_≡_, refl, sym, ap, ap₂, _∙_}
 use mathlib.Core.Bool.{false}
 use mathlib.Core.List.{List, _++_}
@@ -8,16 +8,17 @@ use native.Mathlib.Omega.{arith}
 use lib.ListN.{length, take, drop, length-take, length-drop}
 use lib.Seq.{paste}
 use lib.IntN.{ℤ}
-use Rattle.lingua.specs.Body.{Body, Attributes, record-of, size, sizes, attributeBody, attributeOffset, insertAttribute}
+use Rattle.lingua.specs.Body.{Body, Attributes, record-of, size, sizes, attributeBody, attributeOffset, insertAttribute, removeAttribute}
 use Rattle.lingua.specs.Value.{Value, fields, fit-fields, asFields, cellsOf, fieldCells}
-use Rattle.lingua.specs.Operation.{select, change, expand, present}
-use Rattle.lingua.specs.Compute.{fieldValue, changeField, insertField, unaryValue, binaryValue}
+use Rattle.lingua.specs.Operation.{select, change, expand, remove, present}
+use Rattle.lingua.specs.Compute.{fieldValue, changeField, insertField, removeField, unaryValue, binaryValue}
 use Rattle.laws.specs.Halves.{attribute-within}
 use Rattle.laws.specs.Lengths.{length-cells}
-use Rattle.laws.specs.Records.{select-cells, select-fits, change-cells, change-fits, expand-cells, expand-fits, sizes-insert}
+use Rattle.laws.specs.Records.{select-cells, select-fits, change-cells, change-fits, remove-cells, remove-fits, expand-cells, expand-fits, sizes-insert}
+use Rattle.laws.specs.Removal.{removed-fewer}
 use Rattle.laws.specs.Sound.{fit-record}
 use Rattle.cells.specs.Stack.{Lies, Holds}
-use Rattle.cells.proofs.Windows.{take-part, paste-part, paste-front, insert-part}
+use Rattle.cells.proofs.Windows.{take-part, paste-part, paste-front, insert-part, remove-part}
 
 -- a record's cells, and its values
 record-cells : {s : List ℤ} {fs : Attributes} {x : Value} → Lies s 0 (record-of fs) x → take (sizes fs) s ≡ fieldCells fs (asFields x)
@@ -95,5 +96,28 @@ expand-law s moved last n fs c x y at w m e o t z a b r h k p q =
             ∙ sym (ap (λ (i : ℕ). take i (fieldCells fs xs) ++ cellsOf c y ++ drop i (fieldCells fs xs)) o)
             ∙ sym (expand-cells hs (k .fit) n e);
         fit = fit-fields (expand-fits hs (k .fit) n e);
+      };
+    }
+
+pub remove-law : (s last : List ℤ) (n : ℕ) (fs : Attributes) (d : Body) (x : Value) (at w m : ℕ) → attributeBody n fs ≡ some d → attributeOffset n fs ≡ at
+    → sizes fs ≡ m → size d ≡ w → at + w ≤ m → m ≤ length s → Lies s 0 (record-of fs) x → last ≡ paste s at (drop (at + w) s) (m - (at + w))
+    → Holds last (record-of (removeAttribute n fs)) (unaryValue (remove n) x)
+unfolding unaryValue size cellsOf asFields
+remove-law s last n fs d x at w m e o t z a b h p =
+    let hs = fit-record (h .fit) in
+    let xs = asFields x in
+    let gs = removeAttribute n fs in
+    record {
+      value = fields (removeField n xs);
+      is = refl;
+      lies = record {
+        cells =
+            ap (λ (l : List ℤ). take (sizes gs) l) p
+            ∙ ap (λ (j : ℕ). take j (paste s at (drop (at + w) s) (m - (at + w)))) (let g : sizes gs ≡ m - w = omega (arith, removed-fewer n fs d e .fewer-cells, t, z) in g)
+            ∙ remove-part s at w m a b
+            ∙ ap (λ (l : List ℤ). take at l ++ drop (at + w) l) (ap (λ (i : ℕ). take i s) (sym t) ∙ record-cells h)
+            ∙ sym (ap₂ (λ (i j : ℕ). take i (fieldCells fs xs) ++ drop (i + j) (fieldCells fs xs)) o z)
+            ∙ sym (remove-cells hs n d e);
+        fit = fit-fields (remove-fits hs n d e);
       };
     }

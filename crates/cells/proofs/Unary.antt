@@ -6,21 +6,22 @@ use Prim.Native.Nat.{ℕ, _+_, _-_, _*_, _/_, _≤_}
 use native.Mathlib.Omega.{arith}
 use lib.IntN.{ℤ}
 use Rattle.lingua.specs.Numbers.{body-cells, list-places}
-use Rattle.lingua.specs.Body.{Body, boolean, list-of, record-of, Attributes, size, attributesOf, attributeBody, attributeOffset}
+use Rattle.lingua.specs.Body.{Body, boolean, list-of, record-of, Attributes, size, sizes, attributesOf, attributeBody, attributeOffset, removeAttribute}
 use Rattle.lingua.specs.Value.{Value}
-use Rattle.lingua.specs.Operation.{Unary, negation, make-record, select, make-list, top, pop}
+use Rattle.lingua.specs.Operation.{Unary, negation, make-record, select, make-list, top, pop, remove}
 use Rattle.lingua.specs.Compute.{unaryValue}
 use Rattle.lingua.specs.Typing.{offsetIn, unarySecond}
 use Rattle.lingua.specs.Operations.{unaryMeaning}
 use Rattle.lingua.specs.declared.operations.UnaryOperation.{UnaryOperation}
-use Rattle.laws.specs.Halves.{unary-small, negation-body, make-record-body, select-body, make-list-body, top-body, pop-body, attribute-within}
+use Rattle.laws.specs.Halves.{unary-small, negation-body, make-record-body, select-body, make-list-body, top-body, pop-body, remove-body, attribute-within}
+use Rattle.laws.specs.Removal.{removed-fewer}
 use Rattle.cells.specs.Stack.{Lies, Holds, Leaves, Counted}
 use Rattle.cells.specs.Operands.{Operand, HasOperand}
 use Rattle.cells.proofs.Elements.{leaves-answer, list-size}
 use Rattle.cells.proofs.Operands.{lies-as, leaves-as, lies-counted, make-record-law}
 
-offset-of : {b : Body} {offset : ℕ} {fs : Attributes} (n : ℕ) → b ≡ record-of fs → unarySecond (select n) b ≡ offset → attributeOffset n fs ≡ offset
-unfolding unarySecond offsetIn attributesOf
+offset-of : {b : Body} {offset : ℕ} {fs : Attributes} (n : ℕ) → b ≡ record-of fs → offsetIn n b ≡ offset → attributeOffset n fs ≡ offset
+unfolding offsetIn attributesOf
 offset-of {b} {offset} n q e = subst (λ (c : Body). offsetIn n c ≡ offset) q e
 
 -- an element's cells, from the list's
@@ -30,7 +31,7 @@ element-cells c q e = omega (arith, ap size q, list-size c, e)
 module _ {s : List ℤ} {cells result offset : ℕ} {b d : Body} {x : Value} where
   -- ---- what is asked
   pub selected-room : (n : ℕ) → Operand (select n) s cells result offset b d x → offset + result ≤ cells
-  unfolding size
+  unfolding size unarySecond
   selected-room n h =
       let p = select-body {n = n} (h .half) in
       omega (arith, attribute-within n (p .attributes) d (p .has), offset-of n (p .is) (h .offset-is), h .result-is, h .cells-are, ap size (p .is))
@@ -51,6 +52,24 @@ module _ {s : List ℤ} {cells result offset : ℕ} {b d : Body} {x : Value} whe
       let p = pop-body (h .half) in
       lies-counted ((cells - 1) / 8) (element-cells (p .0) (p .1) (h .cells-are)) (omega (arith, ap size (p .1), h .small)) (lies-as (p .1) (h .lies))
 
+  -- the record's cells are the result's and the removed attribute's
+  removed-cells : (n : ℕ) (h : Operand (remove n) s cells result offset b d x) → let p = remove-body {n = n} (h .half) in (sizes (p .attributes) ≡ cells) × (result + size (p .removed) ≡ cells)
+  unfolding size
+  removed-cells n h =
+      let p = remove-body {n = n} (h .half) in
+      let r = removed-fewer n (p .attributes) (p .removed) (p .has) in
+      (omega (arith, ap size (p .is), h .cells-are), omega (arith, r .fewer-cells, ap size (p .is), ap size (p .result), h .cells-are, h .result-is))
+
+  pub removed-less : (n : ℕ) → Operand (remove n) s cells result offset b d x → result ≤ cells
+  removed-less n h = omega (arith, removed-cells n h .1)
+
+  pub removed-room : (n : ℕ) → Operand (remove n) s cells result offset b d x → offset + (cells - result) ≤ cells
+  unfolding unarySecond
+  removed-room n h =
+      let p = remove-body {n = n} (h .half) in
+      let q = removed-cells n h in
+      omega (arith, attribute-within n (p .attributes) (p .removed) (p .has), offset-of n (p .is) (h .offset-is), q .0, q .1)
+
   -- ---- what is left
   module _ (last : List ℤ) where
     pub negation-leaves : ((v : Value) → Lies s 0 boolean v → Holds last boolean (unaryValue negation v)) → Operand negation s cells result offset b d x → Leaves 0 last d (unaryValue negation x)
@@ -58,6 +77,7 @@ module _ {s : List ℤ} {cells result offset : ℕ} {b d : Body} {x : Value} whe
 
     pub select-leaves : (n : ℕ) → ((m : ℕ) (fs : Attributes) (e : Body) (v : Value) → attributeBody m fs ≡ some e → attributeOffset m fs ≡ offset → size e ≡ result
         → Lies s 0 (record-of fs) v → Holds last e (unaryValue (select m) v)) → Operand (select n) s cells result offset b d x → Leaves 0 last d (unaryValue (select n) x)
+    unfolding unarySecond
     select-leaves n f h =
         let p = select-body {n = n} (h .half) in
         leaves-answer (f n (p .attributes) d x (p .has) (offset-of n (p .is) (h .offset-is)) (h .result-is) (lies-as (p .is) (h .lies)))
@@ -75,6 +95,15 @@ module _ {s : List ℤ} {cells result offset : ℕ} {b d : Body} {x : Value} whe
     pop-leaves r f h =
         let p = pop-body (h .half) in
         leaves-as (p .2) (f (p .0) x (element-cells (p .0) (p .1) (h .cells-are)) (lies-as (p .1) (h .lies)))
+
+    pub remove-leaves : (n : ℕ) → ((m : ℕ) (fs : Attributes) (e : Body) (v : Value) → attributeBody m fs ≡ some e → attributeOffset m fs ≡ offset → sizes fs ≡ cells → size e ≡ cells - result
+        → Lies s 0 (record-of fs) v → Holds last (record-of (removeAttribute m fs)) (unaryValue (remove m) v)) → Operand (remove n) s cells result offset b d x → Leaves 0 last d (unaryValue (remove n) x)
+    unfolding unarySecond
+    remove-leaves n f h =
+        let p = remove-body {n = n} (h .half) in
+        let q = removed-cells n h in
+        let w : size (p .removed) ≡ cells - result = omega (arith, q .1) in
+        leaves-as (p .result) (leaves-answer (f n (p .attributes) (p .removed) x (p .has) (offset-of n (p .is) (h .offset-is)) (q .0) w (lies-as (p .is) (h .lies))))
 
   pub make-record-leaves : (n : ℕ) → Operand (make-record n) s cells result offset b d x → Leaves 0 s d (unaryValue (make-record n) x)
   make-record-leaves n h = leaves-as (make-record-body {n = n} (h .half)) (leaves-answer (make-record-law n (h .lies)))

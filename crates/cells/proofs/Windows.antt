@@ -1,5 +1,5 @@
 -- Parts of a list and pastes into it, as seen from its first elements. Assumes nothing.
-use mathlib.Core.Path.{_≡_, sym, ap, _∙_}
+use mathlib.Core.Path.{_≡_, sym, ap, ap₂, _∙_}
 use mathlib.Core.List.{List, [], _∷_, _++_}
 use Prim.Native.Nat.{ℕ, zero, suc, _+_, _-_, _≤_}
 use native.Mathlib.Nat.{sub-zero}
@@ -40,6 +40,16 @@ module _ {A : Type 0} where
       ∙ ap (λ (l : List A). drop (k - (at + n)) l) (drop-paste d at s n p q)
       ∙ drop-drop (k - (at + n)) (at + n) d
       ∙ ap (λ (j : ℕ). drop j d) (let e : (at + n) + (k - (at + n)) ≡ k = omega arith in e)
+
+  -- the elements behind the n from at on moved down to them: a removal among the first m
+  pub remove-part : (d : List A) (at n m : ℕ) → at + n ≤ m → m ≤ length d
+      → take (m - n) (paste d at (drop (at + n) d) (m - (at + n))) ≡ take at (take m d) ++ drop (at + n) (take m d)
+  remove-part d at n m h c =
+      let s = drop (at + n) d in
+      let k = m - (at + n) in
+      ap (λ (j : ℕ). take j (paste d at s k)) (let e : m - n ≡ at + k = omega arith in e)
+      ∙ take-paste d at s k (omega arith) (omega (arith, length-drop (at + n) d))
+      ∙ ap₂ (λ (x y : List A). x ++ y) (sym (take-take at m d (omega arith))) (sym (drop-take (at + n) m d))
 
   -- the elements from at on moved up by n, and n others in between: an insertion among the first m
   pub insert-part : (d : List A) (at n m k : ℕ) → at ≤ m → m + n ≤ k → k + n ≤ length d

@@ -45,6 +45,7 @@ pub fn unary(
         UnaryOperation::MakeList => lists::make_list(stack, cells),
         UnaryOperation::Top => return lists::top(stack, result),
         UnaryOperation::Pop => return lists::pop(stack, (cells - 1) / LIST_PLACES),
+        UnaryOperation::Remove(_) => records::remove(stack, cells, offset, cells - result),
     }
     NO_ERROR
 }

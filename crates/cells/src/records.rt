@@ -1,4 +1,4 @@
-// Records on the stack: an attribute selected, changed or added, given where its cells begin.
+// Records on the stack: an attribute selected, changed, added or removed, given where its cells begin.
 use crate::parts;
 use lingua::sizes::BODY_CELLS;
 ghost use mathlib.Core.Path.{_≡_};
@@ -7,9 +7,9 @@ ghost use mathlib.Core.Option.{some};
 ghost use Prim.Native.Nat.{ℕ, _+_, _≤_};
 ghost use lib.ListN.{length};
 ghost use Rattle.lingua.specs.Numbers.{body-cells};
-ghost use Rattle.lingua.specs.Body.{Body, Attributes, record-of, size, sizes, attributeBody, attributeOffset, insertAttribute};
+ghost use Rattle.lingua.specs.Body.{Body, Attributes, record-of, size, sizes, attributeBody, attributeOffset, insertAttribute, removeAttribute};
 ghost use Rattle.lingua.specs.Value.{Value};
-ghost use Rattle.lingua.specs.Operation.{select, change, expand, present};
+ghost use Rattle.lingua.specs.Operation.{select, change, expand, remove, present};
 ghost use Rattle.lingua.specs.Compute.{unaryValue, binaryValue};
 ghost use Rattle.cells.specs.Stack.{first-place, second-place, Lies, Holds};
 
@@ -44,4 +44,16 @@ pub fn expand(stack: &mut [i64], total: usize, offset: usize, width: usize)
     let next = offset + width;
     parts::copy_up(stack, offset, next, total - offset);
     parts::copy_down(stack, BODY_CELLS, offset, width);
+}
+
+// The attributes above the removed one move down by its size.
+pub fn remove(stack: &mut [i64], total: usize, offset: usize, width: usize)
+    requires { ⌜ offset + width ≤ total ⌝ }
+    requires { ⌜ total ≤ length (now stack) ⌝ }
+    ensures { λ _. ⌜ ((n : ℕ) (fs : Attributes) (d : Body) (x : Value) → attributeBody n fs ≡ some d → attributeOffset n fs ≡ offset
+        → sizes fs ≡ total → size d ≡ width → Lies (now (stack .entry)) first-place (record-of fs) x
+        → Holds (now (stack .exit)) (record-of (removeAttribute n fs)) (unaryValue (remove n) x)) ⌝ }
+{
+    let next = offset + width;
+    parts::copy_down(stack, next, offset, total - next);
 }

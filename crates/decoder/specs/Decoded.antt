@@ -5,7 +5,7 @@ use mathlib.Core.List.{List, [], _∷_}
 use mathlib.Core.Option.{Option, some, none}
 use Prim.Native.Nat.{ℕ, min}
 use Rattle.lingua.specs.Body.{Body, boolean, number, word}
-use Rattle.lingua.specs.Operation.{Unary, negation, make-record, select, make-list, top, pop, Binary, add, subtract, multiply, divide, less, equal, glue, expand, change, push}
+use Rattle.lingua.specs.Operation.{Unary, negation, make-record, select, make-list, top, pop, remove, Binary, add, subtract, multiply, divide, less, equal, glue, expand, change, push}
 use Rattle.lingua.specs.Operations.{unaryMeaning, binaryMeaning}
 use Rattle.lingua.specs.Expression.{Connective, conjunction, disjunction}
 use Rattle.lingua.specs.Rows.{kindAt, wideAt, numberAt, bytesAt, RowKind, numbered, usedOf, TypeRow, simple-type, list-type, record-type, expand-type, unknown-type, typeKinds, typeAt, Constant, boolean-constant, number-constant, word-constant, ExpressionRow, constant-row, variable-row, current-row, unary-row, binary-row, lazy-row, choice-row, all-list-row, unknown-expression, expressionKinds, expressionAt, InstructionRow, skip-row, assign-row, set-yoke-row, sequence-row, branch-row, loop-row, handle-row, unknown-instruction, instructionKinds, instructionAt}
@@ -96,6 +96,7 @@ unaryNaming (select n) = names-one select n (λ m. refl)
 unaryNaming make-list = names-none refl
 unaryNaming top = names-none refl
 unaryNaming pop = names-none refl
+unaryNaming (remove n) = names-one remove n (λ m. refl)
 
 unfoldable pub binaryNaming : (o : Binary) → Naming binaryAttribute o
 unfolding binaryAttribute

@@ -131,6 +131,7 @@ pub fn expression_at(rows: &[u8], i: usize) -> DecodedExpression
         23 => DecodedExpression::Known(2, ExpressionRow::Unary(Unary::Pop, a)),
         24 => DecodedExpression::Known(0, ExpressionRow::Current),
         25 => DecodedExpression::Known(2, ExpressionRow::AllList(a)),
+        26 => DecodedExpression::Known(4, ExpressionRow::Unary(Unary::Remove(byte(b)), a)),
         _ => DecodedExpression::Unknown,
     }
 }

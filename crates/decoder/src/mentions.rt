@@ -157,6 +157,7 @@ fn unary_attributes(o: UnaryOperation) -> UpToThree
     match o {
         UnaryOperation::MakeRecord(n) => one(n as usize),
         UnaryOperation::Select(n) => one(n as usize),
+        UnaryOperation::Remove(n) => one(n as usize),
         _ => none(),
     }
 }

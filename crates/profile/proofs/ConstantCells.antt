@@ -14,11 +14,12 @@ use borrow.Author.Tests.{eq-eqb, ne-eqb}
 use Rattle.lingua.specs.Numbers.{expression-section, word-length, body-bytes}
 use Rattle.lingua.specs.Body.{Body, boolean, number, word, size, nodes}
 use Rattle.lingua.specs.Value.{asTruth, asWhole, asText, isCharacter, isText, bit, packed, cellsOf, pad, Composite}
+use Rattle.lingua.specs.Encode.{bytes, encoded}
 use Rattle.lingua.specs.Rows.{wideAt, numberAt, bytesAt, untilZero, constantValue, ExpressionRow, constant-row, variable-row, current-row, unary-row, binary-row, lazy-row, choice-row, all-list-row, unknown-expression, expressionAt, expressionRow}
 use Rattle.lingua.specs.Rules.{paddedBy, constantFits, rowConstantFits}
 use Rattle.laws.specs.Outcomes.{and-right, false-is-true}
 use Rattle.laws.specs.Sound.{fit-word}
-use Rattle.body.specs.Encode.{bytes, encoded, Holds}
+use Rattle.body.specs.Encode.{Holds}
 use Rattle.safety.specs.Constants.{Fitting}
 use Rattle.decoder.specs.Tables.{IsTable}
 use Rattle.decoder.specs.Decoded.{simpleMeaning, constantMeaning, expressionMeaning, expressionDecoded, inBytes, ExpressionSays}

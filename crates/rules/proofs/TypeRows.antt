@@ -30,7 +30,7 @@ use Rattle.decoder.specs.declared.tables.Table.{Table}
 use Rattle.body.specs.Encode.{Holds, Held}
 use Rattle.body.specs.Typed.{Types}
 use Rattle.body.specs.declared.typed.Typed.{Typed}
-use Rattle.body.proofs.Bytes.{length-encoded}
+use Rattle.laws.specs.Encoded.{length-encoded}
 use Rattle.body.proofs.Results.{Gives, gives, fails}
 use Rattle.rules.specs.Types.{bodyAt, HeldAt, LooksUp, Answers, TypesReady, BodiesBelow}
 use Rattle.rules.specs.Unrolled.{lower-is, type-unrolled}

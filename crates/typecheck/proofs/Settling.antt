@@ -10,10 +10,11 @@ use Rattle.lingua.specs.Errors.{boolean-expected, no-coherence, yoke-expected}
 use Rattle.lingua.specs.Outcome.{Outcome, ok, fail, allAnswers, _>>=_, _>>_}
 use Rattle.lingua.specs.Body.{Body, boolean, size, nodes, isBoolean, sameBody}
 use Rattle.lingua.specs.Value.{pad}
+use Rattle.lingua.specs.Encode.{bytes, encoded}
 use Rattle.lingua.specs.Expression.{Expression, yoke, assign}
 use Rattle.lingua.specs.Trees.{tabulateFrom, tabulate, expressionTree, yokeTree}
 use Rattle.lingua.specs.Typing.{TypeError, typeError, Entry, Typed, Bodies, check, checkYoke, checkTest, checkInstruction, joined, placed}
-use Rattle.body.specs.Encode.{bytes, encoded, Holds}
+use Rattle.body.specs.Encode.{Holds}
 use Rattle.typecheck.specs.declared.leaves.Checked.{Checked}
 use Rattle.typecheck.specs.declared.verdicts.Verdict.{Verdict}
 use Rattle.typecheck.specs.Check.{Gives}

@@ -2,8 +2,8 @@
 -- operation's own function ensures. Assumes nothing.
 use native.Mathlib.Omega.{arith}
 use Rattle.lingua.specs.Operations.{unaryMeaning}
-use Rattle.lingua.specs.declared.operations.UnaryOperation.the-variants.{Negation, MakeRecord, Select, MakeList, Top, Pop}
-use Rattle.cells.proofs.Unary.{selected-room, listed-room, top-counted, pop-some, pop-counted, negation-leaves, make-record-leaves, select-leaves, make-list-leaves, top-leaves, pop-leaves, named, has-named, leaves-named}
+use Rattle.lingua.specs.declared.operations.UnaryOperation.the-variants.{Negation, MakeRecord, Select, MakeList, Top, Pop, Remove}
+use Rattle.cells.proofs.Unary.{selected-room, listed-room, top-counted, pop-some, pop-counted, removed-less, removed-room, negation-leaves, make-record-leaves, select-leaves, make-list-leaves, top-leaves, pop-leaves, remove-leaves, named, has-named, leaves-named}
 use borrow.Author.Needs.{needs}
 use Rattle.cells.proofs.apply.unary.Statement.{statement}
 use Rattle.cells.proofs.apply.unary.Tie as tie
@@ -75,6 +75,21 @@ unfolding unaryMeaning
 returns-2 c = λ b d x h.
     leaves-named (named Pop (c .before .before .before .enum-told6 .given .1)) (pop-leaves (c .before .pop .last .0) (c .before .pop .result) (c .before .pop .ensures)) h
 
+enum-told-7 : tie.Need-enum-told-7
+enum-told-7 c = search needs
+
+sub-remove : tie.Need-sub-remove
+unfolding unaryMeaning
+sub-remove c =
+    let h = has-named (named (Remove (c .before .enum-told7 .given .0 .0)) (c .before .enum-told7 .given .1)) (c .before .before .before .pre .0) in
+    removed-less (c .before .enum-told7 .given .0 .0) (h .operand)
+
+remove-requires : tie.Need-remove-requires
+unfolding unaryMeaning
+remove-requires c κs =
+    let h = has-named (named (Remove (c .before .enum-told7 .given .0 .0)) (c .before .enum-told7 .given .1)) (c .before .before .before .pre .0) in
+    (removed-room (c .before .enum-told7 .given .0 .0) (h .operand), omega (arith, h .operand .cells-are, h .operand .small))
+
 same-length-3 : tie.Need-same-length-3
 same-length-3 c = search needs
 
@@ -104,6 +119,14 @@ unfolding unaryMeaning
 returns-6 c = λ b d x h.
     leaves-named (named MakeList (c .before .before .before .enum-told4 .given .1)) (make-list-leaves (c .before .make-list .last .0) (c .before .make-list .ensures)) h
 
+same-length-6 : tie.Need-same-length-6
+same-length-6 c = search needs
+
+returns-7 : tie.Need-returns-7
+unfolding unaryMeaning
+returns-7 c = λ b d x h.
+    leaves-named (named (Remove (c .before .before .before .enum-told7 .given .0 .0)) (c .before .before .before .enum-told7 .given .1)) (remove-leaves (c .before .remove .last .0) (c .before .before .before .enum-told7 .given .0 .0) (c .before .remove .ensures)) h
+
 pub unary-spec : {M : Type 1} → statement M
 unary-spec =
     tie.close
@@ -124,10 +147,15 @@ unary-spec =
     pop-requires
     same-length-2
     returns-2
+    enum-told-7
+    sub-remove
+    remove-requires
     same-length-3
     returns-3
     returns-4
     same-length-4
     returns-5
     same-length-5
-    returns-6)
+    returns-6
+    same-length-6
+    returns-7)

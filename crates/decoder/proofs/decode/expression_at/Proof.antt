@@ -38,6 +38,9 @@ byte-requires-3 c κs = search needs
 byte-requires-4 : tie.Need-byte-requires-4
 byte-requires-4 c κs = search needs
 
+byte-requires-5 : tie.Need-byte-requires-5
+byte-requires-5 c κs = search needs
+
 returns : tie.Need-returns
 unfolding numbered expressionKinds expressionDecoded expressionMeaning constantMeaning expressionUses inBytes unaryInBytes binaryInBytes unaryNaming binaryNaming unaryMeaning binaryMeaning
 returns c = expression-arm (c .before .before .before .before .before .before .args .rows .now) (c .before .before .before .before .before .before .args .i) (c .before .before .before .before .kind-at .result) (c .before .before .before .a-at .result) (c .before .before .b-at .result) (c .before .c-at .result) (c .before .before .before .before .kind-at .ensures) (c .before .before .before .a-at .ensures .0) (c .before .before .b-at .ensures .0) (c .before .c-at .ensures .0) 1 _ (λ a b c. decoded.Known 8 (code.Constant simple.Boolean)) (c .match .keys1) refl refl refl
@@ -139,8 +142,12 @@ unfolding numbered expressionKinds expressionDecoded expressionMeaning constantM
 returns-25 c = expression-arm (c .before .before .before .before .before .before .args .rows .now) (c .before .before .before .before .before .before .args .i) (c .before .before .before .before .kind-at .result) (c .before .before .before .a-at .result) (c .before .before .b-at .result) (c .before .c-at .result) (c .before .before .before .before .kind-at .ensures) (c .before .before .before .a-at .ensures .0) (c .before .before .b-at .ensures .0) (c .before .c-at .ensures .0) 25 _ (λ a b c. decoded.Known 2 (code.AllList a)) (c .match .keys25) refl refl refl
 
 returns-26 : tie.Need-returns-26
+unfolding numbered expressionKinds expressionDecoded expressionMeaning constantMeaning expressionUses inBytes unaryInBytes binaryInBytes unaryNaming binaryNaming unaryMeaning binaryMeaning
+returns-26 c = attribute-as (λ n. decoded.Known 4 (code.Unary (unary.Remove n) (c .before .before .before .before .a-at .result))) (c .byte5 .ensures) (expression-arm (c .before .before .before .before .before .before .before .args .rows .now) (c .before .before .before .before .before .before .before .args .i) (c .before .before .before .before .before .kind-at .result) (c .before .before .before .before .a-at .result) (c .before .before .before .b-at .result) (c .before .before .c-at .result) (c .before .before .before .before .before .kind-at .ensures) (c .before .before .before .before .a-at .ensures .0) (c .before .before .before .b-at .ensures .0) (c .before .before .c-at .ensures .0) 26 _ (λ a b c. decoded.Known 4 (code.Unary (unary.Remove (byte b)) a)) (c .before .match .keys26) refl refl refl)
+
+returns-27 : tie.Need-returns-27
 unfolding expressionKinds
-returns-26 c = expression-unknown (c .before .before .before .before .before .before .args .rows .now) (c .before .before .before .before .before .before .args .i) (c .before .before .before .before .kind-at .result) (c .before .before .before .before .kind-at .ensures) _ (c .match .rest)
+returns-27 c = expression-unknown (c .before .before .before .before .before .before .args .rows .now) (c .before .before .before .before .before .before .args .i) (c .before .before .before .before .kind-at .result) (c .before .before .before .before .kind-at .ensures) _ (c .match .rest)
 
 pub expression-at-spec : {M : Type 1} → statement M
 expression-at-spec =
@@ -154,6 +161,7 @@ expression-at-spec =
     byte-requires-2
     byte-requires-3
     byte-requires-4
+    byte-requires-5
     returns
     returns-2
     returns-3
@@ -179,4 +187,5 @@ expression-at-spec =
     returns-23
     returns-24
     returns-25
-    returns-26)
+    returns-26
+    returns-27)

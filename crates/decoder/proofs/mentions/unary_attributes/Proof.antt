@@ -21,6 +21,7 @@ others (row.Select n) h = absurd (miss (0 ∷ 3 ∷ 4 ∷ 5 ∷ []) 2 tt h)
 others row.MakeList h = refl
 others row.Top h = refl
 others row.Pop h = refl
+others (row.Remove n) h = absurd (miss (0 ∷ 3 ∷ 4 ∷ 5 ∷ []) 6 tt h)
 
 enum-known-o : tie.Need-enum-known-o
 enum-known-o c = search needs
@@ -40,6 +41,15 @@ cast-one-2 c = search needs
 one-requires-2 : tie.Need-one-requires-2
 one-requires-2 c κs = search needs
 
+enum-known-o-3 : tie.Need-enum-known-o-3
+enum-known-o-3 c = search needs
+
+cast-one-3 : tie.Need-cast-one-3
+cast-one-3 c = search needs
+
+one-requires-3 : tie.Need-one-requires-3
+one-requires-3 c κs = search needs
+
 none-requires : tie.Need-none-requires
 none-requires c κs = search needs
 
@@ -52,7 +62,11 @@ unfolding unaryAttribute unaryMeaning
 returns-2 c = rw (c .before .before .o2 .given .1) (c .one2 .ensures)
 
 returns-3 : tie.Need-returns-3
-returns-3 c = rw (others (c .before .before .args .o) (c .before .match .keys3)) (c .none .ensures)
+unfolding unaryAttribute unaryMeaning
+returns-3 c = rw (c .before .before .o3 .given .1) (c .one3 .ensures)
+
+returns-4 : tie.Need-returns-4
+returns-4 c = rw (others (c .before .before .args .o) (c .before .match .keys4)) (c .none .ensures)
 
 pub unary-attributes-spec : {M : Type 1} → statement M
 unary-attributes-spec =
@@ -64,7 +78,11 @@ unary-attributes-spec =
     enum-known-o-2
     cast-one-2
     one-requires-2
+    enum-known-o-3
+    cast-one-3
+    one-requires-3
     none-requires
     returns
     returns-2
-    returns-3)
+    returns-3
+    returns-4)
