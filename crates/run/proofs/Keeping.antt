@@ -1,8 +1,7 @@
--- One variable more in the arrays of declared bodies and of limits, and all of a run's start. Assumes nothing.
+-- One variable more in the arrays of present bodies and of limits, and all of a run's start. Assumes nothing.
 use mathlib.Core.Path.{_≡_, refl, sym, ap, _∙_, subst}
 use mathlib.Core.Bool.{Bool, true, false}
-use mathlib.Core.Logic.{⊎-elim}
-use mathlib.Core.List.{List}
+use mathlib.Core.List.{List, [], _∷_, _++_}
 use mathlib.Core.Option.{Option, some, none}
 use Prim.Native.Nat.{ℕ, zero, suc, _+_, _-_, _*_, _≤_, _<_}
 use native.Mathlib.Numerals.{add-one}
@@ -14,65 +13,72 @@ use lib.Signed.{mag}
 use mir.Syntax.{w64}
 use mir.Val.{toZ, ofZ}
 use mir.ValLaws.{toZ-ofZ}
-use lib.ListN.{length, take, drop, getD, set, replicate, length-set, length-replicate}
-use lib.Seq.{paste, length-paste, getD-set-same, getD-set-other}
-use Rattle.lingua.specs.Numbers.{most-variables, cells-length, declaration-section, limit-section, variable-bodies-length}
+use lib.ListN.{length, take, getD, set, replicate, length-set, length-replicate}
+use lib.Seq.{paste, take-suc, take-all, length-take-le, getD-set-same, getD-set-other}
+use Rattle.lingua.specs.Numbers.{most-variables, cells-length, body-bytes, body-nodes, declaration-section, limit-section, variable-bodies-length}
 use Rattle.lingua.specs.Outcome.{Result}
-use Rattle.lingua.specs.Body.{Body}
+use Rattle.lingua.specs.Body.{Body, nodes}
+use Rattle.lingua.specs.Value.{pad}
+use Rattle.lingua.specs.Encode.{encoded}
 use Rattle.lingua.specs.Rows.{bytesAt, pairCount}
-use Rattle.lingua.specs.Store.{Limit, Variable, variableAt}
+use Rattle.lingua.specs.Store.{Limit, Variable, no-variable, variableAt, presentBody, storeBodies, bodiesIn}
+use Rattle.lingua.specs.Run.{unfilled}
 use Rattle.lingua.specs.Compute.{sameText}
 use Rattle.lingua.specs.Format.{profile}
 use Rattle.lingua.specs.Rules.{nameWrong}
 use Rattle.lingua.specs.Trees.{bodyOr, declarationAt, limitIf, limitFrom, limitOf, limitRow, nameAt}
-use Rattle.laws.specs.Tests.{below-suc}
+use Rattle.laws.specs.Formed.{formed-bounds}
+use Rattle.laws.specs.Presents.{variableBytes, Compact, compact-by, compact-take, body-more}
 use Rattle.laws.specs.Equal.{same-text, text-same}
 use Rattle.safety.specs.Answers.{true-is-false}
 use Rattle.safety.specs.Limited.{one-variable}
 use Rattle.safety.specs.Accepted.{AcceptedRows}
-use Rattle.body.specs.Encode.{Holds}
-use Rattle.body.proofs.Bytes.{length-encoded}
-use Rattle.rules.specs.Types.{bodyAt}
+use Rattle.safety.specs.Formed.{declared-formed}
 use Rattle.profile.specs.Variables.{DeclaredIs, LimitAt}
 use Rattle.profile.specs.Find.{Unnamed, NamedAt, FoundIs}
 use Rattle.profile.specs.declared.find.Found.{Found}
 use Rattle.profile.proofs.Declaring.{name-is}
 use Rattle.decoder.specs.Tables.{IsTable}
 use Rattle.decoder.specs.declared.tables.Table.{Table}
-use Rattle.rules.proofs.TypePlaces.{kept-other, kept-own}
 use Rattle.run.specs.Begun.{startStore, Begun}
 use Rattle.run.specs.Kept.{BodiesKept, YokesKept, LimitsFrom}
 use Rattle.run.proofs.Unfilled.{few-variables, start-count, start-at, start-cells, start-states}
 
 -- ---- bodies
-pub bodies-none : (rows variables : List ℕ) → length variables ≡ variable-bodies-length → BodiesKept rows variables 0
-bodies-none rows variables l = record { long = l; each = λ d h. absurd (let k : ⊥ = omega arith in k) }
+pub bodies-none : (rows variables : List ℕ) → variables ≡ replicate variable-bodies-length 0 → BodiesKept rows variables 0
+unfolding bodiesIn storeBodies pad
+bodies-none rows variables e = record { is = λ limits. e }
 
-pub bodies-more : (rows variables after : List ℕ) (d : ℕ) (x : List ℕ) → d < most-variables → BodiesKept rows variables d → DeclaredIs rows d x
-    → after ≡ paste variables (96 * d) x 96 → BodiesKept rows after (d + 1)
-bodies-more rows variables after d x few kept given q =
-    let full : length x ≡ 96 = ap length (given .holds .is) ∙ length-encoded (given .body) (given .holds .few-nodes) in
-    let room : 96 * d + 96 ≤ length variables = omega (arith, kept .long) in
-    record {
-      long = ap length q ∙ length-paste variables (96 * d) x 96 room (omega arith) ∙ kept .long;
-      each = λ p l. ⊎-elim
-          (λ m. subst (λ (y : List ℕ). DeclaredIs rows p y) (sym (ap (λ (y : List ℕ). bodyAt y p) q ∙ kept-other variables x d room full p m)) (kept .each p m))
-          (λ m. subst (λ (j : ℕ). DeclaredIs rows j (bodyAt after j)) (sym m)
-          (subst (λ (y : List ℕ). DeclaredIs rows d y) (sym (ap (λ (y : List ℕ). bodyAt y d) q ∙ kept-own variables x d room full)) given))
-          (below-suc d p (let z : p < suc d = omega arith in z));
-    }
+pub start-compact : (rows limits : List ℕ) → AcceptedRows rows → Compact (startStore rows limits)
+start-compact rows limits accepted = compact-by (startStore rows limits) (λ n l.
+    let inside : n < pairCount rows declaration-section = omega (arith, start-count rows limits) in
+    subst (λ (v : Variable). nodes (presentBody v) ≤ body-nodes) (sym (start-at rows limits n inside)) (formed-bounds (declared-formed rows accepted limits n inside) .few-nodes))
+
+pub bodies-more : (rows variables after : List ℕ) (d : ℕ) (x : List ℕ) → AcceptedRows rows → d < pairCount rows declaration-section → BodiesKept rows variables d → DeclaredIs rows d x
+    → after ≡ paste variables (body-bytes * d) x body-bytes → BodiesKept rows after (d + 1)
+unfolding declarationAt
+bodies-more rows variables after d x accepted l kept given q = record { is = λ limits. q ∙ one limits }
+  where
+    one : (limits : List ℕ) → paste variables (body-bytes * d) x body-bytes ≡ bodiesIn (take (d + 1) (startStore rows limits))
+    one limits =
+        let vs = startStore rows limits in
+        let w = unfilled (declarationAt rows limits d) in
+        let n = start-count rows limits in
+        let m : length (take d vs) ≡ d = length-take-le d vs (omega arith) in
+        ap (λ (l : List ℕ). paste l (body-bytes * d) x body-bytes) (kept .is limits)
+        ∙ ap (λ (b : List ℕ). paste (bodiesIn (take d vs)) (body-bytes * d) b body-bytes) (given .holds .is ∙ ap encoded (sym (ap (λ (o : Result Body). bodyOr o) (given .is))))
+        ∙ ap (λ (j : ℕ). paste (bodiesIn (take d vs)) (body-bytes * j) (variableBytes w) body-bytes) (sym m)
+        ∙ sym (body-more (take d vs) w (compact-take d (start-compact rows limits accepted)) (omega (arith, m, few-variables rows accepted)) (formed-bounds (declared-formed rows accepted limits d l) .few-nodes))
+        ∙ ap (λ (v : Variable). bodiesIn (take d vs ++ (v ∷ []))) (sym (start-at rows limits d l))
+        ∙ ap (λ (us : List Variable). bodiesIn us) (sym (take-suc vs d no-variable (omega arith)))
+        ∙ ap (λ (j : ℕ). bodiesIn (take j vs)) (sym (add-one d))
 
 pub all-bodies : (rows variables : List ℕ) (d : ℕ) → d ≡ pairCount rows declaration-section → BodiesKept rows variables d → BodiesKept rows variables (pairCount rows declaration-section)
 all-bodies rows variables d e h = subst (λ (n : ℕ). BodiesKept rows variables n) e h
 
-pub start-bodies : (rows limits variables : List ℕ) → BodiesKept rows variables (pairCount rows declaration-section) → (n : ℕ) → n < length (startStore rows limits)
-    → Holds (take 96 (drop (96 * n) variables)) (variableAt (startStore rows limits) n .body)
-unfolding bodyAt declarationAt
-start-bodies rows limits variables kept n l =
-    let inside : n < pairCount rows declaration-section = omega (arith, start-count rows limits) in
-    let h = kept .each n inside in
-    subst (λ (b : Body). Holds (take 96 (drop (96 * n) variables)) b)
-    (sym (ap (λ (v : Variable). v .body) (start-at rows limits n inside) ∙ ap (λ (o : Result Body). bodyOr o) (h .is))) (h .holds)
+pub start-bodies : (rows limits variables : List ℕ) → BodiesKept rows variables (pairCount rows declaration-section) → variables ≡ bodiesIn (startStore rows limits)
+start-bodies rows limits variables k =
+    k .is limits ∙ ap (λ (us : List Variable). bodiesIn us) (take-all (pairCount rows declaration-section) (startStore rows limits) (omega (arith, start-count rows limits)))
 
 -- ---- limits
 same-limit : (before after : List ℤ) (at : ℕ) (limit : Option Limit) → ((j : ℕ) → at ≤ j → j < at + 3 → getD after j (pos 0) ≡ getD before j (pos 0)) → LimitAt before at limit → LimitAt after at limit

@@ -4,22 +4,20 @@ use mathlib.Core.List.{List}
 use Prim.Native.Nat.{ℕ, _-_, _*_, _<_}
 use lib.IntN.{ℤ}
 use lib.ListN.{length, take}
-use Rattle.lingua.specs.Numbers.{declaration-section, limit-section, variable-bodies-length, limit-cells-length, limit-cells}
+use Rattle.lingua.specs.Numbers.{declaration-section, limit-section, limit-cells-length, limit-cells}
 use Rattle.lingua.specs.Rows.{pairCount}
-use Rattle.lingua.specs.Store.{statesIn}
+use Rattle.lingua.specs.Store.{statesIn, bodiesIn}
 use Rattle.lingua.specs.Trees.{limitFrom, nameAt}
-use Rattle.rules.specs.Types.{bodyAt}
-use Rattle.profile.specs.Variables.{DeclaredIs, LimitAt}
+use Rattle.profile.specs.Variables.{LimitAt}
 use Rattle.run.specs.Begun.{startStore}
-
--- 96 bytes for each declared body, as many as sixteen variables need
-pub record BodiesKept (rows variables : List ℕ) (n : ℕ) : Type 0 where
-  pub long : length variables ≡ variable-bodies-length
-  pub each : (d : ℕ) → d < n → DeclaredIs rows d (bodyAt variables d)
 
 -- the state words have nothing to do with the limits
 pub record YokesKept (rows states : List ℕ) (n : ℕ) : Type 0 where
   pub is : (limits : List ℕ) → states ≡ statesIn (take n (startStore rows limits))
+
+-- neither do the present bodies, which are the declared ones
+pub record BodiesKept (rows bodies : List ℕ) (n : ℕ) : Type 0 where
+  pub is : (limits : List ℕ) → bodies ≡ bodiesIn (take n (startStore rows limits))
 
 -- the limits of rows l and up are kept: for each variable the first of its name
 pub record LimitsFrom (rows limits : List ℕ) (kept : List ℤ) (l : ℕ) : Type 0 where

@@ -14,13 +14,15 @@ use Rattle.run.specs.declared.steps.Status.{Status}
 use Rattle.run.specs.declared.steps.Truth.{Truth}
 use Rattle.run.specs.Statuses.{stateOf, progressOf}
 
--- everything that a caller lends a run for its registers, as one bundle: the cells and the state words (document 01: marks)
+-- everything that a caller lends a run for its registers, as one bundle: the cells, the state words (document 01: marks), and the present
+-- bodies, which the erased run does without: there they are none
 pub record Lent : Type 0 where
   pub cells : List ℤ
   pub states : List ℕ
+  pub bodies : List ℕ
 
-abbrev pub lent : List ℤ → List ℕ → Lent
-lent cells states = record { cells = cells; states = states }
+abbrev pub lent : List ℤ → List ℕ → List ℕ → Lent
+lent cells states bodies = record { cells = cells; states = states; bodies = bodies }
 
 -- what a run asks of lent memory that holds a store
 abbrev pub Holding : Type 1

@@ -1,4 +1,4 @@
-// The motor maker's kept, three cells for each variable.
+// The motor maker's limits, three cells for each variable.
 use lingua::sizes::LIMIT_CELLS;
 ghost use mathlib.Core.Path.{_≡_};
 ghost use mathlib.Core.Bool.{_&&_};

@@ -10,7 +10,8 @@ ghost use lib.Seq.{paste};
 ghost use Rattle.lingua.specs.Numbers.{body-cells};
 ghost use Rattle.lingua.specs.Store.{flagPlace, fillAt};
 
-// A value's cells to the place of variable n's, and its filled flag. What lies past them is zero from the start of the run.
+// A value's cells to the place of variable n's, and its filled flag. What lies past them stays: where a value has as many cells as the one before,
+// it is zero from the start of the run.
 pub fn put(cells: &mut [i64], states: &mut [u16], n: usize, value: &[i64], width: usize)
     requires { ⌜ body-cells * n + body-cells ≤ length (now cells) ⌝ }
     requires { ⌜ flagPlace n < length (now states) ⌝ }
