@@ -13,10 +13,11 @@ use Rattle.lingua.specs.Numbers.{body-bytes}
 use Rattle.lingua.specs.Outcome.{ok, fail, Result, require, _>>=_, _>>_}
 use Rattle.lingua.specs.Body.{Body, boolean, size, nodes, isBoolean}
 use Rattle.lingua.specs.Value.{Value, asTruth, bit, pad, Composite}
+use Rattle.lingua.specs.Encode.{bytes, encoded}
 use Rattle.lingua.specs.Evaluation.{truthOr, booleanOf}
 use Rattle.laws.specs.Outcomes.{is-boolean}
 use Rattle.safety.specs.Fitting.{true-is}
-use Rattle.body.specs.Encode.{bytes, encoded, Holds}
+use Rattle.body.specs.Encode.{Holds}
 use Rattle.cells.specs.Stack.{Lies}
 use Rattle.cells.proofs.Operands.{lies-as}
 use Rattle.cells.proofs.Singles

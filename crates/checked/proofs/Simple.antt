@@ -12,16 +12,17 @@ use Rattle.lingua.specs.Errors.{not-filled}
 use Rattle.lingua.specs.Outcome.{ok, fail, Result, orFail}
 use Rattle.lingua.specs.Body.{Body, boolean, number, word, list-of, record-of, size}
 use Rattle.lingua.specs.Value.{pad, Composite}
+use Rattle.lingua.specs.Encode.{bytes, encoded}
 use Rattle.lingua.specs.Evaluation.{eval}
 use Rattle.lingua.specs.Rows.{pairCount}
-use Rattle.lingua.specs.Store.{Variable, variableAt, contents, filledAt}
+use Rattle.lingua.specs.Store.{Variable, variableAt, presentBody, contents, filledAt}
 use Rattle.lingua.specs.Trees.{expressionTree}
 use Rattle.decoder.specs.declared.tables.Table.{Table}
 use Rattle.decoder.specs.declared.decode.ExpressionRow.{ExpressionRow as CodeRow}
 use Rattle.profile.specs.Row.{constantOf, RowSays}
 use Rattle.profile.specs.Facts.{rowTree}
 use Rattle.profile.specs.Constants.{ConstantRow, IsCell}
-use Rattle.body.specs.Encode.{bytes, encoded, Holds}
+use Rattle.body.specs.Encode.{Holds}
 use Rattle.body.proofs.Bytes.{tag}
 use Rattle.body.proofs.Tags.{held-tag}
 use Rattle.cells.proofs.Operands.{lies-long}
@@ -69,7 +70,7 @@ no-gives s o = record { gives = λ k. absurd (let z : ⊥ = omega (arith, k) in 
 pub positive : (n : ℕ) → (n ≡ 0 → ⊥) → 1 ≤ n
 positive n f = omega (arith, f)
 
--- ---- the first byte of a variable's declared body
+-- ---- the first byte of a variable's present body
 pub own-first : (variables : List ℕ) (n : ℕ) → getD (take 96 (drop (96 * n) variables)) 0 0 ≡ getD variables (96 * n) 0
 own-first variables n =
     getD-take 96 (drop (96 * n) variables) 0 0 (omega arith)
@@ -83,7 +84,7 @@ there w f = omega (arith, f, w .count)
 pub constant-simple : (rows : List ℕ) (k : ℕ) (s : List ℤ) (z : ℤ) (own : List ℕ) (t : ℕ) → ConstantRow rows k → IsCell z (constantOf rows k) → 0 < length s → Holds own (constantOf rows k .body) → IsSimple t own (constantOf rows k .body) → SimpleGives t (set s 0 z) (ok (constantOf rows k))
 constant-simple rows k s z own t c i l h q = record { gives = λ p. gives-constant rows k s z (simpleEvaluated t) c i l refl (subst (λ (b : List ℕ). Holds b (constantOf rows k .body)) (q .is p) h) refl }
 
-pub variable-simple : {variables : List ℕ} {cells : List ℤ} {states : List ℕ} {vs : List Variable} (h : Stored variables cells states vs) (n : ℕ) (lt : n < length vs) (s : List ℤ) (z : ℤ) (t : ℕ) → filledAt states n ≡ true → IsSimple t (take 96 (drop (96 * n) variables)) (variableAt vs n .body) → z ≡ getD cells (body-cells * n) (pos 0) → 0 < length s
+pub variable-simple : {variables : List ℕ} {cells : List ℤ} {states : List ℕ} {vs : List Variable} (h : Stored variables cells states vs) (n : ℕ) (lt : n < length vs) (s : List ℤ) (z : ℤ) (t : ℕ) → filledAt states n ≡ true → IsSimple t (take 96 (drop (96 * n) variables)) (presentBody (variableAt vs n)) → z ≡ getD cells (body-cells * n) (pos 0) → 0 < length s
     → SimpleGives t (set s 0 z) (orFail (contents vs n) not-filled)
 variable-simple {variables} {cells} h n lt s z t g q e l = record {
   gives = λ p. gives-variable h n lt s (set s 0 z) _ 1 (simpleEvaluated t) g refl (sym (q .one-cell p)) (one-cell s cells (body-cells * n) 1 z e refl l (omega (arith, cells-room (memory-of h) n lt))) refl (sym (q .is p)) refl;

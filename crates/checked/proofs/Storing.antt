@@ -2,20 +2,21 @@
 use mathlib.Core.Path.{_≡_, refl, sym, ap, _∙_, subst}
 use mathlib.Core.Bool.{true, false}
 use mathlib.Core.List.{List, [], _∷_, _++_}
-use mathlib.Core.Option.{Option}
+use mathlib.Core.Option.{Option, some}
 use Prim.Native.Nat.{ℕ, _+_, _*_, _≤_, _<_}
 use native.Mathlib.Numerals.{add-one}
 use native.Mathlib.Omega.{arith}
 use lib.ListN.{length, take, drop, getD, set, length-drop}
 use lib.Seq.{getD-drop, take-suc, take-suc-set, paste}
 use lib.IntN.{ℤ}
-use Rattle.lingua.specs.Numbers.{body-cells}
+use Rattle.lingua.specs.Numbers.{body-cells, body-bytes}
 use Rattle.lingua.specs.Errors.{not-filled}
 use Rattle.lingua.specs.Outcome.{ok, fail, Result, orFail}
 use Rattle.lingua.specs.Body.{Body, size}
 use Rattle.lingua.specs.Value.{Composite}
-use Rattle.lingua.specs.Store.{Variable, variableAt, contents, filledAt}
+use Rattle.lingua.specs.Store.{Variable, variableAt, presentOf, presentBody, contents, filledAt}
 use Rattle.laws.specs.Lengths.{length-cells}
+use Rattle.laws.specs.Presents.{Compact, compact-by, bodies-at, bodies-long}
 use Rattle.safety.specs.TypeSound.{VariablesFit}
 use Rattle.profile.specs.Constants.{ConstantRow, IsCell}
 use Rattle.profile.specs.Row.{constantOf}
@@ -68,28 +69,46 @@ gives-current {current} {body} {x} s after n r h z q e b m =
     })
 
 -- ---- a variable
--- the store with its variables' declared bodies
-pub memory-of : {variables : List ℕ} {cells : List ℤ} {states : List ℕ} {vs : List Variable} → Stored variables cells states vs → Memory cells states vs (λ n. variableAt vs n .body)
+-- a value's body is the present one
+present-is : (v : Variable) (x : Composite) → v .content ≡ some x → x .body ≡ presentBody v
+present-is v x e = sym (ap (presentOf (v .body)) e)
+
+-- the store with its variables' present bodies
+pub memory-of : {variables : List ℕ} {cells : List ℤ} {states : List ℕ} {vs : List Variable} → Stored variables cells states vs → Memory cells states vs (λ n. presentBody (variableAt vs n))
 unfolding VariablesFit
-memory-of h = record { cells-are = h .cells-are; states-are = h .states-are; few = h .few; small = λ n l. h .bodies n l .few-cells; fit = λ n x e. let f = h .filled n x e in (f .coherent, f .fits) }
+memory-of {vs = vs} h = record { cells-are = h .cells-are; states-are = h .states-are; few = h .few; small = λ n l. h .holdable n l .few-cells; fit = λ n x e. (present-is (variableAt vs n) x e, h .fits n x e) }
 
-module _ {variables : List ℕ} {cells : List ℤ} {states : List ℕ} {vs : List Variable} (h : Stored variables cells states vs) (n : ℕ) (lt : n < length vs) where
-  pub not-filled-is : filledAt states n ≡ false → orFail (contents vs n) not-filled ≡ fail not-filled
-  not-filled-is e = ap {B = Result Composite} (λ (c : Option Composite). orFail c not-filled) (unfilled-is (memory-of h) n lt e)
+module _ {variables : List ℕ} {cells : List ℤ} {states : List ℕ} {vs : List Variable} (h : Stored variables cells states vs) where
+  pub all-compact : Compact vs
+  all-compact = compact-by vs (λ n l. h .holdable n l .few-nodes)
 
-  pub declared-held : (body : List ℕ) → body ≡ take 96 (drop (96 * n) variables) → Holds body (variableAt vs n .body)
-  declared-held body e = subst (λ (b : List ℕ). Holds b (variableAt vs n .body)) (sym e) (h .bodies n lt)
+  module _ (n : ℕ) (lt : n < length vs) where
+    pub not-filled-is : filledAt states n ≡ false → orFail (contents vs n) not-filled ≡ fail not-filled
+    not-filled-is e = ap {B = Result Composite} (λ (c : Option Composite). orFail c not-filled) (unfilled-is (memory-of h) n lt e)
 
-  pub gives-variable : (s after : List ℤ) (body : List ℕ) (m : ℕ) (r : Evaluated) → filledAt states n ≡ true → body ≡ take 96 (drop (96 * n) variables) → m ≡ size (variableAt vs n .body)
-      → after ≡ paste s 0 (drop (body-cells * n) cells) m → r .error ≡ 0 → r .body ≡ body → r .cells ≡ m → Gives r after (orFail (contents vs n) not-filled)
-  gives-variable s after body m r g b z q e rb rc =
-      let x = filled-is (memory-of h) n lt g in
-      let f = h .filled n (x .0) (x .1) in
-      let w : m ≡ size (x .0 .body) = z ∙ ap size (sym (f .coherent)) in
-      gives-answer e (record {
-        value = x .0;
-        is = ap {B = Result Composite} (λ (c : Option Composite). orFail c not-filled) (x .1);
-        holds = subst (λ (l : List ℕ). Holds l (x .0 .body)) (sym rb) (subst (λ (c : Body). Holds body c) (sym (f .coherent)) (declared-held body b));
-        lies = copied-lies s cells (body-cells * n) m (x .0 .body) (x .0 .value) q w (omega (arith, cells-room (memory-of h) n lt, z, h .bodies n lt .few-cells)) (content-at (memory-of h) n lt (x .0) (x .1)) (f .fits);
-        cells = rc ∙ w;
-      })
+    pub body-room : body-bytes * n + body-bytes ≤ length variables
+    body-room = omega (arith, ap (λ (l : List ℕ). length l) (h .bodies-are), bodies-long vs, h .few, lt)
+
+    pub present-held : (body : List ℕ) → body ≡ take body-bytes (drop (body-bytes * n) variables) → Holds body (presentBody (variableAt vs n))
+    present-held body e = record {
+      is = e ∙ ap (λ (l : List ℕ). take body-bytes (drop (body-bytes * n) l)) (h .bodies-are) ∙ bodies-at vs n lt all-compact;
+      few-cells = h .holdable n lt .few-cells;
+      few-nodes = h .holdable n lt .few-nodes;
+    }
+
+    -- of the value that is there
+    pub value-held : (x : Composite) → variableAt vs n .content ≡ some x → (body : List ℕ) → body ≡ take body-bytes (drop (body-bytes * n) variables) → Holds body (x .body)
+    value-held x q body e = subst (λ (b : Body). Holds body b) (sym (present-is (variableAt vs n) x q)) (present-held body e)
+
+    pub gives-variable : (s after : List ℤ) (body : List ℕ) (m : ℕ) (r : Evaluated) → filledAt states n ≡ true → body ≡ take body-bytes (drop (body-bytes * n) variables) → m ≡ size (presentBody (variableAt vs n))
+        → after ≡ paste s 0 (drop (body-cells * n) cells) m → r .error ≡ 0 → r .body ≡ body → r .cells ≡ m → Gives r after (orFail (contents vs n) not-filled)
+    gives-variable s after body m r g b z q e rb rc =
+        let x = filled-is (memory-of h) n lt g in
+        let w : m ≡ size (x .0 .body) = z ∙ ap size (sym (present-is (variableAt vs n) (x .0) (x .1))) in
+        gives-answer e (record {
+          value = x .0;
+          is = ap {B = Result Composite} (λ (c : Option Composite). orFail c not-filled) (x .1);
+          holds = subst (λ (l : List ℕ). Holds l (x .0 .body)) (sym rb) (value-held (x .0) (x .1) body b);
+          lies = copied-lies s cells (body-cells * n) m (x .0 .body) (x .0 .value) q w (omega (arith, cells-room (memory-of h) n lt, z, h .holdable n lt .few-cells)) (content-at (memory-of h) n lt (x .0) (x .1)) (h .fits n (x .0) (x .1));
+          cells = rc ∙ w;
+        })

@@ -5,14 +5,14 @@ use mathlib.Core.List.{List, [], _∷_}
 use mathlib.Core.Option.{some}
 use Prim.Native.Nat.{ℕ, _+_, _*_, _≤_, _<_}
 use lib.IntN.{ℤ}
-use lib.ListN.{length, take, drop}
-use Rattle.lingua.specs.Numbers.{body-cells, declaration-section, expression-section, most-variables, body-bytes}
+use lib.ListN.{length}
+use Rattle.lingua.specs.Numbers.{body-cells, body-nodes, declaration-section, expression-section, most-variables, body-bytes}
 use Rattle.lingua.specs.Errors.{no-error}
 use Rattle.lingua.specs.Outcome.{ok, fail, Result, allAnswers}
-use Rattle.lingua.specs.Body.{Body, size, isBoolean}
+use Rattle.lingua.specs.Body.{Body, size, nodes, isBoolean}
 use Rattle.lingua.specs.Value.{Composite, allOf, asTruth, pad}
 use Rattle.lingua.specs.Rows.{pairCount}
-use Rattle.lingua.specs.Store.{Variable, variableAt, cellsIn, statesIn}
+use Rattle.lingua.specs.Store.{Variable, variableAt, presentBody, cellsIn, statesIn, bodiesIn}
 use Rattle.safety.specs.Accepted.{AcceptedRows}
 use Rattle.safety.specs.Constants.{Fitting}
 use Rattle.decoder.specs.Tables.{IsTable}
@@ -25,19 +25,19 @@ use Rattle.checked.specs.declared.quick.Quick.the-variants.{Simple, Fail
 use Rattle.checked.specs.declared.tally.Tally.{Tally}
 
 -- ---- what is given
--- a variable's value has its declared body and fits
-pub record Filled (v : Variable) (x : Composite) : Type 0 where
-  pub coherent : x .body ≡ v .body
-  pub fits : Fitting x
+-- a body that 96 bytes hold
+pub record Holdable (b : Body) : Type 0 where
+  pub few-cells : size b ≤ body-cells
+  pub few-nodes : nodes b ≤ body-nodes
 
--- the caller's memory holds the store's variables, and 96 bytes for each hold their declared bodies
+-- the caller's memory holds the store's variables, with their present bodies
 pub record Stored (variables : List ℕ) (cells : List ℤ) (states : List ℕ) (vs : List Variable) : Type 0 where
   pub cells-are : cells ≡ cellsIn vs
   pub states-are : states ≡ statesIn vs
+  pub bodies-are : variables ≡ bodiesIn vs
   pub few : length vs ≤ most-variables
-  pub room : body-bytes * length vs ≤ length variables
-  pub bodies : (n : ℕ) → n < length vs → Holds (take body-bytes (drop (body-bytes * n) variables)) (variableAt vs n .body)
-  pub filled : (n : ℕ) (x : Composite) → variableAt vs n .content ≡ some x → Filled (variableAt vs n) x
+  pub holdable : (n : ℕ) → n < length vs → Holdable (presentBody (variableAt vs n))
+  pub fits : (n : ℕ) (x : Composite) → variableAt vs n .content ≡ some x → Fitting x
 
 -- some such store
 pub record HasStored (variables : List ℕ) (cells : List ℤ) (states : List ℕ) (n : ℕ) : Type 0 where

@@ -25,8 +25,8 @@ ghost use Rattle.profile.specs.Row.{constantOf};
 ghost use Rattle.profile.specs.Constants.{ConstantRow};
 ghost use Rattle.checked.specs.Meaning.{Stored, HasStored, Current, HasCurrent, Gives};
 
-// The 96 bytes of a variable's declared body.
-pub fn declared(variables: &[u8], n: usize) -> [u8; BODY_BYTES]
+// The 96 bytes of a variable's present body.
+pub fn present(variables: &[u8], n: usize) -> [u8; BODY_BYTES]
     requires { ⌜ body-bytes * n + body-bytes ≤ length (now variables) ⌝ }
     ensures { λ r. ⌜ r ≡ take body-bytes (drop (body-bytes * n) (now (variables .entry))) ⌝ }
 {
@@ -56,7 +56,7 @@ pub fn constant(rows: &[u8], t: Table, r: usize, stack: &mut [i64]) -> Evaluated
     }
 }
 
-// The value of variable n, which has its declared body.
+// The value of variable n, which has its present body.
 pub fn fetch(
     variables: &[u8],
     cells: &[i64],
@@ -72,7 +72,7 @@ pub fn fetch(
     if !is_filled(states, n) {
         return failed(NOT_FILLED);
     }
-    let body = declared(variables, n);
+    let body = present(variables, n);
     let m = measure_body(body);
     copy(cells, BODY_CELLS * n, m.cells, stack);
     Evaluated {

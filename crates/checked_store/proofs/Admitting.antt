@@ -9,16 +9,16 @@ use lib.ListN.{length, take, drop, getD}
 use Rattle.lingua.specs.Numbers.{body-bytes}
 use Rattle.lingua.specs.Errors.{no-coherence, yoke-expected, yoke-not-satisfied}
 use Rattle.lingua.specs.Outcome.{Result, require, _>>=_, _>>_}
-use Rattle.lingua.specs.Body.{Body, size, isNumber, isBoolean, sameBody}
+use Rattle.lingua.specs.Body.{Body, size, isNumber, isBoolean, coherent}
 use Rattle.lingua.specs.Value.{Value, Fits, fit-truth, fit-whole, fit-text, fit-items, fit-fields, asWhole, asTruth, Composite}
 use Rattle.lingua.specs.Expression.{Yoke, always}
 use Rattle.lingua.specs.Evaluation.{truthOr, evalYoke}
-use Rattle.lingua.specs.Store.{Variable, variableAt, contents, within, admitted, yokeAt}
+use Rattle.lingua.specs.Store.{Variable, variableAt, presentBody, contents, within, admitted, yokeAt}
 use Rattle.lingua.specs.Trees.{yokeTree}
 use Rattle.laws.specs.Outcomes.{is-number, false-is-true}
 use Rattle.decoder.specs.declared.tables.Table.{Table}
 use Rattle.profile.specs.Yokes.{always-is}
-use Rattle.body.specs.Encode.{Holds}
+use Rattle.body.specs.Encode.{Holds, Held}
 use Rattle.body.proofs.Tags as tags
 use Rattle.cells.specs.Stack.{Lies}
 use Rattle.cells.proofs.Operands.{lies-long}
@@ -53,7 +53,7 @@ pub other-whole : {value : List ℤ} {body : List ℕ} {x : Composite} → Curre
 other-whole {value} {body} {x} h f = none-whole (h .lies .fit) (tags.not-number body (x .body) (h .holds) f)
 
 -- ---- the current yoke
-module _ {rows : List ℕ} {t : Table} {variables : List ℕ} {limits cells : List ℤ} {states : List ℕ} {vs : List Variable} (h : Running rows t variables limits (lent cells states) vs) (n : ℕ) (lt : n < length vs) where
+module _ {rows : List ℕ} {t : Table} {limits cells : List ℤ} {states bodies : List ℕ} {vs : List Variable} (h : Running rows t limits (lent cells states bodies) vs) (n : ℕ) (lt : n < length vs) where
   pub yoke-there : {k : ℕ} → k ≡ yokeAt states n → k ≤ t .count
   yoke-there e = omega (arith, e, Parts.yoke-there (memory-of (h .world .stored)) n lt (h .yokes n lt), h .world .table .count)
 
@@ -61,17 +61,20 @@ module _ {rows : List ℕ} {t : Table} {variables : List ℕ} {limits cells : Li
   own-yoke e x = ap (λ (y : Yoke). evalYoke y (contents vs) x) (ap (yokeTree rows) e ∙ Parts.own-yoke (memory-of (h .world .stored)) n lt (h .yokes n lt))
 
 -- ---- the checks without a yoke
-pub held-own : {variables : List ℕ} {limits : List ℤ} {n : ℕ} {v : Variable} → Bounds variables limits n v → {body : List ℕ} → body ≡ take body-bytes (drop (body-bytes * n) variables) → Holds body (v .body)
-held-own {v = v} b e = subst (λ (l : List ℕ). Holds l (v .body)) (sym e) (b .own)
+pub held-own : {bodies : List ℕ} {limits : List ℤ} {n : ℕ} {v : Variable} → Bounds bodies limits n v → {body : List ℕ} → body ≡ take body-bytes (drop (body-bytes * n) bodies) → Holds body (presentBody v)
+held-own {v = v} b e = subst (λ (l : List ℕ). Holds l (presentBody v)) (sym e) (b .own)
 
-pub no-yoke : {rows : List ℕ} {t : Table} {variables : List ℕ} {limits cells : List ℤ} {states : List ℕ} {vs : List Variable} → Running rows t variables limits (lent cells states) vs → (n : ℕ) → n < length vs → {k : ℕ} → k ≡ yokeAt states n → k ≡ 0 → variableAt vs n .yoke ≡ always
+pub held-there : {body there : List ℕ} → body ≡ there → Held there → Held body
+held-there e h = subst Held (sym e) h
+
+pub no-yoke : {rows : List ℕ} {t : Table} {limits cells : List ℤ} {states bodies : List ℕ} {vs : List Variable} → Running rows t limits (lent cells states bodies) vs → (n : ℕ) → n < length vs → {k : ℕ} → k ≡ yokeAt states n → k ≡ 0 → variableAt vs n .yoke ≡ always
 no-yoke {rows} h n lt {k} e z = sym (Parts.own-yoke (memory-of (h .world .stored)) n lt (h .yokes n lt)) ∙ ap (yokeTree rows) (sym e) ∙ always-is rows k z
 
-module _ (vs : List Variable) (v : Variable) (x : Composite) (free : v .yoke ≡ always) (b : Bool) (same : b ≡ sameBody (v .body) (x .body)) where
+module _ (vs : List Variable) (v : Variable) (x : Composite) (free : v .yoke ≡ always) (b : Bool) (same : b ≡ coherent (presentBody v) (x .body)) where
   free-is : admitted vs v x ≡ (require b no-coherence >> require (within (v .limit) (asWhole (x .value))) yoke-not-satisfied)
   unfolding admitted evalYoke truthOr isBoolean asTruth
   free-is =
-      ap (λ (y : Yoke). evalYoke y (contents vs) x >>= λ w. require (sameBody (v .body) (x .body)) no-coherence >> (truthOr yoke-expected w >>= λ t. require (t && within (v .limit) (asWhole (x .value))) yoke-not-satisfied)) free
+      ap (λ (y : Yoke). evalYoke y (contents vs) x >>= λ w. require (coherent (presentBody v) (x .body)) no-coherence >> (truthOr yoke-expected w >>= λ t. require (t && within (v .limit) (asWhole (x .value))) yoke-not-satisfied)) free
       ∙ ap (λ (c : Bool). require c no-coherence >> require (within (v .limit) (asWhole (x .value))) yoke-not-satisfied) (sym same)
 
   pub free-other-body : b ≡ false → Admits no-coherence (admitted vs v x)
@@ -94,13 +97,13 @@ module _ (vs : List Variable) (v : Variable) (x : Composite) (free : v .yoke ≡
 module _ (vs : List Variable) (v : Variable) (x : Composite) {y : Evaluated} {s : List ℤ} (g : Gives y s (evalYoke (v .yoke) (contents vs) x)) where
   pub yoke-error : (y .error ≡ 0 → ⊥) → Admits (y .error) (admitted vs v x)
   unfolding admitted
-  yoke-error f = admits-error f (ap (λ (o : Result Composite). o >>= λ w. require (sameBody (v .body) (x .body)) no-coherence >> (truthOr yoke-expected w >>= λ t. require (t && within (v .limit) (asWhole (x .value))) yoke-not-satisfied)) (g .error f))
+  yoke-error f = admits-error f (ap (λ (o : Result Composite). o >>= λ w. require (coherent (presentBody v) (x .body)) no-coherence >> (truthOr yoke-expected w >>= λ t. require (t && within (v .limit) (asWhole (x .value))) yoke-not-satisfied)) (g .error f))
 
-  module _ (z : y .error ≡ 0) (b : Bool) (same : b ≡ sameBody (v .body) (x .body)) where
+  module _ (z : y .error ≡ 0) (b : Bool) (same : b ≡ coherent (presentBody v) (x .body)) where
     reached : admitted vs v x ≡ (require b no-coherence >> (truthOr yoke-expected (g .answer z .value) >>= λ t. require (t && within (v .limit) (asWhole (x .value))) yoke-not-satisfied))
     unfolding admitted
     reached =
-        ap (λ (o : Result Composite). o >>= λ w. require (sameBody (v .body) (x .body)) no-coherence >> (truthOr yoke-expected w >>= λ t. require (t && within (v .limit) (asWhole (x .value))) yoke-not-satisfied)) (g .answer z .is)
+        ap (λ (o : Result Composite). o >>= λ w. require (coherent (presentBody v) (x .body)) no-coherence >> (truthOr yoke-expected w >>= λ t. require (t && within (v .limit) (asWhole (x .value))) yoke-not-satisfied)) (g .answer z .is)
         ∙ ap (λ (c : Bool). require c no-coherence >> (truthOr yoke-expected (g .answer z .value) >>= λ t. require (t && within (v .limit) (asWhole (x .value))) yoke-not-satisfied)) (sym same)
 
     pub other-body : b ≡ false → Admits no-coherence (admitted vs v x)

@@ -10,19 +10,17 @@ use lib.ListN.{length, take, drop}
 use Rattle.lingua.specs.Numbers.{body-cells}
 use Rattle.lingua.specs.Errors.{yoke-expected, yoke-not-satisfied}
 use Rattle.lingua.specs.Outcome.{ok, fail, Result, require, _>>=_}
-use Rattle.lingua.specs.Body.{Body}
 use Rattle.lingua.specs.Value.{Composite}
 use Rattle.lingua.specs.Expression.{Yoke}
 use Rattle.lingua.specs.Evaluation.{truthOr, evalYoke}
 use Rattle.lingua.specs.Store.{Variable, variableAt, contents, yokeHolds, filledAt}
-use Rattle.body.specs.Encode.{Holds}
 use Rattle.run.specs.declared.steps.Truth.{Truth}
 use Rattle.run.specs.Reached.{Tells}
 use Rattle.run.specs.Memory.{Admits}
 use Rattle.run.proofs.Parts.{unfilled-is, filled-is, part-lies}
 use Rattle.run.proofs.Admitting.{admits-error}
 use Rattle.checked.specs.Meaning.{Stored, Current}
-use Rattle.checked.proofs.Storing.{memory-of, declared-held}
+use Rattle.checked.proofs.Storing.{memory-of, value-held}
 
 -- ---- the variable's cells
 pub record Fetched (variables : List ℕ) (cells : List ℤ) (body : List ℕ) (vs : List Variable) (n : ℕ) (value : List ℤ) : Type 0 where
@@ -38,7 +36,7 @@ fetched variables cells states vs n h lt body e f =
     record {
       composite = x .0;
       is = x .1;
-      current = record { lies = part-lies m n lt (x .0) (x .1); holds = subst (λ (b : Body). Holds body b) (sym (h .filled n (x .0) (x .1) .coherent)) (declared-held h n lt body e) };
+      current = record { lies = part-lies m n lt (x .0) (x .1); holds = value-held h n lt (x .0) (x .1) body e };
     }
 
 -- ---- the yoke's answer

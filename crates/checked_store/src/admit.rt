@@ -1,8 +1,9 @@
-// A new value's checks, in order: its yoke's error, its body, the yoke's body, the yoke and the limits.
-use body::parts::same;
+// A new value's checks, in order: its yoke's error, whether its body is coherent with the variable's present one, the yoke's body, the yoke and
+// the limits.
+use body::coherence::coherent;
 use body::walk::NUMBER;
 use checked::answer::truth_of;
-use checked::leaves::declared;
+use checked::leaves::present;
 use checked::yoke::eval_yoke;
 use decoder::tables::Table;
 use lingua::errors::NO_COHERENCE;
@@ -37,19 +38,13 @@ fn whole(body: [u8; BODY_BYTES], value: &[i64]) -> i64
 }
 
 // Whether variable n, whose yoke is always true, may take a value of a body.
-pub fn unyoked(
-    variables: &[u8],
-    kept: &[i64],
-    n: usize,
-    value: &[i64],
-    body: [u8; BODY_BYTES],
-) -> u8
-    requires { ⌜ HasBounds (now variables) (now kept) n (now value) body ⌝ }
-    ensures { λ r. ⌜ ((vs : List Variable) (v : Variable) (x : Composite) → Bounds (now (variables .entry)) (now (kept .entry)) n v → v .yoke ≡ always → Current (now (value .entry)) body x
+pub fn unyoked(bodies: &[u8], kept: &[i64], n: usize, value: &[i64], body: [u8; BODY_BYTES]) -> u8
+    requires { ⌜ HasBounds (now bodies) (now kept) n (now value) body ⌝ }
+    ensures { λ r. ⌜ ((vs : List Variable) (v : Variable) (x : Composite) → Bounds (now (bodies .entry)) (now (kept .entry)) n v → v .yoke ≡ always → Current (now (value .entry)) body x
         → Admits r (checks vs v x)) ⌝ }
 {
-    let own = declared(variables, n);
-    if !same(own, body) {
+    let own = present(bodies, n);
+    if !coherent(own, body) {
         return NO_COHERENCE;
     }
     let z = whole(body, value);
@@ -63,7 +58,7 @@ pub fn unyoked(
 pub fn admitted(
     rows: &[u8],
     t: Table,
-    variables: &[u8],
+    bodies: &[u8],
     kept: &[i64],
     cells: &[i64],
     states: &[u16],
@@ -72,16 +67,16 @@ pub fn admitted(
     body: [u8; BODY_BYTES],
     stack: &mut [i64],
 ) -> u8
-    requires { ⌜ Checkable (now rows) t (now variables) (now kept) (lent (now cells) (now states)) n (now value) body ⌝ }
+    requires { ⌜ Checkable (now rows) t (now kept) (lent (now cells) (now states) (now bodies)) n (now value) body ⌝ }
     requires { ⌜ body-cells * (t .count + 1) ≤ length (now stack) ⌝ }
-    ensures { λ r. ⌜ ((vs : List Variable) (x : Composite) → Running (now (rows .entry)) t (now (variables .entry)) (now (kept .entry)) (lent (now (cells .entry)) (now (states .entry))) vs → n < length vs → Current (now (value .entry)) body x
+    ensures { λ r. ⌜ ((vs : List Variable) (x : Composite) → Running (now (rows .entry)) t (now (kept .entry)) (lent (now (cells .entry)) (now (states .entry)) (now (bodies .entry))) vs → n < length vs → Current (now (value .entry)) body x
         → Admits r (checks vs (variableAt vs n) x)) ⌝ }
 {
     let yoke = yoke_of(states, n);
     let given = eval_yoke(
         rows,
         t,
-        variables,
+        bodies,
         cells,
         states,
         yoke,
@@ -92,8 +87,8 @@ pub fn admitted(
     if given.error != NO_ERROR {
         return given.error;
     }
-    let own = declared(variables, n);
-    if !same(own, body) {
+    let own = present(bodies, n);
+    if !coherent(own, body) {
         return NO_COHERENCE;
     }
     let truth = truth_of(given, YOKE_EXPECTED, stack);

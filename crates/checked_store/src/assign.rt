@@ -1,12 +1,12 @@
 // Assignment: the new value's checks, and then the store.
 use crate::admit::admitted;
 use crate::admit::unyoked;
+use crate::keep::keep;
 use checked::answer::Evaluated;
 use decoder::tables::Table;
 use lingua::errors::NO_ERROR;
 use lingua::sizes::BODY_CELLS;
 use run::copies::copy;
-use run::part::put;
 use run::words::yoke_of;
 ghost use mathlib.Core.List.{List};
 ghost use Prim.Native.Nat.{_+_, _*_, _<_, _≤_};
@@ -24,7 +24,7 @@ ghost use Rattle.checked_store.specs.Meaning.{Running, Assignable, Assig
 pub fn assign(
     rows: &[u8],
     t: Table,
-    variables: &[u8],
+    bodies: &mut [u8],
     kept: &[i64],
     cells: &mut [i64],
     states: &mut [u16],
@@ -32,10 +32,10 @@ pub fn assign(
     x: Evaluated,
     stack: &mut [i64],
 ) -> u8
-    requires { ⌜ Assignable (now rows) t (now variables) (now kept) (lent (now cells) (now states)) n x (now stack) ⌝ }
+    requires { ⌜ Assignable (now rows) t (now kept) (lent (now cells) (now states) (now bodies)) n x (now stack) ⌝ }
     requires { ⌜ body-cells * (t .count + 1) ≤ length (now stack) ⌝ }
-    ensures { λ r. ⌜ ((vs : List Variable) (o : Result Composite) → Running (now (rows .entry)) t (now (variables .entry)) (now (kept .entry)) (lent (now (cells .entry)) (now (states .entry))) vs → n < length vs → Gives x (now (stack .entry)) o
-        → Assigns r (now (rows .entry)) t (now (variables .entry)) (now (kept .entry)) (lent (now (cells .entry)) (now (states .entry))) (lent (now (cells .exit)) (now (states .exit))) (bind o (assigned vs n))) ⌝ }
+    ensures { λ r. ⌜ ((vs : List Variable) (o : Result Composite) → Running (now (rows .entry)) t (now (kept .entry)) (lent (now (cells .entry)) (now (states .entry)) (now (bodies .entry))) vs → n < length vs → Gives x (now (stack .entry)) o
+        → Assigns r (now (rows .entry)) t (now (kept .entry)) (lent (now (cells .entry)) (now (states .entry)) (now (bodies .entry))) (lent (now (cells .exit)) (now (states .exit)) (now (bodies .exit))) (bind o (assigned vs n))) ⌝ }
 {
     if x.error != NO_ERROR {
         return x.error;
@@ -43,30 +43,19 @@ pub fn assign(
     let body = x.body;
     let width = x.cells;
     if yoke_of(states, n) == 0 {
-        let wrong = unyoked(variables, kept, n, stack, body);
+        let wrong = unyoked(bodies, kept, n, stack, body);
         if wrong != NO_ERROR {
             return wrong;
         }
-        put(cells, states, n, stack, width);
+        keep(bodies, cells, states, n, stack, width, body);
         return NO_ERROR;
     }
     let mut value = [0i64; BODY_CELLS];
     copy(stack, 0, width, &mut value);
-    let error = admitted(
-        rows,
-        t,
-        variables,
-        kept,
-        cells,
-        states,
-        n,
-        &value,
-        body,
-        stack,
-    );
+    let error = admitted(rows, t, bodies, kept, cells, states, n, &value, body, stack);
     if error != NO_ERROR {
         return error;
     }
-    put(cells, states, n, &value, width);
+    keep(bodies, cells, states, n, &value, width, body);
     NO_ERROR
 }

@@ -15,7 +15,7 @@ ghost use Rattle.checked_store.specs.Meaning.{Running, HasRunning, Assig
 pub fn change_yoke(
     rows: &[u8],
     t: Table,
-    variables: &[u8],
+    bodies: &[u8],
     kept: &[i64],
     cells: &[i64],
     states: &mut [u16],
@@ -23,13 +23,13 @@ pub fn change_yoke(
     y: u16,
     stack: &mut [i64],
 ) -> u8
-    requires { ⌜ HasRunning (now rows) t (now variables) (now kept) (lent (now cells) (now states)) n ⌝ }
+    requires { ⌜ HasRunning (now rows) t (now kept) (lent (now cells) (now states) (now bodies)) n ⌝ }
     requires { ⌜ y ≤ t .count ⌝ }
     requires { ⌜ body-cells * (y + 1) ≤ length (now stack) ⌝ }
-    ensures { λ r. ⌜ ((vs : List Variable) → Running (now (rows .entry)) t (now (variables .entry)) (now (kept .entry)) (lent (now (cells .entry)) (now (states .entry))) vs → n < length vs
-        → Assigns r (now (rows .entry)) t (now (variables .entry)) (now (kept .entry)) (lent (now (cells .entry)) (now (states .entry))) (lent (now (cells .entry)) (now (states .exit))) (yokeChanged vs n (yokeTree (now (rows .entry)) y))) ⌝ }
+    ensures { λ r. ⌜ ((vs : List Variable) → Running (now (rows .entry)) t (now (kept .entry)) (lent (now (cells .entry)) (now (states .entry)) (now (bodies .entry))) vs → n < length vs
+        → Assigns r (now (rows .entry)) t (now (kept .entry)) (lent (now (cells .entry)) (now (states .entry)) (now (bodies .entry))) (lent (now (cells .entry)) (now (states .exit)) (now (bodies .entry))) (yokeChanged vs n (yokeTree (now (rows .entry)) y))) ⌝ }
 {
-    let error = yoke_holds(rows, t, variables, cells, states, n, y as usize, stack);
+    let error = yoke_holds(rows, t, bodies, cells, states, n, y as usize, stack);
     if error != NO_ERROR {
         return error;
     }

@@ -1,6 +1,6 @@
 // Whether a variable's value satisfies a new yoke; one that is not filled takes any.
 use checked::answer::truth_of;
-use checked::leaves::declared;
+use checked::leaves::present;
 use checked::yoke::eval_yoke;
 use decoder::tables::Table;
 use lingua::errors::NO_ERROR;
@@ -38,7 +38,7 @@ pub fn yoke_holds(
     if !is_filled(states, n) {
         return NO_ERROR;
     }
-    let body = declared(variables, n);
+    let body = present(variables, n);
     let at = BODY_CELLS * n;
     let end = at + BODY_CELLS;
     let given = eval_yoke(

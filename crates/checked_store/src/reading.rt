@@ -21,7 +21,7 @@ ghost use Rattle.checked_store.specs.Meaning.{Running, HasRunning, Assig
 pub fn take_reading(
     rows: &[u8],
     t: Table,
-    variables: &[u8],
+    bodies: &mut [u8],
     kept: &[i64],
     cells: &mut [i64],
     states: &mut [u16],
@@ -29,10 +29,10 @@ pub fn take_reading(
     z: i64,
     stack: &mut [i64],
 ) -> u8
-    requires { ⌜ HasRunning (now rows) t (now variables) (now kept) (lent (now cells) (now states)) n ⌝ }
+    requires { ⌜ HasRunning (now rows) t (now kept) (lent (now cells) (now states) (now bodies)) n ⌝ }
     requires { ⌜ body-cells * (t .count + 1) ≤ length (now stack) ⌝ }
-    ensures { λ r. ⌜ ((vs : List Variable) → Running (now (rows .entry)) t (now (variables .entry)) (now (kept .entry)) (lent (now (cells .entry)) (now (states .entry))) vs → n < length vs
-        → Assigns r (now (rows .entry)) t (now (variables .entry)) (now (kept .entry)) (lent (now (cells .entry)) (now (states .entry))) (lent (now (cells .exit)) (now (states .exit))) (readingTaken vs (reading n z))) ⌝ }
+    ensures { λ r. ⌜ ((vs : List Variable) → Running (now (rows .entry)) t (now (kept .entry)) (lent (now (cells .entry)) (now (states .entry)) (now (bodies .entry))) vs → n < length vs
+        → Assigns r (now (rows .entry)) t (now (kept .entry)) (lent (now (cells .entry)) (now (states .entry)) (now (bodies .entry))) (lent (now (cells .exit)) (now (states .exit)) (now (bodies .exit))) (readingTaken vs (reading n z))) ⌝ }
 {
     if !between(LOWEST_NUMBER, HIGHEST_NUMBER, z) {
         return OVERFLOW;
@@ -44,5 +44,5 @@ pub fn take_reading(
         body: body,
         cells: 1,
     };
-    assign(rows, t, variables, kept, cells, states, n, x, stack)
+    assign(rows, t, bodies, kept, cells, states, n, x, stack)
 }

@@ -9,7 +9,7 @@ use Rattle.profile.specs.Facts.{RowFacts, rowTree, says-as}
 use Rattle.profile.specs.Known.{row-known}
 use Rattle.cells.proofs.Moves.{cell-back}
 use Rattle.run.proofs.Parts.{states-room, cells-room}
-use Rattle.checked.proofs.Storing.{memory-of}
+use Rattle.checked.proofs.Storing.{memory-of, body-room, present-held}
 use Rattle.checked.proofs.Cycle.{in-table, facts}
 use Rattle.checked.proofs.Simple.{no-gives, positive, there, own-first, constant-simple, variable-simple, current-long, current-simple, simple-by-row}
 use borrow.Author.Needs.{needs}
@@ -70,7 +70,7 @@ unfolding RowFacts
 shared-slice-read-simple-tag c =
     let w = c .before .before .before .before .before .before .before .before .before .before .pre .ready .world in
     let f = facts w (c .before .before .before .before .before .before .before .before .before .before .pre .here) (says-as (c .before .before .before .before .says .given .1) (c .before .before .before .before .before .before .expression-row .ensures)) in
-    omega (arith, f, w .count, w .stored .room)
+    omega (arith, body-room (w .stored) _ (there w f))
 
 simple-tag-requires-2 : tie.Need-simple-tag-requires-2
 simple-tag-requires-2 c κs = search needs
@@ -156,7 +156,7 @@ returns-6 c = λ vs x w h.
     let f = facts w (c .before .before .before .before .before .before .before .before .before .before .before .before .before .pre .here) (says-as (c .before .before .before .before .before .before .before .says .given .1) (c .before .before .before .before .before .before .before .before .before .expression-row .ensures)) in
     let lt = there w f in
     simple-by-row w (c .before .before .before .before .before .before .before .before .before .before .before .before .before .pre .here) x (says-as (c .before .before .before .before .before .before .before .says .given .1) (c .before .before .before .before .before .before .before .before .before .expression-row .ensures))
-    (variable-simple (w .stored) _ lt (c .before .before .before .before .before .before .before .before .before .before .before .before .before .args .stack .now) _ _ (sym (c .before .before .before .before .before .is-filled .ensures) ∙ not-false _ (c .before .before .before .before .if2 .left)) (c .before .before .simple-tag2 .ensures _ _ (w .stored .bodies _ lt) (own-first (c .before .before .before .before .before .before .before .before .before .before .before .before .before .args .variables .now) (c .before .before .before .before .before .before .before .says .given .0 .0))) (cell-back _ (c .stack .given)) (omega (arith, c .before .before .before .before .before .before .before .before .before .before .before .before .before .pre .room)))
+    (variable-simple (w .stored) _ lt (c .before .before .before .before .before .before .before .before .before .before .before .before .before .args .stack .now) _ _ (sym (c .before .before .before .before .before .is-filled .ensures) ∙ not-false _ (c .before .before .before .before .if2 .left)) (c .before .before .simple-tag2 .ensures _ _ (present-held (w .stored) _ lt _ refl) (own-first (c .before .before .before .before .before .before .before .before .before .before .before .before .before .args .variables .now) (c .before .before .before .before .before .before .before .says .given .0 .0))) (cell-back _ (c .stack .given)) (omega (arith, c .before .before .before .before .before .before .before .before .before .before .before .before .before .pre .room)))
 
 same-length-3 : tie.Need-same-length-3
 same-length-3 c = search needs

@@ -7,7 +7,7 @@ use Rattle.cells.proofs.Moves.{cell-back}
 use Rattle.lingua.specs.Store.{variableAt, within}
 use Rattle.checked.proofs.Giving.{gives-as}
 use Rattle.run.proofs.Parts.{word-room}
-use Rattle.checked.proofs.Storing.{memory-of, declared-held}
+use Rattle.checked.proofs.Storing.{memory-of, body-room, present-held}
 use Rattle.checked_store.proofs.Admitting.{yoke-there, own-yoke, yoke-error, other-body, no-truth, not-satisfied, out-of-limits, passes}
 use borrow.Author.Needs.{needs}
 use Rattle.checked_store.proofs.admit.admitted.Statement.{statement}
@@ -28,17 +28,19 @@ same-length c = search needs
 returns : tie.Need-returns
 returns c = λ vs x w l h. yoke-error vs (variableAt vs (c .before .before .before .before .before .before .before .before .before .args .n)) x (gives-as (own-yoke w (c .before .before .before .before .before .before .before .before .before .args .n) l (c .before .before .before .before .before .yoke-of .ensures) x) (c .before .before .before .eval-yoke .ensures vs x (w .world) h)) (c .if1 .taken)
 
-declared-requires : tie.Need-declared-requires
-declared-requires c κs = search needs
+present-requires : tie.Need-present-requires
+present-requires c κs = let r = c .before .before .before .before .before .before .before .before .before .pre .0 in body-room (r .running .world .stored) _ (r .there)
 
-same-requires : tie.Need-same-requires
-same-requires c κs = search needs
+coherent-requires : tie.Need-coherent-requires
+coherent-requires c κs =
+    let r = c .before .before .before .before .before .before .before .before .before .before .pre .0 in
+    (record { body = _; holds = present-held (r .running .world .stored) _ (r .there) _ (c .present .ensures) }, record { body = _; holds = r .has .is .holds })
 
 same-length-2 : tie.Need-same-length-2
 same-length-2 c = search needs
 
 returns-2 : tie.Need-returns-2
-returns-2 c = λ vs x w l h. other-body vs (variableAt vs (c .before .before .before .before .before .before .before .before .before .before .before .before .args .n)) x (gives-as (own-yoke w (c .before .before .before .before .before .before .before .before .before .before .before .before .args .n) l (c .before .before .before .before .before .before .before .before .yoke-of .ensures) x) (c .before .before .before .before .before .before .eval-yoke .ensures vs x (w .world) h)) (c .before .before .before .if1 .left) _ (c .before .same .ensures _ _ (declared-held (w .world .stored) (c .before .before .before .before .before .before .before .before .before .before .before .before .args .n) l _ (c .before .before .declared .ensures)) (h .holds)) (not-true _ (c .if2 .taken))
+returns-2 c = λ vs x w l h. other-body vs (variableAt vs (c .before .before .before .before .before .before .before .before .before .before .before .before .args .n)) x (gives-as (own-yoke w (c .before .before .before .before .before .before .before .before .before .before .before .before .args .n) l (c .before .before .before .before .before .before .before .before .yoke-of .ensures) x) (c .before .before .before .before .before .before .eval-yoke .ensures vs x (w .world) h)) (c .before .before .before .if1 .left) _ (c .before .coherent .ensures _ _ (present-held (w .world .stored) (c .before .before .before .before .before .before .before .before .before .before .before .before .args .n) l _ (c .before .before .present .ensures)) (h .holds)) (not-true _ (c .if2 .taken))
 
 truth-of-requires : tie.Need-truth-of-requires
 truth-of-requires c κs = search needs
@@ -47,13 +49,13 @@ same-length-3 : tie.Need-same-length-3
 same-length-3 c = search needs
 
 returns-3 : tie.Need-returns-3
-returns-3 c = λ vs x w l h. no-truth vs (variableAt vs (c .before .before .before .before .before .before .before .before .before .before .before .before .before .before .before .before .args .n)) x (gives-as (own-yoke w (c .before .before .before .before .before .before .before .before .before .before .before .before .before .before .before .before .args .n) l (c .before .before .before .before .before .before .before .before .before .before .before .before .yoke-of .ensures) x) (c .before .before .before .before .before .before .before .before .before .before .eval-yoke .ensures vs x (w .world) h)) (c .before .before .before .before .before .before .before .if1 .left) _ (c .before .before .before .before .before .same .ensures _ _ (declared-held (w .world .stored) (c .before .before .before .before .before .before .before .before .before .before .before .before .before .before .before .before .args .n) l _ (c .before .before .before .before .before .before .declared .ensures)) (h .holds)) (not-false _ (c .before .before .before .before .if2 .left)) _ (c .before .before .truth-of .ensures _ (gives-as (own-yoke w (c .before .before .before .before .before .before .before .before .before .before .before .before .before .before .before .before .args .n) l (c .before .before .before .before .before .before .before .before .before .before .before .before .yoke-of .ensures) x) (c .before .before .before .before .before .before .before .before .before .before .eval-yoke .ensures vs x (w .world) h))) (c .if3 .taken)
+returns-3 c = λ vs x w l h. no-truth vs (variableAt vs (c .before .before .before .before .before .before .before .before .before .before .before .before .before .before .before .before .args .n)) x (gives-as (own-yoke w (c .before .before .before .before .before .before .before .before .before .before .before .before .before .before .before .before .args .n) l (c .before .before .before .before .before .before .before .before .before .before .before .before .yoke-of .ensures) x) (c .before .before .before .before .before .before .before .before .before .before .eval-yoke .ensures vs x (w .world) h)) (c .before .before .before .before .before .before .before .if1 .left) _ (c .before .before .before .before .before .coherent .ensures _ _ (present-held (w .world .stored) (c .before .before .before .before .before .before .before .before .before .before .before .before .before .before .before .before .args .n) l _ (c .before .before .before .before .before .before .present .ensures)) (h .holds)) (not-false _ (c .before .before .before .before .if2 .left)) _ (c .before .before .truth-of .ensures _ (gives-as (own-yoke w (c .before .before .before .before .before .before .before .before .before .before .before .before .before .before .before .before .args .n) l (c .before .before .before .before .before .before .before .before .before .before .before .before .yoke-of .ensures) x) (c .before .before .before .before .before .before .before .before .before .before .eval-yoke .ensures vs x (w .world) h))) (c .if3 .taken)
 
 same-length-4 : tie.Need-same-length-4
 same-length-4 c = search needs
 
 returns-4 : tie.Need-returns-4
-returns-4 c = λ vs x w l h. not-satisfied vs (variableAt vs (c .before .before .before .before .before .before .before .before .before .before .before .before .before .before .before .before .before .before .args .n)) x (gives-as (own-yoke w (c .before .before .before .before .before .before .before .before .before .before .before .before .before .before .before .before .before .before .args .n) l (c .before .before .before .before .before .before .before .before .before .before .before .before .before .before .yoke-of .ensures) x) (c .before .before .before .before .before .before .before .before .before .before .before .before .eval-yoke .ensures vs x (w .world) h)) (c .before .before .before .before .before .before .before .before .before .if1 .left) _ (c .before .before .before .before .before .before .before .same .ensures _ _ (declared-held (w .world .stored) (c .before .before .before .before .before .before .before .before .before .before .before .before .before .before .before .before .before .before .args .n) l _ (c .before .before .before .before .before .before .before .before .declared .ensures)) (h .holds)) (not-false _ (c .before .before .before .before .before .before .if2 .left)) _ (c .before .before .before .before .truth-of .ensures _ (gives-as (own-yoke w (c .before .before .before .before .before .before .before .before .before .before .before .before .before .before .before .before .before .before .args .n) l (c .before .before .before .before .before .before .before .before .before .before .before .before .before .before .yoke-of .ensures) x) (c .before .before .before .before .before .before .before .before .before .before .before .before .eval-yoke .ensures vs x (w .world) h))) (c .before .before .if3 .left) (not-true _ (c .if4 .taken))
+returns-4 c = λ vs x w l h. not-satisfied vs (variableAt vs (c .before .before .before .before .before .before .before .before .before .before .before .before .before .before .before .before .before .before .args .n)) x (gives-as (own-yoke w (c .before .before .before .before .before .before .before .before .before .before .before .before .before .before .before .before .before .before .args .n) l (c .before .before .before .before .before .before .before .before .before .before .before .before .before .before .yoke-of .ensures) x) (c .before .before .before .before .before .before .before .before .before .before .before .before .eval-yoke .ensures vs x (w .world) h)) (c .before .before .before .before .before .before .before .before .before .if1 .left) _ (c .before .before .before .before .before .before .before .coherent .ensures _ _ (present-held (w .world .stored) (c .before .before .before .before .before .before .before .before .before .before .before .before .before .before .before .before .before .before .args .n) l _ (c .before .before .before .before .before .before .before .before .present .ensures)) (h .holds)) (not-false _ (c .before .before .before .before .before .before .if2 .left)) _ (c .before .before .before .before .truth-of .ensures _ (gives-as (own-yoke w (c .before .before .before .before .before .before .before .before .before .before .before .before .before .before .before .before .before .before .args .n) l (c .before .before .before .before .before .before .before .before .before .before .before .before .before .before .yoke-of .ensures) x) (c .before .before .before .before .before .before .before .before .before .before .before .before .eval-yoke .ensures vs x (w .world) h))) (c .before .before .if3 .left) (not-true _ (c .if4 .taken))
 
 whole-requires : tie.Need-whole-requires
 whole-requires c κs = c .before .before .before .before .before .before .before .before .before .before .before .before .before .before .before .before .before .before .pre .0 .has
@@ -65,13 +67,13 @@ same-length-5 : tie.Need-same-length-5
 same-length-5 c = search needs
 
 returns-5 : tie.Need-returns-5
-returns-5 c = λ vs x w l h. out-of-limits vs (variableAt vs (c .before .before .before .before .before .before .before .before .before .before .before .before .before .before .before .before .before .before .before .before .before .args .n)) x (gives-as (own-yoke w (c .before .before .before .before .before .before .before .before .before .before .before .before .before .before .before .before .before .before .before .before .before .args .n) l (c .before .before .before .before .before .before .before .before .before .before .before .before .before .before .before .before .before .yoke-of .ensures) x) (c .before .before .before .before .before .before .before .before .before .before .before .before .before .before .before .eval-yoke .ensures vs x (w .world) h)) (c .before .before .before .before .before .before .before .before .before .before .before .before .if1 .left) _ (c .before .before .before .before .before .before .before .before .before .before .same .ensures _ _ (declared-held (w .world .stored) (c .before .before .before .before .before .before .before .before .before .before .before .before .before .before .before .before .before .before .before .before .before .args .n) l _ (c .before .before .before .before .before .before .before .before .before .before .before .declared .ensures)) (h .holds)) (not-false _ (c .before .before .before .before .before .before .before .before .before .if2 .left)) _ (c .before .before .before .before .before .before .before .truth-of .ensures _ (gives-as (own-yoke w (c .before .before .before .before .before .before .before .before .before .before .before .before .before .before .before .before .before .before .before .before .before .args .n) l (c .before .before .before .before .before .before .before .before .before .before .before .before .before .before .before .before .before .yoke-of .ensures) x) (c .before .before .before .before .before .before .before .before .before .before .before .before .before .before .before .eval-yoke .ensures vs x (w .world) h))) (c .before .before .before .before .before .if3 .left) (not-false _ (c .before .before .before .if4 .left)) _ (c .before .in-limits .ensures _ (w .limited (c .before .before .before .before .before .before .before .before .before .before .before .before .before .before .before .before .before .before .before .before .before .args .n) l) ∙ ap (λ (z : ℤ). within (variableAt vs (c .before .before .before .before .before .before .before .before .before .before .before .before .before .before .before .before .before .before .before .before .before .args .n) .limit) z) (cell-back _ (c .before .before .whole .ok) ∙ c .before .before .whole .ensures x h)) (not-true _ (c .if5 .taken))
+returns-5 c = λ vs x w l h. out-of-limits vs (variableAt vs (c .before .before .before .before .before .before .before .before .before .before .before .before .before .before .before .before .before .before .before .before .before .args .n)) x (gives-as (own-yoke w (c .before .before .before .before .before .before .before .before .before .before .before .before .before .before .before .before .before .before .before .before .before .args .n) l (c .before .before .before .before .before .before .before .before .before .before .before .before .before .before .before .before .before .yoke-of .ensures) x) (c .before .before .before .before .before .before .before .before .before .before .before .before .before .before .before .eval-yoke .ensures vs x (w .world) h)) (c .before .before .before .before .before .before .before .before .before .before .before .before .if1 .left) _ (c .before .before .before .before .before .before .before .before .before .before .coherent .ensures _ _ (present-held (w .world .stored) (c .before .before .before .before .before .before .before .before .before .before .before .before .before .before .before .before .before .before .before .before .before .args .n) l _ (c .before .before .before .before .before .before .before .before .before .before .before .present .ensures)) (h .holds)) (not-false _ (c .before .before .before .before .before .before .before .before .before .if2 .left)) _ (c .before .before .before .before .before .before .before .truth-of .ensures _ (gives-as (own-yoke w (c .before .before .before .before .before .before .before .before .before .before .before .before .before .before .before .before .before .before .before .before .before .args .n) l (c .before .before .before .before .before .before .before .before .before .before .before .before .before .before .before .before .before .yoke-of .ensures) x) (c .before .before .before .before .before .before .before .before .before .before .before .before .before .before .before .eval-yoke .ensures vs x (w .world) h))) (c .before .before .before .before .before .if3 .left) (not-false _ (c .before .before .before .if4 .left)) _ (c .before .in-limits .ensures _ (w .limited (c .before .before .before .before .before .before .before .before .before .before .before .before .before .before .before .before .before .before .before .before .before .args .n) l) ∙ ap (λ (z : ℤ). within (variableAt vs (c .before .before .before .before .before .before .before .before .before .before .before .before .before .before .before .before .before .before .before .before .before .args .n) .limit) z) (cell-back _ (c .before .before .whole .ok) ∙ c .before .before .whole .ensures x h)) (not-true _ (c .if5 .taken))
 
 same-length-6 : tie.Need-same-length-6
 same-length-6 c = search needs
 
 returns-6 : tie.Need-returns-6
-returns-6 c = λ vs x w l h. passes vs (variableAt vs (c .before .before .before .before .before .before .before .before .before .before .before .before .before .before .before .before .before .before .before .before .before .args .n)) x (gives-as (own-yoke w (c .before .before .before .before .before .before .before .before .before .before .before .before .before .before .before .before .before .before .before .before .before .args .n) l (c .before .before .before .before .before .before .before .before .before .before .before .before .before .before .before .before .before .yoke-of .ensures) x) (c .before .before .before .before .before .before .before .before .before .before .before .before .before .before .before .eval-yoke .ensures vs x (w .world) h)) (c .before .before .before .before .before .before .before .before .before .before .before .before .if1 .left) _ (c .before .before .before .before .before .before .before .before .before .before .same .ensures _ _ (declared-held (w .world .stored) (c .before .before .before .before .before .before .before .before .before .before .before .before .before .before .before .before .before .before .before .before .before .args .n) l _ (c .before .before .before .before .before .before .before .before .before .before .before .declared .ensures)) (h .holds)) (not-false _ (c .before .before .before .before .before .before .before .before .before .if2 .left)) _ (c .before .before .before .before .before .before .before .truth-of .ensures _ (gives-as (own-yoke w (c .before .before .before .before .before .before .before .before .before .before .before .before .before .before .before .before .before .before .before .before .before .args .n) l (c .before .before .before .before .before .before .before .before .before .before .before .before .before .before .before .before .before .yoke-of .ensures) x) (c .before .before .before .before .before .before .before .before .before .before .before .before .before .before .before .eval-yoke .ensures vs x (w .world) h))) (c .before .before .before .before .before .if3 .left) (not-false _ (c .before .before .before .if4 .left)) _ (c .before .in-limits .ensures _ (w .limited (c .before .before .before .before .before .before .before .before .before .before .before .before .before .before .before .before .before .before .before .before .before .args .n) l) ∙ ap (λ (z : ℤ). within (variableAt vs (c .before .before .before .before .before .before .before .before .before .before .before .before .before .before .before .before .before .before .before .before .before .args .n) .limit) z) (cell-back _ (c .before .before .whole .ok) ∙ c .before .before .whole .ensures x h)) (not-false _ (c .if5 .left))
+returns-6 c = λ vs x w l h. passes vs (variableAt vs (c .before .before .before .before .before .before .before .before .before .before .before .before .before .before .before .before .before .before .before .before .before .args .n)) x (gives-as (own-yoke w (c .before .before .before .before .before .before .before .before .before .before .before .before .before .before .before .before .before .before .before .before .before .args .n) l (c .before .before .before .before .before .before .before .before .before .before .before .before .before .before .before .before .before .yoke-of .ensures) x) (c .before .before .before .before .before .before .before .before .before .before .before .before .before .before .before .eval-yoke .ensures vs x (w .world) h)) (c .before .before .before .before .before .before .before .before .before .before .before .before .if1 .left) _ (c .before .before .before .before .before .before .before .before .before .before .coherent .ensures _ _ (present-held (w .world .stored) (c .before .before .before .before .before .before .before .before .before .before .before .before .before .before .before .before .before .before .before .before .before .args .n) l _ (c .before .before .before .before .before .before .before .before .before .before .before .present .ensures)) (h .holds)) (not-false _ (c .before .before .before .before .before .before .before .before .before .if2 .left)) _ (c .before .before .before .before .before .before .before .truth-of .ensures _ (gives-as (own-yoke w (c .before .before .before .before .before .before .before .before .before .before .before .before .before .before .before .before .before .before .before .before .before .args .n) l (c .before .before .before .before .before .before .before .before .before .before .before .before .before .before .before .before .before .yoke-of .ensures) x) (c .before .before .before .before .before .before .before .before .before .before .before .before .before .before .before .eval-yoke .ensures vs x (w .world) h))) (c .before .before .before .before .before .if3 .left) (not-false _ (c .before .before .before .if4 .left)) _ (c .before .in-limits .ensures _ (w .limited (c .before .before .before .before .before .before .before .before .before .before .before .before .before .before .before .before .before .before .before .before .before .args .n) l) ∙ ap (λ (z : ℤ). within (variableAt vs (c .before .before .before .before .before .before .before .before .before .before .before .before .before .before .before .before .before .before .before .before .before .args .n) .limit) z) (cell-back _ (c .before .before .whole .ok) ∙ c .before .before .whole .ensures x h)) (not-false _ (c .if5 .left))
 
 pub admitted-spec : {M : Type 1} → statement M
 admitted-spec =
@@ -81,8 +83,8 @@ admitted-spec =
     eval-yoke-requires
     same-length
     returns
-    declared-requires
-    same-requires
+    present-requires
+    coherent-requires
     same-length-2
     returns-2
     truth-of-requires

@@ -27,8 +27,8 @@ slice-set-from-z c = search needs
 
 assign-requires : tie.Need-assign-requires
 assign-requires c κs =
-    let r = c .before .before .before .before .before .before .before .before .before .pre .0 in
-    (record { store = r .store; running = r .running; there = r .there; given = record { outcome = _; gives = (puts-number (c .before .before .before .before .before .before .before .before .before .args .stack .now) (c .before .before .before .before .before .before .before .before .before .args .z) _ _ (toZ-ofZ _ _ (c .before .before .before .before .before .before .before .before .before .fits .z)) (c .before .before .before .before .before .between .ensures ∙ between-as {low = lowest-number} {high = highest-number} {z = c .before .before .before .before .before .before .before .before .before .args .z} refl refl (toZ-ofZ _ _ (c .before .before .before .before .before .before .before .before .before .fits .z))) (not-false _ (c .before .before .before .before .if1 .left)) (omega (arith, c .before .before .before .before .before .before .before .before .before .pre .1)) refl (c .before .before .before .simple .ensures) refl) } }, simp length-set (omega (arith, c .before .before .before .before .before .before .before .before .before .pre .1)))
+    let r = c .before .before .before .before .before .before .before .before .before .before .pre .0 in
+    (record { store = r .store; running = r .running; there = r .there; given = record { outcome = _; gives = (puts-number (c .before .before .before .before .before .before .before .before .before .before .args .stack .now) (c .before .before .before .before .before .before .before .before .before .before .args .z) _ _ (toZ-ofZ _ _ (c .before .before .before .before .before .before .before .before .before .before .fits .z)) (c .before .before .before .before .before .before .between .ensures ∙ between-as {low = lowest-number} {high = highest-number} {z = c .before .before .before .before .before .before .before .before .before .before .args .z} refl refl (toZ-ofZ _ _ (c .before .before .before .before .before .before .before .before .before .before .fits .z))) (not-false _ (c .before .before .before .before .before .if1 .left)) (omega (arith, c .before .before .before .before .before .before .before .before .before .before .pre .1)) refl (c .before .before .before .before .simple .ensures) refl) } }, simp length-set (omega (arith, c .before .before .before .before .before .before .before .before .before .before .pre .1)))
 
 same-length : tie.Need-same-length
 same-length c = search needs
@@ -37,10 +37,13 @@ same-length-2 : tie.Need-same-length-2
 same-length-2 c = search needs
 
 same-length-3 : tie.Need-same-length-3
-same-length-3 c = c .before .before .before .before .assign .kept .1 .1 .1 .1 .1 .1 .1 .1 .0 ∙ length-set (c .before .before .before .before .before .before .before .before .before .before .before .before .before .before .args .stack .now) 0 _
+same-length-3 c = search needs
+
+same-length-4 : tie.Need-same-length-4
+same-length-4 c = c .before .before .before .before .before .before .assign .kept .1 .1 .1 .1 .1 .1 .1 .1 .0 ∙ length-set (c .before .before .before .before .before .before .before .before .before .before .before .before .before .before .before .before .before .args .stack .now) 0 _
 
 returns-2 : tie.Need-returns-2
-returns-2 c = λ vs w l. settles-as (taken-is vs (c .before .before .before .before .before .before .before .before .before .before .before .before .before .before .args .n) (c .before .before .before .before .before .before .before .before .before .before .before .before .before .before .args .z) _ (c .before .before .before .before .before .before .before .before .before .before .between .ensures ∙ between-as {low = lowest-number} {high = highest-number} {z = c .before .before .before .before .before .before .before .before .before .before .before .before .before .before .args .z} refl refl (toZ-ofZ _ _ (c .before .before .before .before .before .before .before .before .before .before .before .before .before .before .fits .z))) (not-false _ (c .before .before .before .before .before .before .before .before .before .if1 .left))) (c .before .before .before .before .assign .ensures vs _ w l (puts-number (c .before .before .before .before .before .before .before .before .before .before .before .before .before .before .args .stack .now) (c .before .before .before .before .before .before .before .before .before .before .before .before .before .before .args .z) _ _ (toZ-ofZ _ _ (c .before .before .before .before .before .before .before .before .before .before .before .before .before .before .fits .z)) (c .before .before .before .before .before .before .before .before .before .before .between .ensures ∙ between-as {low = lowest-number} {high = highest-number} {z = c .before .before .before .before .before .before .before .before .before .before .before .before .before .before .args .z} refl refl (toZ-ofZ _ _ (c .before .before .before .before .before .before .before .before .before .before .before .before .before .before .fits .z))) (not-false _ (c .before .before .before .before .before .before .before .before .before .if1 .left)) (omega (arith, c .before .before .before .before .before .before .before .before .before .before .before .before .before .before .pre .1)) refl (c .before .before .before .before .before .before .before .before .simple .ensures) refl))
+returns-2 c = λ vs w l. settles-as (taken-is vs (c .before .before .before .before .before .before .before .before .before .before .before .before .before .before .before .before .before .args .n) (c .before .before .before .before .before .before .before .before .before .before .before .before .before .before .before .before .before .args .z) _ (c .before .before .before .before .before .before .before .before .before .before .before .before .before .between .ensures ∙ between-as {low = lowest-number} {high = highest-number} {z = c .before .before .before .before .before .before .before .before .before .before .before .before .before .before .before .before .before .args .z} refl refl (toZ-ofZ _ _ (c .before .before .before .before .before .before .before .before .before .before .before .before .before .before .before .before .before .fits .z))) (not-false _ (c .before .before .before .before .before .before .before .before .before .before .before .before .if1 .left))) (c .before .before .before .before .before .before .assign .ensures vs _ w l (puts-number (c .before .before .before .before .before .before .before .before .before .before .before .before .before .before .before .before .before .args .stack .now) (c .before .before .before .before .before .before .before .before .before .before .before .before .before .before .before .before .before .args .z) _ _ (toZ-ofZ _ _ (c .before .before .before .before .before .before .before .before .before .before .before .before .before .before .before .before .before .fits .z)) (c .before .before .before .before .before .before .before .before .before .before .before .before .before .between .ensures ∙ between-as {low = lowest-number} {high = highest-number} {z = c .before .before .before .before .before .before .before .before .before .before .before .before .before .before .before .before .before .args .z} refl refl (toZ-ofZ _ _ (c .before .before .before .before .before .before .before .before .before .before .before .before .before .before .before .before .before .fits .z))) (not-false _ (c .before .before .before .before .before .before .before .before .before .before .before .before .if1 .left)) (omega (arith, c .before .before .before .before .before .before .before .before .before .before .before .before .before .before .before .before .before .pre .1)) refl (c .before .before .before .before .before .before .before .before .before .before .before .simple .ensures) refl))
 
 pub take-reading-spec : {M : Type 1} → statement M
 take-reading-spec =
@@ -54,4 +57,5 @@ take-reading-spec =
     same-length
     same-length-2
     same-length-3
+    same-length-4
     returns-2)

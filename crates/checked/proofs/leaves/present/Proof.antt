@@ -1,12 +1,12 @@
--- `declared` meets its contract: a turn of the loop is `bytes-turn`. Assumes nothing.
+-- `present` meets its contract: a turn of the loop is `bytes-turn`. Assumes nothing.
 use mathlib.Core.Path.{_≡_, refl, sym, ap, _∙_}
 use Prim.Native.Nat.{ℕ, _-_, _*_, _≤_}
 use native.Mathlib.Omega.{arith}
 use lib.ListN.{length, take, drop, length-set}
 use lib.Seq.{take-all}
 use Rattle.checked.proofs.Storing.{bytes-turn}
-use Rattle.checked.proofs.leaves.declared.Statement.{statement}
-use Rattle.checked.proofs.leaves.declared.Tie as tie
+use Rattle.checked.proofs.leaves.present.Statement.{statement}
+use Rattle.checked.proofs.leaves.present.Tie as tie
 
 abbrev Inv-loop : tie.InvT-loop
 Inv-loop variables n out₀ i₀ out i = (i ≤ 96) × (length out ≡ 96) × (take i out ≡ take i (drop (96 * n) variables))
@@ -37,8 +37,8 @@ loop-less c = omega arith
 
 loop-again : tie.Need-loop-again Inv-loop μ-loop
 loop-again c =
-    let l = @loop in
-    let a = @args in (
+    let l = c .before .before .loop in
+    let a = c .before .before .before .args in (
       omega arith,
       length-set (l .out) _ _ ∙ l .inv .1,
       bytes-turn (l .out) (a .variables .now) (96 * a .n) (l .i) (omega arith) (omega arith) (l .inv .2),
@@ -46,13 +46,13 @@ loop-again c =
 
 returns : tie.Need-returns Inv-loop μ-loop
 returns c =
-    let l = @loop in
-    let a = @args in
+    let l = c .before .loop in
+    let a = c .before .before .args in
     let e : l .i ≡ 96 = omega arith in
     sym (take-all 96 (l .out) (omega arith)) ∙ ap (λ (k : ℕ). take k (l .out)) (sym e) ∙ l .inv .2 ∙ ap (λ (k : ℕ). take k (drop (96 * a .n) (a .variables .now))) e
 
-pub declared-spec : {M : Type 1} → statement M
-declared-spec =
+pub present-spec : {M : Type 1} → statement M
+present-spec =
     tie.close
     (tie.spec
     Inv-loop
