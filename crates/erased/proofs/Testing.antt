@@ -1,7 +1,7 @@
 -- What the type check found at a row with a test, and what its expression then gives: the erased run's tests are the definition's. Assumes nothing.
 use mathlib.Core.Path.{sym, subst}
 use mathlib.Core.Bool.{Bool}
-use mathlib.Core.List.{List}
+use mathlib.Core.List.{List, []}
 use Prim.Native.Nat.{ℕ}
 use lib.IntN.{ℤ}
 use Rattle.lingua.specs.Outcome.{Result}
@@ -34,7 +34,7 @@ tested {layout} {vars} (branch r f i j) e q d = subst (λ (g : Expression). Deri
 tested {layout} {vars} (loop r f i) e q d = subst (λ (g : Expression). Derived (HoldsIn layout) vars g no-current-body boolean) q d
 tested (handle r n i) e q d = absurd q
 
-module _ {rows : List ℕ} {t : Table} {layout : List ℕ} {limits cells : List ℤ} {states : List ℕ} {vs : List Variable} (w : Running rows t layout limits (lent cells states) vs) where
+module _ {rows : List ℕ} {t : Table} {layout : List ℕ} {limits cells : List ℤ} {states : List ℕ} {vs : List Variable} (w : Running rows t layout limits (lent cells states []) vs) where
   test-passed : {e : ℕ} → TestRow rows e → Passed layout (w .declarations) (expressionTree rows e) no-current-body boolean
   test-passed {e} r = tested (instructionTree rows (r .at)) (expressionTree rows e) (r .is) (w .passed-rows (r .at) (r .there))
 
@@ -44,5 +44,5 @@ module _ {rows : List ℕ} {t : Table} {layout : List ℕ} {limits cells : List 
   pub test-told : {e : ℕ} → TestRow rows e → {m : ℕ} {s : List ℤ} {r : Truth} → EvaluatesPlain rows t layout cells states (expressionTree rows e) m s → ((o : Result Value) → Leaves m s boolean o → Tells r (told o)) → Tells r (evalTest (expressionTree rows e) (contents vs))
   unfolding testErased
   test-told {e} row {r = r} h f =
-      subst (λ (o : Result Bool). Tells r o) (sym (test-erased (HoldsIn layout) (w .declarations) vs (w .kept) (expressionTree rows e) (test-passed row)))
+      subst (λ (o : Result Bool). Tells r o) (sym (test-erased (HoldsIn layout) (w .declarations) vs (w .kept) (w .world .fit) (expressionTree rows e) (test-passed row)))
       (f _ (h .leaves (w .declarations) vs boolean (w .world) (test-passed row)))

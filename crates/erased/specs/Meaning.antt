@@ -35,7 +35,8 @@ use Rattle.cells.specs.Stack.{Lies, Leaves, first-place}
 use Rattle.run.specs.Memory.{Memory}
 use Rattle.run.specs.Reached.{Lent}
 
--- accepted rows with their table, a layout table, and the caller's memory, which holds a store of the declared variables
+-- accepted rows with their table, a layout table, and the caller's memory, which holds a store of the declared variables, each of its declared
+-- body where it is filled
 pub record World (rows : List ℕ) (t : Table) (layout : List ℕ) (cells : List ℤ) (states : List ℕ) (ds : List Declaration) (vs : List Variable) : Type 0 where
   pub accepted : AcceptedRows rows
   pub table : IsTable rows expression-section t
@@ -172,7 +173,8 @@ pub record HasBinary (layout : List ℕ) (o : Binary) (row a b first second : �
   pub other-leaves : Leaves second (drop body-cells stack) other other-outcome
 
 -- ---- what stores and tests of a run ask
--- a store of a run: what the type check found of its current yokes and of every instruction row, and its limits, which number variables alone have
+-- a store of a run: what the type check found of its current yokes and of every instruction row, and its limits, which number variables alone
+-- have. With the world's bodies, this makes a state of a passed profile's run. The lent bodies are asked nothing: the erased run has none.
 pub record Running (rows : List ℕ) (t : Table) (layout : List ℕ) (limits : List ℤ) (l : Lent) (vs : List Variable) : Type 0 where
   pub declarations : List Declaration
   pub world : World rows t layout (l .cells) (l .states) declarations vs

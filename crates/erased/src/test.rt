@@ -3,7 +3,7 @@ use crate::answer::truth_of;
 use crate::yoke::eval_plain;
 use decoder::tables::Table;
 use run::steps::Truth;
-ghost use mathlib.Core.List.{List};
+ghost use mathlib.Core.List.{List, []};
 ghost use Prim.Native.Nat.{_+_, _*_, _<_, _≤_};
 ghost use lib.IntN.{ℤ};
 ghost use lib.ListN.{length};
@@ -23,10 +23,10 @@ pub fn test(
     e: usize,
     stack: &mut [i64],
 ) -> Truth
-    requires { ⌜ HasStore (now rows) t (now layout) (lent (now cells) (now states)) ⌝ }
+    requires { ⌜ HasStore (now rows) t (now layout) (lent (now cells) (now states) []) ⌝ }
     requires { ⌜ (e < t .count) × TestRow (now rows) e ⌝ }
     requires { ⌜ body-cells * (t .count + 1) ≤ length (now stack) ⌝ }
-    ensures { λ r. ⌜ ((limits : List ℤ) (vs : List Variable) → Running (now (rows .entry)) t (now (layout .entry)) limits (lent (now (cells .entry)) (now (states .entry))) vs
+    ensures { λ r. ⌜ ((limits : List ℤ) (vs : List Variable) → Running (now (rows .entry)) t (now (layout .entry)) limits (lent (now (cells .entry)) (now (states .entry)) []) vs
         → Tells r (evalTest (expressionTree (now (rows .entry)) e) (contents vs))) ⌝ }
 {
     let x = eval_plain(rows, t, layout, cells, states, e, &mut *stack);

@@ -2,7 +2,7 @@
 -- nothing.
 use mathlib.Core.Path.{_≡_, refl, sym, ap, _∙_, subst}
 use mathlib.Core.Bool.{Bool, true, false, _&&_}
-use mathlib.Core.List.{List, _++_}
+use mathlib.Core.List.{List, [], _++_}
 use mathlib.Core.Option.{Option, some, none}
 use Prim.Native.Nat.{ℕ, _+_, _*_, _≤_, _<_}
 use native.Mathlib.Omega.{arith}
@@ -48,7 +48,7 @@ limit-behind (ok v) b = by (asTruth v)
     by true = refl
     by false = refl
 
-module _ {rows : List ℕ} {t : Table} {layout : List ℕ} {limits cells : List ℤ} {states : List ℕ} {vs : List Variable} (w : Running rows t layout limits (lent cells states) vs) (n : ℕ) where
+module _ {rows : List ℕ} {t : Table} {layout : List ℕ} {limits cells : List ℤ} {states : List ℕ} {vs : List Variable} (w : Running rows t layout limits (lent cells states []) vs) (n : ℕ) where
   module _ (x : Composite) (b : x .body ≡ bodiesOf (w .declarations) n) where
     limit : Bool
     limit = within (variableAt vs n .limit) (asWhole (x .value))
@@ -59,7 +59,7 @@ module _ {rows : List ℕ} {t : Table} {layout : List ℕ} {limits cells : List 
     checked : assigned vs n x ≡ ((yokeHoldsErased (variableAt vs n .yoke) (valuesOf (contents vs)) (some (x .value)) >> require limit yoke-not-satisfied) >> ok new)
     unfolding admittedErased yokeHoldsErased limit new
     checked =
-        assigned-erased (HoldsIn layout) (w .declarations) vs (w .kept) (w .passed-yokes) n x b
+        assigned-erased (HoldsIn layout) (w .declarations) vs (w .kept) (w .world .fit) (w .passed-yokes) n x b
         ∙ ap (λ (o : Result (Unit {0})). o >> ok (set vs n (withContent (variableAt vs n) x))) (limit-behind (yokeErased (variableAt vs n .yoke) (valuesOf (contents vs)) (x .value)) (within (variableAt vs n .limit) (asWhole (x .value))))
 
     pub yoke-fails : {r : ℕ} → Admits r (yokeHoldsErased (variableAt vs n .yoke) (valuesOf (contents vs)) (some (x .value))) → (r ≡ 0 → ⊥) → assigned vs n x ≡ fail r
@@ -81,31 +81,31 @@ module _ {rows : List ℕ} {t : Table} {layout : List ℕ} {limits cells : List 
     first-cell : (l : Option Limit) → variableAt vs n .limit ≡ l → within l (getD value 0 (pos 0)) ≡ within l (asWhole (x .value))
     unfolding within
     first-cell none e = refl
-    first-cell (some m) e = ap (λ (z : ℤ). within (some m) z) (number-cell (lies-as (f .coherent ∙ w .limited-numbers n m lt e) (f .lies)))
+    first-cell (some m) e = ap (λ (z : ℤ). within (some m) z) (number-cell (lies-as (f .declared-body ∙ w .limited-numbers n m lt e) (f .lies)))
 
     -- what is asked of that cell
     abbrev Asked : Bool → Type 0
     Asked c = (l : Option Limit) → LimitAt limits (3 * n) l → c ≡ within l (getD value 0 (pos 0))
 
-    limit-is : (c : Bool) → Asked c → c ≡ limit x (f .coherent)
+    limit-is : (c : Bool) → Asked c → c ≡ limit x (f .declared-body)
     unfolding limit
     limit-is c a = a (variableAt vs n .limit) (w .limited n lt) ∙ first-cell (variableAt vs n .limit) refl
 
     module _ (s : Satisfies vs n x) (c : Bool) (a : Asked c) where
-      pub outside : c ≡ false → Settles yoke-not-satisfied (Running rows t layout limits) (lent cells states) (lent cells states) (assigned vs n x)
-      outside e = keeps yoke-not-satisfied (λ z. omega arith) (limit-fails x (f .coherent) s (sym (limit-is c a) ∙ e))
+      pub outside : c ≡ false → Settles yoke-not-satisfied (Running rows t layout limits) (lent cells states []) (lent cells states []) (assigned vs n x)
+      outside e = keeps yoke-not-satisfied (λ z. omega arith) (limit-fails x (f .declared-body) s (sym (limit-is c a) ∙ e))
 
       pub inside : c ≡ true → (after : List ℤ) (words : List ℕ) → after ≡ take (body-cells * n) cells ++ (paste (take body-cells (drop (body-cells * n) cells)) 0 value width ++ drop (body-cells * n + body-cells) cells) → words ≡ fillAt states n
-          → Settles 0 (Running rows t layout limits) (lent cells states) (lent after words) (assigned vs n x)
+          → Settles 0 (Running rows t layout limits) (lent cells states []) (lent after words []) (assigned vs n x)
       inside e after words p q =
-          let ok-is = limit-passes x (f .coherent) s (sym (limit-is c a) ∙ e) in
+          let ok-is = limit-passes x (f .declared-body) s (sym (limit-is c a) ∙ e) in
           stores-as (set vs n (withContent (variableAt vs n) x)) ok-is
-          (content-running w n lt x (f .lies .fit) ok-is after words
-          (p ∙ cells-stored (memory-of (w .world)) n lt x (f .lies .fit) (f .coherent) value width (f .cells) (ap (λ (k : ℕ). take k value) (f .cells) ∙ f .lies .cells))
+          (content-running w n lt x (f .declared-body) (f .lies .fit) ok-is after words
+          (p ∙ cells-stored (memory-of (w .world)) n lt x (f .lies .fit) (f .declared-body) value width (f .cells) (ap (λ (k : ℕ). take k value) (f .cells) ∙ f .lies .cells))
           (q ∙ states-stored vs n lt x (w .world .states-are)))
 
 -- ---- the yoke
-module _ {rows : List ℕ} {t : Table} {layout : List ℕ} {limits cells : List ℤ} {states : List ℕ} {vs : List Variable} (w : Running rows t layout limits (lent cells states) vs) (n : ℕ) (lt : n < length vs) where
+module _ {rows : List ℕ} {t : Table} {layout : List ℕ} {limits cells : List ℤ} {states : List ℕ} {vs : List Variable} (w : Running rows t layout limits (lent cells states []) vs) (n : ℕ) (lt : n < length vs) where
   pub yoke-there : {k : ℕ} → k ≡ yokeAt states n → k ≤ t .count
   yoke-there e = omega (arith, e, Parts.yoke-there (memory-of (w .world)) n lt (w .yokes n lt), w .world .table .count)
 
@@ -120,10 +120,10 @@ module _ {rows : List ℕ} {t : Table} {layout : List ℕ} {limits cells : List 
 
   module _ {width : ℕ} {value : List ℤ} {x : Composite} (f : ValueFor (w .declarations) n width value x) where
     pub value-narrow : width ≤ body-cells
-    value-narrow = omega (arith, f .cells, ap size (f .coherent), w .world .small n)
+    value-narrow = omega (arith, f .cells, ap size (f .declared-body), w .world .small n)
 
     value-current : Current value (bodiesOf (w .declarations) n) (x .value)
-    value-current = record { lies = lies-as (f .coherent) (f .lies); small = w .world .small n }
+    value-current = record { lies = lies-as (f .declared-body) (f .lies); small = w .world .small n }
 
     own-passed : {k : ℕ} → k ≡ yokeAt states n → DerivedYoke (HoldsIn layout) (bodiesOf (w .declarations)) (yokeTree rows k) (bodiesOf (w .declarations) n)
     unfolding YokesDerived
@@ -148,4 +148,4 @@ module _ {rows : List ℕ} {t : Table} {layout : List ℕ} {limits cells : List 
 
     -- the value by itself
     pub value-copied : {after : List ℤ} (empty : List ℤ) → after ≡ paste empty 0 (drop 0 value) width → ValueFor (w .declarations) n width after x
-    value-copied empty e = record { coherent = f .coherent; lies = copied-lies empty value 0 width (x .body) (x .value) e (f .cells) (omega (arith, lies-long (f .lies), f .cells)) (f .lies .cells) (f .lies .fit); cells = f .cells }
+    value-copied empty e = record { declared-body = f .declared-body; lies = copied-lies empty value 0 width (x .body) (x .value) e (f .cells) (omega (arith, lies-long (f .lies), f .cells)) (f .lies .cells) (f .lies .fit); cells = f .cells }

@@ -2,7 +2,7 @@
 -- and readings are the definition's. Assumes nothing.
 use mathlib.Core.Path.{_≡_, refl, sym, ap, _∙_, subst}
 use mathlib.Core.Bool.{Bool, true, _&&_}
-use mathlib.Core.List.{List}
+use mathlib.Core.List.{List, []}
 use Prim.Native.Nat.{ℕ, _*_, _≤_, _<_}
 use native.Mathlib.Omega.{arith}
 use lib.IntN.{ℤ}
@@ -41,7 +41,7 @@ use Rattle.erased.proofs.Passing.{sizes}
 use Rattle.erased.proofs.Yokes.{none-current}
 
 -- ---- what the type check found
-module _ {rows : List ℕ} {t : Table} {layout : List ℕ} {limits cells : List ℤ} {states : List ℕ} {vs : List Variable} (w : Running rows t layout limits (lent cells states) vs) where
+module _ {rows : List ℕ} {t : Table} {layout : List ℕ} {limits cells : List ℤ} {states : List ℕ} {vs : List Variable} (w : Running rows t layout limits (lent cells states []) vs) where
   assign-passed : {n e : ℕ} → AssignRow rows n e → Passed layout (w .declarations) (expressionTree rows e) no-current-body (bodiesOf (w .declarations) n)
   unfolding DerivedRow
   assign-passed r = subst (λ (i : Instruction). DerivedRow (HoldsIn layout) (bodiesOf (w .declarations)) i) (r .is) (w .passed-rows (r .at) (r .there))
@@ -69,7 +69,7 @@ module _ {rows : List ℕ} {t : Table} {layout : List ℕ} {limits cells : List 
     evaluated : eval (expressionTree rows e) (contents vs) no-current ≡ withBody (bodiesOf (w .declarations) n) (evalErased (expressionTree rows e) (valuesOf (contents vs)) (no-current .value))
     evaluated = eval-erased (bodiesOf (w .declarations)) (contents vs) (w .world .fit) (expressionTree rows e) no-current (assign-passed row)
 
-    pub not-assigned : (r ≡ 0 → ⊥) → Settles r (Running rows t layout limits) (lent cells states) (lent cells states) (eval (expressionTree rows e) (contents vs) no-current >>= assigned vs n)
+    pub not-assigned : (r ≡ 0 → ⊥) → Settles r (Running rows t layout limits) (lent cells states []) (lent cells states []) (eval (expressionTree rows e) (contents vs) no-current >>= assigned vs n)
     not-assigned f = keeps r f (ap (λ (o : Result Composite). o >>= assigned vs n) (evaluated ∙ ap (λ (o : Result Value). withBody (bodiesOf (w .declarations) n) o) (leaves .error f)))
 
     module _ (z : r ≡ 0) where
@@ -83,10 +83,10 @@ module _ {rows : List ℕ} {t : Table} {layout : List ℕ} {limits cells : List 
 
       pub given-value : e < t .count → (width : ℕ) → width ≡ getD layout (2 * e) 0 → ValueFor (w .declarations) n width s given
       unfolding given
-      given-value l width q = record { coherent = refl; lies = leaves .answer z .lies; cells = q ∙ sizes (w .world) e l none-current (assign-passed row) .at }
+      given-value l width q = record { declared-body = refl; lies = leaves .answer z .lies; cells = q ∙ sizes (w .world) e l none-current (assign-passed row) .at }
 
       -- what its store settles, the assignment settles
-      pub assigned-settles : {error : ℕ} {after : Lent} → Settles error (Running rows t layout limits) (lent cells states) after (assigned vs n given) → Settles error (Running rows t layout limits) (lent cells states) after (eval (expressionTree rows e) (contents vs) no-current >>= assigned vs n)
+      pub assigned-settles : {error : ℕ} {after : Lent} → Settles error (Running rows t layout limits) (lent cells states []) after (assigned vs n given) → Settles error (Running rows t layout limits) (lent cells states []) after (eval (expressionTree rows e) (contents vs) no-current >>= assigned vs n)
       assigned-settles k = settles-as given-assigned k
 
   -- ---- a yoke change
@@ -95,12 +95,12 @@ module _ {rows : List ℕ} {t : Table} {layout : List ℕ} {limits cells : List 
     admits = h .admits (w .declarations) vs (w .world) lt (yoke-passed row)
 
     change-is : yokeChanged vs n (yokeTree rows y) ≡ (yokeHoldsErased (yokeTree rows y) (valuesOf (contents vs)) (valuesOf (contents vs) n) >> ok (set vs n (withYoke (variableAt vs n) (yokeTree rows y))))
-    change-is = changed-erased (HoldsIn layout) (w .declarations) vs (w .kept) n (yokeTree rows y) (yoke-passed row)
+    change-is = changed-erased (HoldsIn layout) (w .declarations) vs (w .kept) (w .world .fit) n (yokeTree rows y) (yoke-passed row)
 
-    pub not-changed : (r ≡ 0 → ⊥) → Settles r (Running rows t layout limits) (lent cells states) (lent cells states) (yokeChanged vs n (yokeTree rows y))
+    pub not-changed : (r ≡ 0 → ⊥) → Settles r (Running rows t layout limits) (lent cells states []) (lent cells states []) (yokeChanged vs n (yokeTree rows y))
     not-changed f = keeps r f (change-is ∙ ap (λ (p : Result (Unit {0})). p >> ok (set vs n (withYoke (variableAt vs n) (yokeTree rows y)))) (admits .error f))
 
-    pub changed : r ≡ 0 → y ≤ t .count → (words : List ℕ) → words ≡ setYokeAt states n y → Settles 0 (Running rows t layout limits) (lent cells states) (lent cells words) (yokeChanged vs n (yokeTree rows y))
+    pub changed : r ≡ 0 → y ≤ t .count → (words : List ℕ) → words ≡ setYokeAt states n y → Settles 0 (Running rows t layout limits) (lent cells states []) (lent cells words []) (yokeChanged vs n (yokeTree rows y))
     changed z l words q =
         let taken = change-is ∙ ap (λ (p : Result (Unit {0})). p >> ok (set vs n (withYoke (variableAt vs n) (yokeTree rows y)))) (admits .answer z) in
         stores-as (set vs n (withYoke (variableAt vs n) (yokeTree rows y))) taken
@@ -112,4 +112,4 @@ module _ {rows : List ℕ} {t : Table} {layout : List ℕ} {limits cells : List 
   unfolding size
   number-value {n} v s z y b k q e h =
       subst (λ (u : ℤ). ValueFor (w .declarations) n 1 (set s 0 u) (composite number (whole z))) (sym k)
-      (record { coherent = sym (w .number-variables n v); lies = put-number s z h (sym (in-range z b q) ∙ e); cells = refl })
+      (record { declared-body = sym (w .number-variables n v); lies = put-number s z h (sym (in-range z b q) ∙ e); cells = refl })

@@ -39,7 +39,7 @@ pub record YokeRow (rows : List ℕ) (n y : ℕ) : Type 0 where
 -- ---- what the parts of a store ask and give
 -- a value of variable n's declared body, as width cells at a list's front
 pub record ValueFor (ds : List Declaration) (n width : ℕ) (value : List ℤ) (x : Composite) : Type 0 where
-  pub coherent : x .body ≡ bodiesOf ds n
+  pub declared-body : x .body ≡ bodiesOf ds n
   pub lies : Lies value first-place (x .body) (x .value)
   pub cells : width ≡ size (x .body)
 

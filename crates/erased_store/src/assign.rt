@@ -4,7 +4,7 @@ use decoder::tables::Table;
 use erased::layout::size_at;
 use erased::yoke::eval_plain;
 use lingua::errors::NO_ERROR;
-ghost use mathlib.Core.List.{List};
+ghost use mathlib.Core.List.{List, []};
 ghost use Prim.Native.Nat.{_+_, _*_, _<_, _≤_};
 ghost use lib.ListN.{length};
 ghost use Rattle.lingua.specs.Numbers.{body-cells, declaration-section};
@@ -28,11 +28,11 @@ pub fn assign(
     e: usize,
     stack: &mut [i64],
 ) -> u8
-    requires { ⌜ HasRunning (now rows) t (now layout) (now kept) (lent (now cells) (now states)) ⌝ }
+    requires { ⌜ HasRunning (now rows) t (now layout) (now kept) (lent (now cells) (now states) []) ⌝ }
     requires { ⌜ (n < pairCount (now rows) declaration-section) × (e < t .count) × AssignRow (now rows) n e ⌝ }
     requires { ⌜ body-cells * (t .count + 1) ≤ length (now stack) ⌝ }
-    ensures { λ r. ⌜ ((vs : List Variable) → Running (now (rows .entry)) t (now (layout .entry)) (now (kept .entry)) (lent (now (cells .entry)) (now (states .entry))) vs
-        → Settles r (Running (now (rows .entry)) t (now (layout .entry)) (now (kept .entry))) (lent (now (cells .entry)) (now (states .entry))) (lent (now (cells .exit)) (now (states .exit)))
+    ensures { λ r. ⌜ ((vs : List Variable) → Running (now (rows .entry)) t (now (layout .entry)) (now (kept .entry)) (lent (now (cells .entry)) (now (states .entry)) []) vs
+        → Settles r (Running (now (rows .entry)) t (now (layout .entry)) (now (kept .entry))) (lent (now (cells .entry)) (now (states .entry)) []) (lent (now (cells .exit)) (now (states .exit)) [])
         (bind (meaning (expressionTree (now (rows .entry)) e) (contents vs) no-current) (assigned vs n))) ⌝ }
 {
     let error = eval_plain(rows, t, layout, cells, states, e, &mut *stack);

@@ -3,7 +3,7 @@ use crate::holds::yoke_holds;
 use decoder::tables::Table;
 use lingua::errors::NO_ERROR;
 use run::words::set_yoke;
-ghost use mathlib.Core.List.{List};
+ghost use mathlib.Core.List.{List, []};
 ghost use Prim.Native.Nat.{_+_, _*_, _<_, _≤_};
 ghost use lib.ListN.{length};
 ghost use Rattle.lingua.specs.Numbers.{body-cells, declaration-section};
@@ -25,11 +25,11 @@ pub fn change_yoke(
     y: u16,
     stack: &mut [i64],
 ) -> u8
-    requires { ⌜ HasRunning (now rows) t (now layout) (now kept) (lent (now cells) (now states)) ⌝ }
+    requires { ⌜ HasRunning (now rows) t (now layout) (now kept) (lent (now cells) (now states) []) ⌝ }
     requires { ⌜ (n < pairCount (now rows) declaration-section) × (y ≤ t .count) × YokeRow (now rows) n y ⌝ }
     requires { ⌜ body-cells * (t .count + 1) ≤ length (now stack) ⌝ }
-    ensures { λ r. ⌜ ((vs : List Variable) → Running (now (rows .entry)) t (now (layout .entry)) (now (kept .entry)) (lent (now (cells .entry)) (now (states .entry))) vs
-        → Settles r (Running (now (rows .entry)) t (now (layout .entry)) (now (kept .entry))) (lent (now (cells .entry)) (now (states .entry))) (lent (now (cells .entry)) (now (states .exit)))
+    ensures { λ r. ⌜ ((vs : List Variable) → Running (now (rows .entry)) t (now (layout .entry)) (now (kept .entry)) (lent (now (cells .entry)) (now (states .entry)) []) vs
+        → Settles r (Running (now (rows .entry)) t (now (layout .entry)) (now (kept .entry))) (lent (now (cells .entry)) (now (states .entry)) []) (lent (now (cells .entry)) (now (states .exit)) [])
         (yokeChanged vs n (yokeTree (now (rows .entry)) y))) ⌝ }
 {
     let error = yoke_holds(rows, t, layout, cells, states, n, y as usize, stack);

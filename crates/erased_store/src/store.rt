@@ -8,7 +8,7 @@ use run::copies::copy;
 use run::limits::in_limits;
 use run::part::put;
 use run::words::yoke_of;
-ghost use mathlib.Core.List.{List};
+ghost use mathlib.Core.List.{List, []};
 ghost use Prim.Native.Nat.{ℕ, _+_, _*_, _<_, _≤_};
 ghost use lib.ListN.{length};
 ghost use Rattle.lingua.specs.Numbers.{body-cells};
@@ -19,7 +19,7 @@ ghost use Rattle.run.specs.Reached.{lent, Settles};
 ghost use Rattle.erased.specs.Meaning.{Running};
 ghost use Rattle.erased_store.specs.Meaning.{ValueFor, Storable, StoreRoom, Satisfies};
 
-// A value that satisfies its yoke. Only numbers have kept, so its first cell is asked.
+// A value that satisfies its yoke. Only numbers have limits, so its first cell is asked.
 fn store_within(
     kept: &[i64],
     cells: &mut [i64],
@@ -29,9 +29,9 @@ fn store_within(
     width: usize,
 ) -> u8
     requires { ⌜ StoreRoom (now kept) (now cells) (now states) n width (now value) ⌝ }
-    ensures { λ r. ⌜ ((rows : List ℕ) (t : Table) (layout : List ℕ) (vs : List Variable) (x : Composite) (w : Running rows t layout (now (kept .entry)) (lent (now (cells .entry)) (now (states .entry))) vs)
+    ensures { λ r. ⌜ ((rows : List ℕ) (t : Table) (layout : List ℕ) (vs : List Variable) (x : Composite) (w : Running rows t layout (now (kept .entry)) (lent (now (cells .entry)) (now (states .entry)) []) vs)
         → n < length vs → ValueFor (w .declarations) n width (now (value .entry)) x → Satisfies vs n x
-        → Settles r (Running rows t layout (now (kept .entry))) (lent (now (cells .entry)) (now (states .entry))) (lent (now (cells .exit)) (now (states .exit))) (assigned vs n x)) ⌝ }
+        → Settles r (Running rows t layout (now (kept .entry))) (lent (now (cells .entry)) (now (states .entry)) []) (lent (now (cells .exit)) (now (states .exit)) []) (assigned vs n x)) ⌝ }
 {
     if !in_limits(kept, n, value[0]) {
         return YOKE_NOT_SATISFIED;
@@ -52,11 +52,11 @@ pub fn store(
     width: usize,
     stack: &mut [i64],
 ) -> u8
-    requires { ⌜ Storable (now rows) t (now layout) (now kept) (lent (now cells) (now states)) n width (now stack) ⌝ }
+    requires { ⌜ Storable (now rows) t (now layout) (now kept) (lent (now cells) (now states) []) n width (now stack) ⌝ }
     requires { ⌜ body-cells * (t .count + 1) ≤ length (now stack) ⌝ }
-    ensures { λ r. ⌜ ((vs : List Variable) (x : Composite) (w : Running (now (rows .entry)) t (now (layout .entry)) (now (kept .entry)) (lent (now (cells .entry)) (now (states .entry))) vs)
+    ensures { λ r. ⌜ ((vs : List Variable) (x : Composite) (w : Running (now (rows .entry)) t (now (layout .entry)) (now (kept .entry)) (lent (now (cells .entry)) (now (states .entry)) []) vs)
         → n < length vs → ValueFor (w .declarations) n width (now (stack .entry)) x
-        → Settles r (Running (now (rows .entry)) t (now (layout .entry)) (now (kept .entry))) (lent (now (cells .entry)) (now (states .entry))) (lent (now (cells .exit)) (now (states .exit))) (assigned vs n x)) ⌝ }
+        → Settles r (Running (now (rows .entry)) t (now (layout .entry)) (now (kept .entry))) (lent (now (cells .entry)) (now (states .entry)) []) (lent (now (cells .exit)) (now (states .exit)) []) (assigned vs n x)) ⌝ }
 {
     let yoke = yoke_of(states, n);
     if yoke == 0 {

@@ -48,7 +48,7 @@ same-length-6 : tie.Need-same-length-6
 same-length-6 c = search needs
 
 returns-2 : tie.Need-returns-2
-returns-2 c = λ vs x w l f. keeps _ (c .if2 .taken) (yoke-fails w _ x (f .coherent) (own-admits w _ l (value-copied w _ l f _ (c .before .before .before .before .before .before .before .before .copy .ensures)) (c .before .before .before .before .before .before .before .before .before .before .before .before .yoke-of .ensures) (c .before .before .satisfies .ensures)) (c .if2 .taken))
+returns-2 c = λ vs x w l f. keeps _ (c .if2 .taken) (yoke-fails w _ x (f .declared-body) (own-admits w _ l (value-copied w _ l f _ (c .before .before .before .before .before .before .before .before .copy .ensures)) (c .before .before .before .before .before .before .before .before .before .before .before .before .yoke-of .ensures) (c .before .before .satisfies .ensures)) (c .if2 .taken))
 
 slice-aggregate-store-within : tie.Need-slice-aggregate-store-within
 slice-aggregate-store-within c = search needs
