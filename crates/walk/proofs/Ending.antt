@@ -99,4 +99,6 @@ module _ {w : Way} {c : Context} {l at after : Lent} {u : Table} {first taken la
   run-answered a h = record {
     is = λ limits g. let k = run-reaches limits g in
         result-is a budget _ _ (run (profileOf (c .rows) limits) rs budget) (last .out) (stateOf last (k .store)) (k .is) (h (k .store)) (holds-cells w (k .running)) (holds-states w (k .running));
+    left = λ limits g. let k = run-reaches limits g in
+        subst (λ (vs : List Variable). Holds w c after vs) (sym (ap (λ (q : Progress). lastState q .store) (k .is) ∙ ap (λ (s : State). s .store) (last-state (last .out) (stateOf last (k .store))))) (k .running);
   }

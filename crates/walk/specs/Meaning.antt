@@ -10,7 +10,7 @@ use Rattle.lingua.specs.Outcome.{Result}
 use Rattle.lingua.specs.Rows.{instructionRow}
 use Rattle.lingua.specs.Store.{Reading, Variable, contents, readingTaken}
 use Rattle.lingua.specs.Evaluation.{evalTest}
-use Rattle.lingua.specs.Run.{exec, going, settled, takeReadings, run}
+use Rattle.lingua.specs.Run.{exec, going, lastState, settled, takeReadings, run}
 use Rattle.lingua.specs.Trees.{expressionTree, instructionTree, profileOf}
 use Rattle.lingua.specs.Refusal.{readingWrong}
 use Rattle.lingua.specs.declared.RunAnswer.{RunAnswer}
@@ -31,25 +31,24 @@ use Rattle.walk.specs.declared.way.Way.{Way}
 use Rattle.walk.specs.declared.way.Way.the-variants as way
 
 -- ---- what is given
--- what a run reads and does not change: the profile's rows with the table of its expressions, the declared bodies, the layout table, the limits
+-- what a run reads and does not change: the profile's rows with the table of its expressions, the layout table, the limits
 pub record Context : Type 0 where
   pub rows : List ℕ
   pub expressions : Table
-  pub bodies : List ℕ
   pub layout : List ℕ
   pub limits : List ℤ
 
-abbrev pub context : List ℕ → Table → List ℕ → List ℕ → List ℤ → Context
-context rows t bodies layout limits = record { rows = rows; expressions = t; bodies = bodies; layout = layout; limits = limits }
+abbrev pub context : List ℕ → Table → List ℕ → List ℤ → Context
+context rows t layout limits = record { rows = rows; expressions = t; layout = layout; limits = limits }
 
--- the checked run has the declared bodies, and no layout table
+-- the checked run has the present bodies, and no layout table
 pub record CheckedIn (c : Context) (l : Lent) (vs : List Variable) : Type 0 where
   pub no-layout : c .layout ≡ []
-  pub running : CheckedRunning (c .rows) (c .expressions) (c .bodies) (c .limits) l vs
+  pub running : CheckedRunning (c .rows) (c .expressions) (c .limits) l vs
 
 -- the erased run has the layout table, and no body
 pub record ErasedIn (c : Context) (l : Lent) (vs : List Variable) : Type 0 where
-  pub no-bodies : c .bodies ≡ []
+  pub no-bodies : l .bodies ≡ []
   pub running : ErasedRunning (c .rows) (c .expressions) (c .layout) (c .limits) l vs
 
 unfoldable pub HoldsBy : Way → Context → Holding
@@ -67,9 +66,9 @@ pub record Standing (w : Way) (c : Context) (l : Lent) (room : ℕ) : Type 0 whe
   pub enough : body-cells * (c .expressions .count + 1) ≤ room
 
 -- the same under some limits, where they are not asked
-pub record StandsUnder (w : Way) (rows : List ℕ) (t : Table) (bodies layout : List ℕ) (l : Lent) (room : ℕ) : Type 0 where
+pub record StandsUnder (w : Way) (rows : List ℕ) (t : Table) (layout : List ℕ) (l : Lent) (room : ℕ) : Type 0 where
   pub limits : List ℤ
-  pub standing : Standing w (context rows t bodies layout limits) l room
+  pub standing : Standing w (context rows t layout limits) l room
 
 -- ---- instructions
 -- what an instruction asks
@@ -133,6 +132,7 @@ pub record Begins (w : Way) (c : Context) (l : Lent) : Type 0 where
   pub limits : List ℕ
   pub holds : Holds w c l (declaredStore (profileOf (c .rows) limits))
 
--- the answer, and the memory where the run ended, are the definition's
+-- the answer, and the memory where the run ended, are the definition's, and that memory holds the definition's last store
 pub record Runs (w : Way) (c : Context) (l after : Lent) (rs : List Reading) (budget : ℕ) (r : RunAnswer) : Type 0 where
   pub is : (limits : List ℕ) → Holds w c l (declaredStore (profileOf (c .rows) limits)) → runResult r (after .cells) (after .states) ≡ ran budget (run (profileOf (c .rows) limits) rs budget)
+  pub left : (limits : List ℕ) → Holds w c l (declaredStore (profileOf (c .rows) limits)) → Holds w c after (lastState (run (profileOf (c .rows) limits) rs budget) .store)

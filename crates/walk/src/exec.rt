@@ -37,7 +37,7 @@ fn assignment(
     rows: &[u8],
     t: Table,
     u: Table,
-    bodies: &[u8],
+    bodies: &mut [u8],
     layout: &[u16],
     kept: &[i64],
     cells: &mut [i64],
@@ -45,9 +45,9 @@ fn assignment(
     m: Status,
     stack: &mut [i64],
 ) -> Status
-    requires { ⌜ Asked row way (context (now rows) t (now bodies) (now layout) (now kept)) u (lent (now cells) (now states)) m (length (now stack)) ⌝ }
+    requires { ⌜ Asked row way (context (now rows) t (now layout) (now kept)) u (lent (now cells) (now states) (now bodies)) m (length (now stack)) ⌝ }
     requires { ⌜ AssignAt (now rows) row n e ⌝ }
-    ensures { λ r. ⌜ Executes row way (context (now (rows .entry)) t (now (bodies .entry)) (now (layout .entry)) (now (kept .entry))) (lent (now (cells .entry)) (now (states .entry))) (lent (now (cells .exit)) (now (states .exit))) m r ⌝ }
+    ensures { λ r. ⌜ Executes row way (context (now (rows .entry)) t (now (layout .entry)) (now (kept .entry))) (lent (now (cells .entry)) (now (states .entry)) (now (bodies .entry))) (lent (now (cells .exit)) (now (states .exit)) (now (bodies .exit))) m r ⌝ }
 {
     if m.error != NO_ERROR {
         return m;
@@ -89,9 +89,9 @@ fn yoke_change(
     m: Status,
     stack: &mut [i64],
 ) -> Status
-    requires { ⌜ Asked row way (context (now rows) t (now bodies) (now layout) (now kept)) u (lent (now cells) (now states)) m (length (now stack)) ⌝ }
+    requires { ⌜ Asked row way (context (now rows) t (now layout) (now kept)) u (lent (now cells) (now states) (now bodies)) m (length (now stack)) ⌝ }
     requires { ⌜ SetYokeAt (now rows) row n y ⌝ }
-    ensures { λ r. ⌜ Executes row way (context (now (rows .entry)) t (now (bodies .entry)) (now (layout .entry)) (now (kept .entry))) (lent (now (cells .entry)) (now (states .entry))) (lent (now (cells .entry)) (now (states .exit))) m r ⌝ }
+    ensures { λ r. ⌜ Executes row way (context (now (rows .entry)) t (now (layout .entry)) (now (kept .entry))) (lent (now (cells .entry)) (now (states .entry)) (now (bodies .entry))) (lent (now (cells .entry)) (now (states .exit)) (now (bodies .entry))) m r ⌝ }
 {
     if m.error != NO_ERROR {
         return m;
@@ -123,7 +123,7 @@ pub fn exec(
     rows: &[u8],
     t: Table,
     u: Table,
-    bodies: &[u8],
+    bodies: &mut [u8],
     layout: &[u16],
     kept: &[i64],
     cells: &mut [i64],
@@ -131,8 +131,8 @@ pub fn exec(
     m: Status,
     stack: &mut [i64],
 ) -> Status
-    requires { ⌜ Asked row way (context (now rows) t (now bodies) (now layout) (now kept)) u (lent (now cells) (now states)) m (length (now stack)) ⌝ }
-    ensures { λ r. ⌜ Executes row way (context (now (rows .entry)) t (now (bodies .entry)) (now (layout .entry)) (now (kept .entry))) (lent (now (cells .entry)) (now (states .entry))) (lent (now (cells .exit)) (now (states .exit))) m r ⌝ }
+    requires { ⌜ Asked row way (context (now rows) t (now layout) (now kept)) u (lent (now cells) (now states) (now bodies)) m (length (now stack)) ⌝ }
+    ensures { λ r. ⌜ Executes row way (context (now (rows .entry)) t (now (layout .entry)) (now (kept .entry))) (lent (now (cells .entry)) (now (states .entry)) (now (bodies .entry))) (lent (now (cells .exit)) (now (states .exit)) (now (bodies .exit))) m r ⌝ }
 {
     let says = instruction_row(rows, u, row);
     match says {
@@ -180,7 +180,7 @@ pub fn exec(
                 rows,
                 t,
                 u,
-                bodies,
+                &mut *bodies,
                 layout,
                 kept,
                 &mut *cells,
@@ -274,7 +274,7 @@ fn branch(
     rows: &[u8],
     t: Table,
     u: Table,
-    bodies: &[u8],
+    bodies: &mut [u8],
     layout: &[u16],
     kept: &[i64],
     cells: &mut [i64],
@@ -282,9 +282,9 @@ fn branch(
     m: Status,
     stack: &mut [i64],
 ) -> Status
-    requires { ⌜ Asked row way (context (now rows) t (now bodies) (now layout) (now kept)) u (lent (now cells) (now states)) m (length (now stack)) ⌝ }
+    requires { ⌜ Asked row way (context (now rows) t (now layout) (now kept)) u (lent (now cells) (now states) (now bodies)) m (length (now stack)) ⌝ }
     requires { ⌜ BranchAt (now rows) row e i j ⌝ }
-    ensures { λ r. ⌜ Executes row way (context (now (rows .entry)) t (now (bodies .entry)) (now (layout .entry)) (now (kept .entry))) (lent (now (cells .entry)) (now (states .entry))) (lent (now (cells .exit)) (now (states .exit))) m r ⌝ }
+    ensures { λ r. ⌜ Executes row way (context (now (rows .entry)) t (now (layout .entry)) (now (kept .entry))) (lent (now (cells .entry)) (now (states .entry)) (now (bodies .entry))) (lent (now (cells .exit)) (now (states .exit)) (now (bodies .exit))) m r ⌝ }
 {
     if m.error != NO_ERROR {
         return m;
@@ -338,7 +338,7 @@ fn turns(
     rows: &[u8],
     t: Table,
     u: Table,
-    bodies: &[u8],
+    bodies: &mut [u8],
     layout: &[u16],
     kept: &[i64],
     cells: &mut [i64],
@@ -346,9 +346,9 @@ fn turns(
     m: Status,
     stack: &mut [i64],
 ) -> Status
-    requires { ⌜ Asked row way (context (now rows) t (now bodies) (now layout) (now kept)) u (lent (now cells) (now states)) m (length (now stack)) ⌝ }
+    requires { ⌜ Asked row way (context (now rows) t (now layout) (now kept)) u (lent (now cells) (now states) (now bodies)) m (length (now stack)) ⌝ }
     requires { ⌜ LoopAt (now rows) row e i ⌝ }
-    ensures { λ r. ⌜ Executes row way (context (now (rows .entry)) t (now (bodies .entry)) (now (layout .entry)) (now (kept .entry))) (lent (now (cells .entry)) (now (states .entry))) (lent (now (cells .exit)) (now (states .exit))) m r ⌝ }
+    ensures { λ r. ⌜ Executes row way (context (now (rows .entry)) t (now (layout .entry)) (now (kept .entry))) (lent (now (cells .entry)) (now (states .entry)) (now (bodies .entry))) (lent (now (cells .exit)) (now (states .exit)) (now (bodies .exit))) m r ⌝ }
 {
     let mut at = m;
     while at.error == NO_ERROR {
@@ -369,7 +369,7 @@ fn turns(
             rows,
             t,
             u,
-            bodies,
+            &mut *bodies,
             layout,
             kept,
             &mut *cells,
@@ -393,7 +393,7 @@ fn handle(
     rows: &[u8],
     t: Table,
     u: Table,
-    bodies: &[u8],
+    bodies: &mut [u8],
     layout: &[u16],
     kept: &[i64],
     cells: &mut [i64],
@@ -401,9 +401,9 @@ fn handle(
     m: Status,
     stack: &mut [i64],
 ) -> Status
-    requires { ⌜ Asked row way (context (now rows) t (now bodies) (now layout) (now kept)) u (lent (now cells) (now states)) m (length (now stack)) ⌝ }
+    requires { ⌜ Asked row way (context (now rows) t (now layout) (now kept)) u (lent (now cells) (now states) (now bodies)) m (length (now stack)) ⌝ }
     requires { ⌜ HandleAt (now rows) row n i ⌝ }
-    ensures { λ r. ⌜ Executes row way (context (now (rows .entry)) t (now (bodies .entry)) (now (layout .entry)) (now (kept .entry))) (lent (now (cells .entry)) (now (states .entry))) (lent (now (cells .exit)) (now (states .exit))) m r ⌝ }
+    ensures { λ r. ⌜ Executes row way (context (now (rows .entry)) t (now (layout .entry)) (now (kept .entry))) (lent (now (cells .entry)) (now (states .entry)) (now (bodies .entry))) (lent (now (cells .exit)) (now (states .exit)) (now (bodies .exit))) m r ⌝ }
 {
     let taken = stepped(m);
     if taken.out {

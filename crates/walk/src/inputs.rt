@@ -22,7 +22,7 @@ fn take_one(
     way: Way,
     rows: &[u8],
     t: Table,
-    bodies: &[u8],
+    bodies: &mut [u8],
     layout: &[u16],
     kept: &[i64],
     cells: &mut [i64],
@@ -33,10 +33,10 @@ fn take_one(
     m: Status,
     stack: &mut [i64],
 ) -> Status
-    requires { ⌜ Standing way (context (now rows) t (now bodies) (now layout) (now kept)) (lent (now cells) (now states)) (length (now stack)) ⌝ }
+    requires { ⌜ Standing way (context (now rows) t (now layout) (now kept)) (lent (now cells) (now states) (now bodies)) (length (now stack)) ⌝ }
     requires { ⌜ (n < pairCount (now rows) declaration-section) × (isNumberVariable (now rows) n ≡ true) ⌝ }
     requires { ⌜ Going m × (m .error ≡ 0) ⌝ }
-    ensures { λ r. ⌜ Takes way (context (now (rows .entry)) t (now (bodies .entry)) (now (layout .entry)) (now (kept .entry))) (lent (now (cells .entry)) (now (states .entry))) (lent (now (cells .exit)) (now (states .exit))) m r place n z ⌝ }
+    ensures { λ r. ⌜ Takes way (context (now (rows .entry)) t (now (layout .entry)) (now (kept .entry))) (lent (now (cells .entry)) (now (states .entry)) (now (bodies .entry))) (lent (now (cells .exit)) (now (states .exit)) (now (bodies .exit))) m r place n z ⌝ }
 {
     let error = take_reading(
         way,
@@ -58,7 +58,7 @@ pub fn take_readings(
     way: Way,
     rows: &[u8],
     t: Table,
-    bodies: &[u8],
+    bodies: &mut [u8],
     layout: &[u16],
     kept: &[i64],
     cells: &mut [i64],
@@ -68,10 +68,10 @@ pub fn take_readings(
     m: Status,
     stack: &mut [i64],
 ) -> Status
-    requires { ⌜ Standing way (context (now rows) t (now bodies) (now layout) (now kept)) (lent (now cells) (now states)) (length (now stack)) ⌝ }
+    requires { ⌜ Standing way (context (now rows) t (now layout) (now kept)) (lent (now cells) (now states) (now bodies)) (length (now stack)) ⌝ }
     requires { ⌜ Going m ⌝ }
     requires { ⌜ Readable (now rows) (now who) (now numbers) ⌝ }
-    ensures { λ r. ⌜ TakesAll way (context (now (rows .entry)) t (now (bodies .entry)) (now (layout .entry)) (now (kept .entry))) (lent (now (cells .entry)) (now (states .entry))) (lent (now (cells .exit)) (now (states .exit))) m r (readingsOf (now (who .entry)) (now (numbers .entry))) ⌝ }
+    ensures { λ r. ⌜ TakesAll way (context (now (rows .entry)) t (now (layout .entry)) (now (kept .entry))) (lent (now (cells .entry)) (now (states .entry)) (now (bodies .entry))) (lent (now (cells .exit)) (now (states .exit)) (now (bodies .exit))) m r (readingsOf (now (who .entry)) (now (numbers .entry))) ⌝ }
 {
     let count = who.len();
     let mut moment = m;
@@ -87,7 +87,7 @@ pub fn take_readings(
             way,
             rows,
             t,
-            bodies,
+            &mut *bodies,
             layout,
             kept,
             &mut *cells,

@@ -26,7 +26,7 @@ pub fn assign(
     way: Way,
     rows: &[u8],
     t: Table,
-    bodies: &[u8],
+    bodies: &mut [u8],
     layout: &[u16],
     kept: &[i64],
     cells: &mut [i64],
@@ -35,9 +35,9 @@ pub fn assign(
     e: usize,
     stack: &mut [i64],
 ) -> u8
-    requires { ⌜ Standing way (context (now rows) t (now bodies) (now layout) (now kept)) (lent (now cells) (now states)) (length (now stack)) ⌝ }
+    requires { ⌜ Standing way (context (now rows) t (now layout) (now kept)) (lent (now cells) (now states) (now bodies)) (length (now stack)) ⌝ }
     requires { ⌜ (n < pairCount (now rows) declaration-section) × (e < t .count) × AssignRow (now rows) n e ⌝ }
-    ensures { λ r. ⌜ Stores way (context (now (rows .entry)) t (now (bodies .entry)) (now (layout .entry)) (now (kept .entry))) (lent (now (cells .entry)) (now (states .entry))) (lent (now (cells .exit)) (now (states .exit))) r
+    ensures { λ r. ⌜ Stores way (context (now (rows .entry)) t (now (layout .entry)) (now (kept .entry))) (lent (now (cells .entry)) (now (states .entry)) (now (bodies .entry))) (lent (now (cells .exit)) (now (states .exit)) (now (bodies .exit))) r
         (λ vs. bind (meaning (expressionTree (now (rows .entry)) e) (contents vs) no-current) (assigned vs n)) ⌝ }
 {
     match way {
@@ -73,9 +73,9 @@ pub fn change_yoke(
     y: u16,
     stack: &mut [i64],
 ) -> u8
-    requires { ⌜ Standing way (context (now rows) t (now bodies) (now layout) (now kept)) (lent (now cells) (now states)) (length (now stack)) ⌝ }
+    requires { ⌜ Standing way (context (now rows) t (now layout) (now kept)) (lent (now cells) (now states) (now bodies)) (length (now stack)) ⌝ }
     requires { ⌜ (n < pairCount (now rows) declaration-section) × (y ≤ t .count) × YokeRow (now rows) n y ⌝ }
-    ensures { λ r. ⌜ Stores way (context (now (rows .entry)) t (now (bodies .entry)) (now (layout .entry)) (now (kept .entry))) (lent (now (cells .entry)) (now (states .entry))) (lent (now (cells .entry)) (now (states .exit))) r
+    ensures { λ r. ⌜ Stores way (context (now (rows .entry)) t (now (layout .entry)) (now (kept .entry))) (lent (now (cells .entry)) (now (states .entry)) (now (bodies .entry))) (lent (now (cells .entry)) (now (states .exit)) (now (bodies .entry))) r
         (λ vs. yokeChanged vs n (yokeTree (now (rows .entry)) y)) ⌝ }
 {
     match way {
@@ -108,9 +108,9 @@ pub fn test(
     e: usize,
     stack: &mut [i64],
 ) -> Truth
-    requires { ⌜ StandsUnder way (now rows) t (now bodies) (now layout) (lent (now cells) (now states)) (length (now stack)) ⌝ }
+    requires { ⌜ StandsUnder way (now rows) t (now layout) (lent (now cells) (now states) (now bodies)) (length (now stack)) ⌝ }
     requires { ⌜ (e < t .count) × TestRow (now rows) e ⌝ }
-    ensures { λ r. ⌜ ((kept : List ℤ) → TellsTest way (context (now (rows .entry)) t (now (bodies .entry)) (now (layout .entry)) kept) (lent (now (cells .entry)) (now (states .entry))) e r) ⌝ }
+    ensures { λ r. ⌜ ((kept : List ℤ) → TellsTest way (context (now (rows .entry)) t (now (layout .entry)) kept) (lent (now (cells .entry)) (now (states .entry)) (now (bodies .entry))) e r) ⌝ }
 {
     match way {
         Way::Checked => checked::yoke::eval_test(rows, t, bodies, cells, states, e, stack),
@@ -123,7 +123,7 @@ pub fn take_reading(
     way: Way,
     rows: &[u8],
     t: Table,
-    bodies: &[u8],
+    bodies: &mut [u8],
     layout: &[u16],
     kept: &[i64],
     cells: &mut [i64],
@@ -132,9 +132,9 @@ pub fn take_reading(
     z: i64,
     stack: &mut [i64],
 ) -> u8
-    requires { ⌜ Standing way (context (now rows) t (now bodies) (now layout) (now kept)) (lent (now cells) (now states)) (length (now stack)) ⌝ }
+    requires { ⌜ Standing way (context (now rows) t (now layout) (now kept)) (lent (now cells) (now states) (now bodies)) (length (now stack)) ⌝ }
     requires { ⌜ (n < pairCount (now rows) declaration-section) × (isNumberVariable (now rows) n ≡ true) ⌝ }
-    ensures { λ r. ⌜ Stores way (context (now (rows .entry)) t (now (bodies .entry)) (now (layout .entry)) (now (kept .entry))) (lent (now (cells .entry)) (now (states .entry))) (lent (now (cells .exit)) (now (states .exit))) r
+    ensures { λ r. ⌜ Stores way (context (now (rows .entry)) t (now (layout .entry)) (now (kept .entry))) (lent (now (cells .entry)) (now (states .entry)) (now (bodies .entry))) (lent (now (cells .exit)) (now (states .exit)) (now (bodies .exit))) r
         (λ vs. readingTaken vs (reading n z)) ⌝ }
 {
     match way {

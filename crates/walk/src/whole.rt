@@ -17,7 +17,7 @@ pub fn run(
     way: Way,
     rows: &[u8],
     tables: Tables,
-    bodies: &[u8],
+    bodies: &mut [u8],
     layout: &[u16],
     kept: &[i64],
     who: &[u16],
@@ -27,9 +27,9 @@ pub fn run(
     states: &mut [u16],
 ) -> RunAnswer
     requires { ⌜ AreTables (now rows) tables ⌝ }
-    requires { ⌜ Begins way (context (now rows) (tables .expressions) (now bodies) (now layout) (now kept)) (lent (now cells) (now states)) ⌝ }
+    requires { ⌜ Begins way (context (now rows) (tables .expressions) (now layout) (now kept)) (lent (now cells) (now states) (now bodies)) ⌝ }
     requires { ⌜ Readable (now rows) (now who) (now numbers) ⌝ }
-    ensures { λ r. ⌜ Runs way (context (now (rows .entry)) (tables .expressions) (now (bodies .entry)) (now (layout .entry)) (now (kept .entry))) (lent (now (cells .entry)) (now (states .entry))) (lent (now (cells .exit)) (now (states .exit))) (readingsOf (now (who .entry)) (now (numbers .entry))) budget r ⌝ }
+    ensures { λ r. ⌜ Runs way (context (now (rows .entry)) (tables .expressions) (now (layout .entry)) (now (kept .entry))) (lent (now (cells .entry)) (now (states .entry)) (now (bodies .entry))) (lent (now (cells .exit)) (now (states .exit)) (now (bodies .exit))) (readingsOf (now (who .entry)) (now (numbers .entry))) budget r ⌝ }
 {
     let t = tables.expressions;
     let u = tables.instructions;
@@ -39,7 +39,7 @@ pub fn run(
         way,
         rows,
         t,
-        bodies,
+        &mut *bodies,
         layout,
         kept,
         &mut *cells,
@@ -56,7 +56,7 @@ pub fn run(
         rows,
         t,
         u,
-        bodies,
+        &mut *bodies,
         layout,
         kept,
         &mut *cells,

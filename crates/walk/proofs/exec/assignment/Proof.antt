@@ -18,10 +18,10 @@ unfolding instructionRowTree
 returns-2 c = executes (c .before .before .before .before .before .before .before .before .pre .0) (c .before .before .before .before .before .before .before .before .pre .1) (λ vs h. assign-out vs h (c .before .before .before .before .before .before .before .before .pre .0 .going) _ _ _ (c .before .stepped .ensures) (c .before .before .if1 .left) (c .if2 .taken))
 
 assign-requires : tie.Need-assign-requires
-assign-requires c κs = (c .before .before .before .before .before .before .before .before .before .before .before .pre .0 .standing, assign-row (c .before .before .before .before .before .before .before .before .before .before .before .pre .0) (c .before .before .before .before .before .before .before .before .before .before .before .pre .1))
+assign-requires c κs = (c .before .before .before .before .before .before .before .before .before .before .before .before .pre .0 .standing, assign-row (c .before .before .before .before .before .before .before .before .before .before .before .before .pre .0) (c .before .before .before .before .before .before .before .before .before .before .before .before .pre .1))
 
 cast-settled : tie.Need-cast-settled
-cast-settled c = record { fits = narrow (c .before .before .before .before .before .before .before .before .before .before .before .before .before .before .before .before .pre .0) }
+cast-settled c = record { fits = narrow (c .before .before .before .before .before .before .before .before .before .before .before .before .before .before .before .before .before .before .before .pre .0) }
 
 settled-requires : tie.Need-settled-requires
 settled-requires c κs = search needs
@@ -35,9 +35,12 @@ same-length-2 c = search needs
 same-length-3 : tie.Need-same-length-3
 same-length-3 c = search needs
 
+same-length-4 : tie.Need-same-length-4
+same-length-4 c = search needs
+
 returns-3 : tie.Need-returns-3
 unfolding instructionRowTree
-returns-3 c = executes (c .before .before .before .before .before .before .before .before .before .before .before .before .before .before .before .before .before .pre .0) (c .before .before .before .before .before .before .before .before .before .before .before .before .before .before .before .before .before .pre .1) (λ vs h. assign-settled vs h (c .before .before .before .before .before .before .before .before .before .before .before .before .before .before .before .before .before .pre .0 .going) _ _ _ (c .before .before .before .before .before .before .before .before .before .before .stepped .ensures) (c .before .before .before .before .before .before .before .before .before .before .before .if1 .left) _ _ (c .before .before .before .before .before .before .before .before .before .if2 .left) (c .before .before .before .before .before .assign .ensures .settles vs h) (c .settled .ensures))
+returns-3 c = executes (c .before .before .before .before .before .before .before .before .before .before .before .before .before .before .before .before .before .before .before .before .pre .0) (c .before .before .before .before .before .before .before .before .before .before .before .before .before .before .before .before .before .before .before .before .pre .1) (λ vs h. assign-settled vs h (c .before .before .before .before .before .before .before .before .before .before .before .before .before .before .before .before .before .before .before .before .pre .0 .going) _ _ _ (c .before .before .before .before .before .before .before .before .before .before .before .before .before .stepped .ensures) (c .before .before .before .before .before .before .before .before .before .before .before .before .before .before .if1 .left) _ _ (c .before .before .before .before .before .before .before .before .before .before .before .before .if2 .left) (c .before .before .before .before .before .before .before .assign .ensures .settles vs h) (c .settled .ensures))
 
 pub assignment-spec : {M : Type 1} → statement M
 assignment-spec =
@@ -52,4 +55,5 @@ assignment-spec =
     same-length
     same-length-2
     same-length-3
+    same-length-4
     returns-3)

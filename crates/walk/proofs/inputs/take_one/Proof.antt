@@ -21,8 +21,11 @@ same-length-2 c = search needs
 same-length-3 : tie.Need-same-length-3
 same-length-3 c = search needs
 
+same-length-4 : tie.Need-same-length-4
+same-length-4 c = search needs
+
 returns : tie.Need-returns
-returns c = takes _ (c .before .before .before .before .before .take-reading .result) (c .before .before .before .before .before .before .before .before .before .before .before .before .before .args .place) _ _ (c .before .before .before .before .before .before .before .before .before .before .before .before .before .pre .1 .1 .0) (c .settled .ensures) (stores-number _ (toZ-ofZ _ _ (c .before .before .before .before .before .before .before .before .before .before .before .before .before .fits .z)) (c .before .before .before .before .before .take-reading .ensures))
+returns c = takes _ (c .before .before .before .before .before .before .before .take-reading .result) (c .before .before .before .before .before .before .before .before .before .before .before .before .before .before .before .before .args .place) _ _ (c .before .before .before .before .before .before .before .before .before .before .before .before .before .before .before .before .pre .1 .1 .0) (c .settled .ensures) (stores-number _ (toZ-ofZ _ _ (c .before .before .before .before .before .before .before .before .before .before .before .before .before .before .before .before .fits .z)) (c .before .before .before .before .before .before .before .take-reading .ensures))
 
 pub take-one-spec : {M : Type 1} → statement M
 take-one-spec =
@@ -33,4 +36,5 @@ take-one-spec =
     same-length
     same-length-2
     same-length-3
+    same-length-4
     returns)

@@ -10,7 +10,7 @@ enum-told : tie.Need-enum-told
 enum-told c = search needs
 
 take-reading-requires : tie.Need-take-reading-requires
-take-reading-requires c κs = let r = checked-standing (c .before .before .before .enum-told .given .1) (c .before .before .before .before .before .before .before .before .before .pre .0) in (record { store = c .before .before .before .before .before .before .before .before .before .pre .0 .store; running = r; there = omega (arith, c .before .before .before .before .before .before .before .before .before .pre .1 .0, r .world .count) }, c .before .before .before .before .before .before .before .before .before .pre .0 .enough)
+take-reading-requires c κs = let r = checked-standing (c .before .before .before .before .enum-told .given .1) (c .before .before .before .before .before .before .before .before .before .before .pre .0) in (record { store = c .before .before .before .before .before .before .before .before .before .before .pre .0 .store; running = r; there = omega (arith, c .before .before .before .before .before .before .before .before .before .before .pre .1 .0, r .world .count) }, c .before .before .before .before .before .before .before .before .before .before .pre .0 .enough)
 
 enum-told-2 : tie.Need-enum-told-2
 enum-told-2 c = search needs
@@ -27,17 +27,20 @@ same-length-2 c = search needs
 same-length-3 : tie.Need-same-length-3
 same-length-3 c = search needs
 
-returns : tie.Need-returns
-returns c = stores-number _ (toZ-ofZ _ _ (c .before .before .before .before .before .before .before .before .before .before .before .before .before .before .fits .z)) (checked-stores (c .before .before .before .before .before .before .before .before .enum-told .given .1) _ (λ vs r. c .before .before .before .before .take-reading .ensures vs r (omega (arith, c .before .before .before .before .before .before .before .before .before .before .before .before .before .before .pre .1 .0, r .world .count))))
-
 same-length-4 : tie.Need-same-length-4
 same-length-4 c = search needs
+
+returns : tie.Need-returns
+returns c = stores-number _ (toZ-ofZ _ _ (c .before .before .before .before .before .before .before .before .before .before .before .before .before .before .before .before .before .fits .z)) (checked-stores (c .before .before .before .before .before .before .before .before .before .before .before .enum-told .given .1) _ (λ vs r. c .before .before .before .before .before .before .take-reading .ensures vs r (omega (arith, c .before .before .before .before .before .before .before .before .before .before .before .before .before .before .before .before .before .pre .1 .0, r .world .count))))
 
 same-length-5 : tie.Need-same-length-5
 same-length-5 c = search needs
 
 same-length-6 : tie.Need-same-length-6
 same-length-6 c = search needs
+
+same-length-7 : tie.Need-same-length-7
+same-length-7 c = search needs
 
 returns-2 : tie.Need-returns-2
 returns-2 c = stores-number _ (toZ-ofZ _ _ (c .before .before .before .before .before .before .before .before .before .before .before .before .before .before .fits .z)) (erased-stores (c .before .before .before .before .before .before .before .before .enum-told2 .given .1) _ (c .before .before .before .before .take-reading2 .ensures))
@@ -53,8 +56,9 @@ take-reading-spec =
     same-length
     same-length-2
     same-length-3
-    returns
     same-length-4
+    returns
     same-length-5
     same-length-6
+    same-length-7
     returns-2)
