@@ -22,33 +22,35 @@ pub fn run_both(
     budget: u16,
     cells: &mut [i64],
     states: &mut [u16],
+    bodies: &mut [u8],
     erased_cells: &mut [i64],
     erased_states: &mut [u16],
     layout: &mut [u16],
 ) -> BothAnswers
-    ensures { λ r. ⌜ BothRuns (inputs (now (profile .entry)) (now (limits .entry)) (now (who .entry)) (now (numbers .entry))) budget (buffers (now (cells .entry)) (now (states .entry))) (buffers (now («erased_cells» .entry)) (now («erased_states» .entry))) (now (layout .entry))
-        r (now (cells .exit)) (now (states .exit)) (now («erased_cells» .exit)) (now («erased_states» .exit)) (now (layout .exit)) ⌝ }
+    ensures { λ r. ⌜ BothRuns (inputs (now (profile .entry)) (now (limits .entry)) (now (who .entry)) (now (numbers .entry))) budget (buffers (now (cells .entry)) (now (states .entry))) (now (bodies .entry)) (buffers (now («erased_cells» .entry)) (now («erased_states» .entry))) (now (layout .entry))
+        r (now (cells .exit)) (now (states .exit)) (now (bodies .exit)) (now («erased_cells» .exit)) (now («erased_states» .exit)) (now (layout .exit)) ⌝ }
 {
     let mut areas = [0u8; AREAS_LENGTH];
     let mut others = [0u8; AREA_BYTES];
-    let mut bodies = [0u8; TYPE_BODIES_LENGTH];
-    let pair = take_pair(profile, limits, &mut areas, &mut others, &mut bodies);
+    let mut types = [0u8; TYPE_BODIES_LENGTH];
+    let pair = take_pair(profile, limits, &mut areas, &mut others, &mut types);
     let checked = checked_taken(
         pair,
         &areas,
         &others,
-        &bodies,
+        &types,
         who,
         numbers,
         budget,
         cells,
         states,
+        bodies,
     );
     let erased = erased_taken(
         pair,
         &areas,
         &others,
-        &bodies,
+        &types,
         who,
         numbers,
         budget,

@@ -1,5 +1,5 @@
 // The checked run as a public call (document 01: desk run). Any bytes and any buffers may be handed in; a refusal leaves all lent memory as
-// it was.
+// it was. A record may gain or lose an attribute while the run goes on, so the present bodies are handed out with the cells.
 use lingua::RunAnswer;
 use lingua::sizes::AREA_BYTES;
 use lingua::sizes::AREAS_LENGTH;
@@ -8,7 +8,8 @@ use pair::take_pair;
 use taken::checked_run::checked_taken;
 ghost use mathlib.Core.Path.{_≡_};
 ghost use Rattle.lingua.specs.Inputs.{inputs, buffers};
-ghost use Rattle.lingua.specs.Calls.{runResult, checkedCall};
+ghost use Rattle.lingua.specs.Calls.{checkedResult, checkedCall};
+ghost use Rattle.safety.specs.TwoRuns.{CheckedHolds};
 
 pub fn run_checked(
     profile: &[u8],
@@ -18,22 +19,25 @@ pub fn run_checked(
     budget: u16,
     cells: &mut [i64],
     states: &mut [u16],
+    bodies: &mut [u8],
 ) -> RunAnswer
-    ensures { λ r. ⌜ runResult r (now (cells .exit)) (now (states .exit)) ≡ checkedCall (inputs (now (profile .entry)) (now (limits .entry)) (now (who .entry)) (now (numbers .entry))) budget (buffers (now (cells .entry)) (now (states .entry))) ⌝ }
+    ensures { λ r. ⌜ checkedResult r (now (cells .exit)) (now (states .exit)) (now (bodies .exit)) ≡ checkedCall (inputs (now (profile .entry)) (now (limits .entry)) (now (who .entry)) (now (numbers .entry))) budget (buffers (now (cells .entry)) (now (states .entry))) (now (bodies .entry)) ⌝ }
+    ensures { λ r. ⌜ CheckedHolds (inputs (now (profile .entry)) (now (limits .entry)) (now (who .entry)) (now (numbers .entry))) (buffers (now (cells .entry)) (now (states .entry))) (now (bodies .entry)) (checkedResult r (now (cells .exit)) (now (states .exit)) (now (bodies .exit))) ⌝ }
 {
     let mut areas = [0u8; AREAS_LENGTH];
     let mut others = [0u8; AREA_BYTES];
-    let mut bodies = [0u8; TYPE_BODIES_LENGTH];
-    let pair = take_pair(profile, limits, &mut areas, &mut others, &mut bodies);
+    let mut types = [0u8; TYPE_BODIES_LENGTH];
+    let pair = take_pair(profile, limits, &mut areas, &mut others, &mut types);
     checked_taken(
         pair,
         &areas,
         &others,
-        &bodies,
+        &types,
         who,
         numbers,
         budget,
         cells,
         states,
+        bodies,
     )
 }

@@ -24,13 +24,13 @@ pub fn run_erased(
 {
     let mut areas = [0u8; AREAS_LENGTH];
     let mut others = [0u8; AREA_BYTES];
-    let mut bodies = [0u8; TYPE_BODIES_LENGTH];
-    let pair = take_pair(profile, limits, &mut areas, &mut others, &mut bodies);
+    let mut types = [0u8; TYPE_BODIES_LENGTH];
+    let pair = take_pair(profile, limits, &mut areas, &mut others, &mut types);
     erased_taken(
         pair,
         &areas,
         &others,
-        &bodies,
+        &types,
         who,
         numbers,
         budget,

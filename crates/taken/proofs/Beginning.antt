@@ -1,9 +1,9 @@
 -- The store that a run starts with, as each way to run asks of it: no variable is filled, and each has a yoke of the profile. Assumes nothing.
 use mathlib.Core.Path.{_≡_, refl, sym, ap, _∙_, subst}
 use mathlib.Core.Bool.{true}
-use mathlib.Core.List.{List, [], _∷_, map}
-use mathlib.Core.Option.{Option, some, none}
-use Prim.Native.Nat.{ℕ, zero, suc, _≤_, _<_}
+use mathlib.Core.List.{List, []}
+use mathlib.Core.Option.{some}
+use Prim.Native.Nat.{ℕ, _≤_, _<_}
 use native.Mathlib.Omega.{arith}
 use lib.IntN.{ℤ, pos}
 use lib.ListN.{length}
@@ -11,8 +11,7 @@ use Rattle.lingua.specs.Numbers.{declaration-section, expression-section, instr
 use Rattle.lingua.specs.Outcome.{ok}
 use Rattle.lingua.specs.Body.{number}
 use Rattle.lingua.specs.Rows.{tableCount, pairCount}
-use Rattle.lingua.specs.Store.{Limit, Variable, variableAt}
-use Rattle.lingua.specs.Run.{Declaration, unfilled}
+use Rattle.lingua.specs.Store.{Limit, Variable, variableAt, presentBody}
 use Rattle.lingua.specs.Typing.{Entry, bodiesOf, checkProfile, layoutOf}
 use Rattle.lingua.specs.Trees.{yokeTree, declarationAt, profileOf}
 use Rattle.lingua.specs.References.{declaredYoke}
@@ -20,9 +19,9 @@ use Rattle.lingua.specs.Refusal.{isNumberVariable}
 use Rattle.laws.specs.Formed.{formed-bounds}
 use Rattle.safety.specs.Answers.{none-is-some}
 use Rattle.safety.specs.Accepted.{AcceptedRows, declared-root, profile-well-made}
-use Rattle.safety.specs.Formed.{bodies-formed}
-use Rattle.safety.specs.Invariant.{declaredStore, start-kept}
-use Rattle.safety.specs.Programs.{ReadsNumber, variables-fit}
+use Rattle.safety.specs.Formed.{declared-formed, bodies-formed}
+use Rattle.safety.specs.Invariant.{declaredStore, start-kept, start-empty}
+use Rattle.safety.specs.Programs.{ReadsNumber, start-fit}
 use Rattle.safety.specs.Passed.{reads-number}
 use Rattle.safety.specs.Once.{profile-laid-out, rows-laid-out}
 use Rattle.decoder.specs.Tables.{IsTable}
@@ -34,6 +33,7 @@ use Rattle.run.specs.Kept.{BodiesKept}
 use Rattle.run.proofs.Keeping.{start-bodies}
 use Rattle.run.proofs.Unfilled.{start-at}
 use Rattle.run.specs.Reached.{lent}
+use Rattle.checked.specs.Meaning.{Holdable}
 use Rattle.checked_store.specs.Meaning.{Running as CheckedRunning}
 use Rattle.erased.specs.Meaning.{Running as ErasedRunning}
 use Rattle.walk.specs.declared.way.Way.the-variants as way
@@ -41,11 +41,6 @@ use Rattle.walk.specs.Meaning.{HoldsBy, Holds, context}
 use Rattle.taken.specs.Ways.{NumbersLimited, PassedRows}
 
 -- ---- the start's variables
-none-filled : (ds : List Declaration) (n : ℕ) → variableAt (map unfilled ds) n .content ≡ none
-none-filled [] n = refl
-none-filled (d ∷ ds) zero = refl
-none-filled (d ∷ ds) (suc n) = none-filled ds n
-
 module _ {rows limits : List ℕ} {kept cells : List ℤ} {states : List ℕ} (accepted : AcceptedRows rows) (b : Begun rows limits kept cells states) where
   few-variables : length (startStore rows limits) ≤ 16
   few-variables = omega (arith, b .count, counts rows (accepted .counts) .variables .most)
@@ -58,10 +53,15 @@ module _ {rows limits : List ℕ} {kept cells : List ℤ} {states : List ℕ} (a
   start-yoke n l =
       record { number = declaredYoke rows n; there = every-yoke (tableCount rows expression-section) (declaredYoke rows n) (declared-root rows accepted n (declared l)); is = ap (λ (v : Variable). v .yoke) (start-at rows limits n (declared l)) }
 
-  -- ---- with the declared bodies
-  checked-start : (t : Table) → IsTable rows expression-section t → {variables : List ℕ} → BodiesKept rows variables (pairCount rows declaration-section)
-      → CheckedRunning rows t variables kept (lent cells states) (startStore rows limits)
-  checked-start t table {variables} k =
+  -- ---- with the present bodies, which are the declared ones
+  start-holdable : (n : ℕ) → n < length (startStore rows limits) → Holdable (presentBody (variableAt (startStore rows limits) n))
+  start-holdable n l =
+      let bounds = formed-bounds (declared-formed rows accepted limits n (declared l)) in
+      subst (λ (v : Variable). Holdable (presentBody v)) (sym (start-at rows limits n (declared l))) (record { few-cells = bounds .few-cells; few-nodes = bounds .few-nodes })
+
+  checked-start : (t : Table) → IsTable rows expression-section t → {present : List ℕ} → BodiesKept rows present (pairCount rows declaration-section)
+      → CheckedRunning rows t kept (lent cells states present) (startStore rows limits)
+  checked-start t table {present} k =
       record {
         world = record {
           accepted = accepted;
@@ -69,10 +69,10 @@ module _ {rows limits : List ℕ} {kept cells : List ℤ} {states : List ℕ} (a
           stored = record {
             cells-are = b .cells-are;
             states-are = b .states-are;
+            bodies-are = start-bodies rows limits present k;
             few = few-variables;
-            room = omega (arith, few-variables, k .long);
-            bodies = start-bodies rows limits variables k;
-            filled = λ n x e. none-is-some (sym (none-filled (profileOf rows limits .declarations) n) ∙ e);
+            holdable = start-holdable;
+            fits = λ n x e. none-is-some (sym (start-empty (profileOf rows limits .declarations) n) ∙ e);
           };
           count = b .count;
         };
@@ -81,8 +81,8 @@ module _ {rows limits : List ℕ} {kept cells : List ℤ} {states : List ℕ} (a
         yokes = start-yoke;
       }
 
-  pub checked-begins : (t : Table) → IsTable rows expression-section t → {variables layout : List ℕ} → BodiesKept rows variables (pairCount rows declaration-section) → layout ≡ []
-      → Holds way.Checked (context rows t variables layout kept) (lent cells states) (declaredStore (profileOf rows limits))
+  pub checked-begins : (t : Table) → IsTable rows expression-section t → {present layout : List ℕ} → BodiesKept rows present (pairCount rows declaration-section) → layout ≡ []
+      → Holds way.Checked (context rows t layout kept) (lent cells states present) (declaredStore (profileOf rows limits))
   unfolding HoldsBy
   checked-begins t table k e = record { by = record { no-layout = e; running = checked-start t table k } }
 
@@ -91,10 +91,9 @@ module _ {rows limits : List ℕ} {kept cells : List ℤ} {states : List ℕ} (a
   limited-number h n l i e = h .limited n (declared i) l (sym (ap (λ (v : Variable). v .limit) (start-at rows limits n (declared i))) ∙ e)
 
   erased-start : (t : Table) → IsTable rows expression-section t → (es : List Entry) → checkProfile (profileOf rows limits) ≡ ok es → length (layoutOf es) ≡ layout-length → NumbersLimited rows limits
-      → ErasedRunning rows t (layoutOf es) kept (lent cells states) (startStore rows limits)
+      → ErasedRunning rows t (layoutOf es) kept (lent cells states []) (startStore rows limits)
   erased-start t table es e long h =
       let ds = profileOf rows limits .declarations in
-      let stays = start-kept (profile-well-made rows accepted limits .yokes) in
       record {
         declarations = ds;
         world = record {
@@ -106,9 +105,9 @@ module _ {rows limits : List ℕ} {kept cells : List ℤ} {states : List ℕ} (a
           few = few-variables;
           count = b .count;
           small = λ n. formed-bounds (bodies-formed rows accepted limits n) .few-cells;
-          fit = variables-fit ds (startStore rows limits) stays;
+          fit = start-fit ds;
         };
-        kept = stays;
+        kept = start-kept (profile-well-made rows accepted limits .yokes);
         passed-yokes = profile-laid-out rows accepted limits es e .yokes;
         passed-rows = rows-laid-out rows accepted limits es e;
         room = omega (arith, few-variables, b .room);
@@ -118,9 +117,9 @@ module _ {rows limits : List ℕ} {kept cells : List ℤ} {states : List ℕ} (a
         yokes = start-yoke;
       }
 
-  pub erased-begins : (t : Table) → IsTable rows expression-section t → {bodies layout : List ℕ} → PassedRows rows limits layout → NumbersLimited rows limits → bodies ≡ []
-      → Holds way.Erased (context rows t bodies layout kept) (lent cells states) (declaredStore (profileOf rows limits))
+  pub erased-begins : (t : Table) → IsTable rows expression-section t → {layout : List ℕ} → PassedRows rows limits layout → NumbersLimited rows limits
+      → Holds way.Erased (context rows t layout kept) (lent cells states []) (declaredStore (profileOf rows limits))
   unfolding HoldsBy
-  erased-begins t table {bodies} {layout} p h n =
+  erased-begins t table {layout} p h =
       let q = p .layout-is in
-      record { by = record { no-bodies = n; running = subst (λ (x : List ℕ). ErasedRunning rows t x kept (lent cells states) (startStore rows limits)) (sym q) (erased-start t table (p .entries) (p .passed) (sym (ap length q) ∙ p .long) h) } }
+      record { by = record { no-bodies = refl; running = subst (λ (x : List ℕ). ErasedRunning rows t x kept (lent cells states []) (startStore rows limits)) (sym q) (erased-start t table (p .entries) (p .passed) (sym (ap length q) ∙ p .long) h) } }

@@ -1,14 +1,15 @@
 -- The ways in which a run of a taken pair ends: refused, or as the run of both files ends. Assumes nothing.
 use mathlib.Core.Path.{_≡_, refl, sym, ap, ap₂, _∙_, subst}
 use mathlib.Core.Bool.{Bool, true, false}
-use mathlib.Core.List.{List}
+use mathlib.Core.List.{List, []}
 use Prim.Native.Nat.{ℕ, zero, suc}
 use native.Mathlib.Omega.{arith}
 use lib.IntN.{ℤ}
 use lib.ListN.{length, take}
-use Rattle.lingua.specs.Numbers.{cells-length, states-length, layout-length}
+use Rattle.lingua.specs.Numbers.{cells-length, states-length, layout-length, variable-bodies-length}
 use Rattle.lingua.specs.Errors.{bad-buffer}
 use Rattle.lingua.specs.Outcome.{Outcome, ok, fail, isOk}
+use Rattle.lingua.specs.Store.{Reading}
 use Rattle.lingua.specs.Run.{Progress, run}
 use Rattle.lingua.specs.Typing.{TypeError, Entry, checkProfile, layoutOf}
 use Rattle.lingua.specs.Trees.{profileOf}
@@ -18,18 +19,22 @@ use Rattle.lingua.specs.Refusal.{typeCheckRefusal, checkedRefusal, erasedRefusa
 use Rattle.lingua.specs.Answers.{refused, runMeaning}
 use Rattle.lingua.specs.declared.RunAnswer.{RunAnswer}
 use Rattle.lingua.specs.declared.RunAnswer.the-variants as run-answer
-use Rattle.lingua.specs.Calls.{RunCall, ErasedCall, readingsOf, ran, runOf, runUnless, checkedCall, withLayout, typeCheckVerdict, typeCheckUnless, typeCheckCall, erasedUnless, erasedCall, runResult, erasedResult}
+use Rattle.lingua.specs.Calls.{RunCall, ErasedCall, readingsOf, ran, runOf, withBodies, checkedUnless, checkedCall, withLayout, typeCheckVerdict, typeCheckUnless, typeCheckCall, erasedUnless, erasedCall, runResult, checkedResult, erasedResult}
 use Rattle.safety.specs.Accepted.{AcceptedRows, accepted-pair}
+use Rattle.safety.specs.Invariant.{declaredStore}
 use Rattle.safety.specs.Limited.{accepted-limited}
-use Rattle.safety.specs.TwoRuns.{Passes, passed-layout}
+use Rattle.safety.specs.TwoRuns.{Passes, checked-shares, passed-layout}
 use Rattle.pair.specs.declared.Pair.{Pair}
 use Rattle.pair.proofs.Given.{rows-accepted}
 use Rattle.typecheck.specs.declared.verdicts.Verdict.{Verdict}
 use Rattle.typecheck.specs.Verdicts.{Concludes}
-use Rattle.walk.specs.Meaning.{Readable}
+use Rattle.decoder.specs.declared.tables.Table.{Table}
+use Rattle.run.specs.Reached.{Lent}
+use Rattle.walk.specs.declared.way.Way.the-variants as way
+use Rattle.walk.specs.Meaning.{context, HoldsBy, Holds, Readable, Runs}
 use Rattle.taken.specs.Taken.{RunTaken, RunIs}
-use Rattle.taken.specs.Ways.{Startable, NumbersLimited, PassedRows, erasedVerdict, erasedRows}
-use Rattle.taken.proofs.Refusing.{short-layout, run-refuses, type-error-refuses, none-refuses}
+use Rattle.taken.specs.Ways.{Startable, checkedEnd, NumbersLimited, PassedRows, erasedVerdict, erasedRows}
+use Rattle.taken.proofs.Refusing.{short-present, short-layout, run-refuses, type-error-refuses, none-refuses}
 
 some-number : (n : ℕ) → (n ≡ 0 → ⊥) → (m : ℕ) × (n ≡ suc m)
 some-number zero k = absurd (k refl)
@@ -51,22 +56,35 @@ module _ {i : Inputs} {b : Buffers} {areas others bodies : List ℕ} {p : Pair} 
       (subst (λ (rows : List ℕ). NumbersLimited rows (rowsOf (i .limits))) (sym (t .files .rows)) (record { limited = λ n h l q. accepted-limited (i .profile) (i .limits) (t .accepted) n h l q }))
 
 -- ---- the checked run
-module _ {i : Inputs} {b : Buffers} {areas others bodies : List ℕ} {n : ℕ} {p : Pair} (budget : ℕ) (h : RunIs n p i b areas others bodies) where
-  checked-refused : (m : ℕ) → checkedRefusal i b ≡ n → n ≡ suc m → runResult (run-answer.Refused n) (b .cells) (b .states) ≡ checkedCall i budget b
-  unfolding runResult checkedCall runUnless runMeaning
-  checked-refused m e s = rw (e, s)
+-- where a run of its way ended: the answer, the registers and the present bodies
+pub checked-end : {rows : List ℕ} (limits : List ℕ) {t : Table} {kept : List ℤ} {l after : Lent} {rs : List Reading} {budget : ℕ} {r : RunAnswer} → Runs way.Checked (context rows t [] kept) l after rs budget r
+    → Holds way.Checked (context rows t [] kept) l (declaredStore (profileOf rows limits)) → checkedResult r (after .cells) (after .states) (after .bodies) ≡ checkedEnd budget (run (profileOf rows limits) rs budget)
+unfolding checkedResult checkedEnd runResult HoldsBy
+checked-end limits h b = ap₂ (λ (c : RunCall) (l : List ℕ). withBodies c l) (h .is limits b) (h .left limits b .by .running .world .stored .bodies-are)
 
-  pub run-refused : (n ≡ 0 → ⊥) → runResult (run-answer.Refused n) (b .cells) (b .states) ≡ checkedCall i budget b
-  run-refused k = let s = some-number n k in checked-refused (s .0) (sym (h .refusal)) (s .1)
+module _ (i : Inputs) (b : Buffers) (present : List ℕ) (budget : ℕ) where
+  checked-refused : (n m : ℕ) → checkedRefusal i b present ≡ n → n ≡ suc m → checkedResult (run-answer.Refused n) (b .cells) (b .states) present ≡ checkedCall i budget b present
+  unfolding checkedResult checkedCall checkedUnless runMeaning
+  checked-refused n m e s = rw (e, s)
 
-  pub run-done : (z : n ≡ 0) (r : RunAnswer) (after : List ℤ) (words : List ℕ)
-      → runResult r after words ≡ ran budget (run (profileOf (take (p .rows) areas) (take (p .limits) others)) (readingsOf (i .variables) (i .numbers)) budget)
-      → runResult r after words ≡ checkedCall i budget b
-  unfolding checkedCall runUnless runOf
-  run-done z r after words e =
-      e
-      ∙ ap₂ (λ (rows limits : List ℕ). ran budget (run (profileOf rows limits) (readingsOf (i .variables) (i .numbers)) budget)) (h .taken z .files .rows) (h .taken z .files .limits)
-      ∙ ap (λ (k : ℕ). runUnless k i budget b) (sym z ∙ h .refusal)
+  pub present-wrong : (length present ≡ variable-bodies-length → ⊥) → checkedResult (run-answer.Refused 1) (b .cells) (b .states) present ≡ checkedCall i budget b present
+  present-wrong h = checked-refused 1 0 (short-present i b present h) refl
+
+  module _ {areas others bodies : List ℕ} {n : ℕ} {p : Pair} (l : length present ≡ variable-bodies-length) (h : RunIs n p i b areas others bodies) where
+    shares : n ≡ checkedRefusal i b present
+    shares = h .refusal ∙ sym (checked-shares i b present l)
+
+    pub run-refused : (n ≡ 0 → ⊥) → checkedResult (run-answer.Refused n) (b .cells) (b .states) present ≡ checkedCall i budget b present
+    run-refused k = let s = some-number n k in checked-refused n (s .0) (sym shares) (s .1)
+
+    pub run-done : (z : n ≡ 0) (r : RunAnswer) (after : List ℤ) (words bytes : List ℕ)
+        → checkedResult r after words bytes ≡ checkedEnd budget (run (profileOf (take (p .rows) areas) (take (p .limits) others)) (readingsOf (i .variables) (i .numbers)) budget)
+        → checkedResult r after words bytes ≡ checkedCall i budget b present
+    unfolding checkedCall checkedUnless checkedEnd runOf
+    run-done z r after words bytes e =
+        e
+        ∙ ap₂ (λ (rows limits : List ℕ). checkedEnd budget (run (profileOf rows limits) (readingsOf (i .variables) (i .numbers)) budget)) (h .taken z .files .rows) (h .taken z .files .limits)
+        ∙ ap (λ (k : ℕ). checkedUnless k i budget b present) (sym z ∙ shares)
 
 -- ---- the type check's verdict on rows
 module _ (rows limits : List ℕ) (v : Verdict) (table : List ℕ) (c : (lims : List ℕ) → Concludes v table (checkProfile (profileOf rows lims))) where

@@ -8,7 +8,7 @@ use lib.ListN.{length, take}
 use Rattle.lingua.specs.Numbers.{cells-length, states-length}
 use Rattle.lingua.specs.Format.{rowsOf}
 use Rattle.lingua.specs.Inputs.{Inputs, Buffers}
-use Rattle.lingua.specs.Refusal.{readingWrong, checkedRefusal}
+use Rattle.lingua.specs.Refusal.{readingWrong, runRefusal}
 use Rattle.pair.specs.Pair.{PairIs}
 use Rattle.pair.specs.declared.Pair.{Pair}
 use Rattle.taken.specs.Taken.{RunTaken, RunIs}
@@ -16,7 +16,7 @@ use Rattle.taken.proofs.Refusing.{short-inputs, short-cells, short-stat
 
 -- ---- refused
 module _ (i : Inputs) (b : Buffers) (areas others bodies : List ℕ) (p : Pair) where
-  refused-by : (n : ℕ) → (n ≡ 0 → ⊥) → checkedRefusal i b ≡ n → RunIs n p i b areas others bodies
+  refused-by : (n : ℕ) → (n ≡ 0 → ⊥) → runRefusal i b ≡ n → RunIs n p i b areas others bodies
   refused-by n h q = record { refusal = sym q; taken = λ z. absurd (h z) }
 
   pub uneven : (length (i .variables) ≡ length (i .numbers) → ⊥) → RunIs 1 p i b areas others bodies

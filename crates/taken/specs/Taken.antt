@@ -7,7 +7,7 @@ use Rattle.lingua.specs.Numbers.{cells-length, states-length}
 use Rattle.lingua.specs.Errors.{no-error}
 use Rattle.lingua.specs.Format.{rowsOf}
 use Rattle.lingua.specs.Inputs.{Inputs, Buffers}
-use Rattle.lingua.specs.Refusal.{lowest, pairRules, checkedRefusal}
+use Rattle.lingua.specs.Refusal.{lowest, pairRules, runRefusal}
 use Rattle.pair.specs.Pair.{TakenPair, PairIs}
 use Rattle.pair.specs.declared.Pair.{Pair}
 use Rattle.walk.specs.Meaning.{Readable}
@@ -28,5 +28,5 @@ pub record RunTaken (t : Pair) (i : Inputs) (b : Buffers) (areas others bodies :
 
 -- n is the lowest rule of 1 to 16 that applies
 pub record RunIs (n : ℕ) (t : Pair) (i : Inputs) (b : Buffers) (areas others bodies : List ℕ) : Type 0 where
-  pub refusal : n ≡ checkedRefusal i b
+  pub refusal : n ≡ runRefusal i b
   pub taken : n ≡ no-error → RunTaken t i b areas others bodies

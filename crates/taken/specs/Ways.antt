@@ -10,13 +10,13 @@ use Rattle.lingua.specs.Errors.{type-error-found}
 use Rattle.lingua.specs.Outcome.{Outcome, ok, fail}
 use Rattle.lingua.specs.Body.{number}
 use Rattle.lingua.specs.Rows.{tableCount, pairCount}
-use Rattle.lingua.specs.Store.{Limit}
-use Rattle.lingua.specs.Run.{Progress, run}
+use Rattle.lingua.specs.Store.{Limit, bodiesIn}
+use Rattle.lingua.specs.Run.{Progress, run, lastState}
 use Rattle.lingua.specs.Typing.{TypeError, Entry, bodiesOf, checkProfile, layoutOf}
 use Rattle.lingua.specs.Trees.{declarationAt, profileOf}
 use Rattle.lingua.specs.Answers.{refused}
 use Rattle.lingua.specs.Inputs.{Buffers}
-use Rattle.lingua.specs.Calls.{ErasedCall, readingsOf, ran, withLayout}
+use Rattle.lingua.specs.Calls.{CheckedCall, ErasedCall, readingsOf, ran, withBodies, withLayout}
 use Rattle.safety.specs.Accepted.{AcceptedRows}
 use Rattle.rules.specs.Types.{BodiesBelow}
 use Rattle.walk.specs.Meaning.{Readable}
@@ -27,6 +27,10 @@ pub record Startable (rows who : List ℕ) (numbers : List ℤ) (b : Buffers) : 
   pub readable : Readable rows who numbers
   pub long-cells : length (b .cells) ≡ cells-length
   pub long-states : length (b .states) ≡ states-length
+
+-- the checked run, with the present bodies where it ended
+unfoldable pub checkedEnd : ℕ → Progress → CheckedCall
+checkedEnd budget p = withBodies (ran budget p) (bodiesIn (lastState p .store))
 
 -- only number variables have a limit (rules 8 and 15)
 pub record NumbersLimited (rows limits : List ℕ) : Type 0 where

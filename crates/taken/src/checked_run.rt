@@ -3,6 +3,7 @@ use crate::refusal::run_refusal;
 use decoder::tables::Table;
 use decoder::tables::Tables;
 use lingua::RunAnswer;
+use lingua::errors::BAD_BUFFER;
 use lingua::errors::NO_ERROR;
 use lingua::sizes::LIMIT_CELLS_LENGTH;
 use lingua::sizes::VARIABLE_BODIES_LENGTH;
@@ -14,19 +15,20 @@ use walk::whole::run;
 ghost use mathlib.Core.Path.{_≡_};
 ghost use mathlib.Core.List.{List};
 ghost use Prim.Native.Nat.{ℕ};
-ghost use Rattle.lingua.specs.Numbers.{type-section, limit-section};
+ghost use lib.ListN.{length};
+ghost use Rattle.lingua.specs.Numbers.{type-section, limit-section, variable-bodies-length};
 ghost use Rattle.lingua.specs.Rows.{tableCount};
 ghost use Rattle.lingua.specs.Run.{run as meaning};
 ghost use Rattle.lingua.specs.Trees.{profileOf};
 ghost use Rattle.lingua.specs.Inputs.{inputs, buffers};
-ghost use Rattle.lingua.specs.Calls.{readingsOf, ran, runResult, checkedCall};
+ghost use Rattle.lingua.specs.Calls.{readingsOf, checkedResult, checkedCall};
 ghost use Rattle.pair.specs.Pair.{PairIs};
 ghost use Rattle.decoder.specs.Tables.{IsTable, AreTables};
 ghost use Rattle.rules.specs.Types.{BodiesBelow};
 ghost use Rattle.taken.specs.Taken.{PairOf};
-ghost use Rattle.taken.specs.Ways.{Startable};
+ghost use Rattle.taken.specs.Ways.{Startable, checkedEnd};
 
-// The run of accepted rows, with the declared bodies and no layout table.
+// The run of accepted rows, with the present bodies and no layout table.
 fn checked_rows(
     rows: &[u8],
     tables: Tables,
@@ -38,17 +40,17 @@ fn checked_rows(
     budget: u16,
     cells: &mut [i64],
     states: &mut [u16],
+    present: &mut [u8],
 ) -> RunAnswer
     requires { ⌜ Startable (now rows) (now who) (now numbers) (buffers (now cells) (now states)) ⌝ }
     requires { ⌜ AreTables (now rows) tables × IsTable (now limits) limit-section named ⌝ }
-    requires { ⌜ BodiesBelow (now rows) (now bodies) (tableCount (now rows) type-section) ⌝ }
-    ensures { λ r. ⌜ runResult r (now (cells .exit)) (now (states .exit)) ≡ ran budget (meaning (profileOf (now (rows .entry)) (now (limits .entry))) (readingsOf (now (who .entry)) (now (numbers .entry))) budget) ⌝ }
+    requires { ⌜ BodiesBelow (now rows) (now bodies) (tableCount (now rows) type-section) × (length (now present) ≡ variable-bodies-length) ⌝ }
+    ensures { λ r. ⌜ checkedResult r (now (cells .exit)) (now (states .exit)) (now (present .exit)) ≡ checkedEnd budget (meaning (profileOf (now (rows .entry)) (now (limits .entry))) (readingsOf (now (who .entry)) (now (numbers .entry))) budget) ⌝ }
 {
     let declarations = tables.declarations;
-    let mut variables = [0u8; VARIABLE_BODIES_LENGTH];
     let mut kept = [0i64; LIMIT_CELLS_LENGTH];
     let layout = [0u16; 0];
-    keep_bodies(rows, declarations, bodies, &mut variables);
+    keep_bodies(rows, declarations, bodies, &mut *present);
     start(
         rows,
         declarations,
@@ -63,7 +65,7 @@ fn checked_rows(
         way,
         rows,
         tables,
-        &variables,
+        present,
         &layout,
         &kept,
         who,
@@ -74,6 +76,7 @@ fn checked_rows(
     )
 }
 
+// The lent present bodies must be as long as listed, as cells and state words must.
 pub fn checked_taken(
     pair: Pair,
     areas: &[u8],
@@ -84,10 +87,14 @@ pub fn checked_taken(
     budget: u16,
     cells: &mut [i64],
     states: &mut [u16],
+    present: &mut [u8],
 ) -> RunAnswer
     requires { ⌜ PairOf pair (now areas) (now others) (now bodies) ⌝ }
-    ensures { λ r. ⌜ ((prof lims : List ℕ) → PairIs pair prof lims (now (areas .entry)) (now (others .entry)) (now (bodies .entry)) → runResult r (now (cells .exit)) (now (states .exit)) ≡ checkedCall (inputs prof lims (now (who .entry)) (now (numbers .entry))) budget (buffers (now (cells .entry)) (now (states .entry)))) ⌝ }
+    ensures { λ r. ⌜ ((prof lims : List ℕ) → PairIs pair prof lims (now (areas .entry)) (now (others .entry)) (now (bodies .entry)) → checkedResult r (now (cells .exit)) (now (states .exit)) (now (present .exit)) ≡ checkedCall (inputs prof lims (now (who .entry)) (now (numbers .entry))) budget (buffers (now (cells .entry)) (now (states .entry))) (now (present .entry))) ⌝ }
 {
+    if present.len() != VARIABLE_BODIES_LENGTH {
+        return RunAnswer::Refused(BAD_BUFFER);
+    }
     let refusal = run_refusal(pair, areas, bodies, who, numbers, cells, states);
     if refusal != NO_ERROR {
         return RunAnswer::Refused(refusal);
@@ -107,5 +114,6 @@ pub fn checked_taken(
         budget,
         cells,
         states,
+        present,
     )
 }

@@ -50,7 +50,7 @@ fn passed_rows(
 {
     let declarations = tables.declarations;
     let mut kept = [0i64; LIMIT_CELLS_LENGTH];
-    let bodies = [0u8; 0];
+    let mut bodies = [0u8; 0];
     start(
         rows,
         declarations,
@@ -65,7 +65,7 @@ fn passed_rows(
         way,
         rows,
         tables,
-        &bodies,
+        &mut bodies,
         layout,
         &kept,
         who,
@@ -127,6 +127,7 @@ fn erased_rows(
     )
 }
 
+// The lent layout table must be as long as listed, as cells and state words must.
 pub fn erased_taken(
     pair: Pair,
     areas: &[u8],

@@ -1,5 +1,6 @@
 -- `calls::checked_run::run_checked` meets its contract: both files taken, and the run of what was taken. Assumes nothing.
 use mathlib.Core.Path.{refl}
+use Rattle.safety.specs.TwoRuns.{checked-holds}
 use Rattle.pair.proofs.Given.{room-there}
 use borrow.Author.Needs.{needs}
 use Rattle.calls.proofs.checked_run.run_checked.Statement.{statement}
@@ -27,7 +28,7 @@ slice-aggregate-checked-taken-3 : tie.Need-slice-aggregate-checked-taken-3
 slice-aggregate-checked-taken-3 c = search needs
 
 checked-taken-requires : tie.Need-checked-taken-requires
-checked-taken-requires c κs = record { prof = _; lims = _; is = c .before .before .before .before .before .before .before .before .take-pair .ensures }
+checked-taken-requires c κs = record { prof = _; lims = _; is = c .before .before .before .before .before .before .before .before .before .take-pair .ensures }
 
 same-length : tie.Need-same-length
 same-length c = search needs
@@ -35,8 +36,11 @@ same-length c = search needs
 same-length-2 : tie.Need-same-length-2
 same-length-2 c = search needs
 
+same-length-3 : tie.Need-same-length-3
+same-length-3 c = search needs
+
 returns : tie.Need-returns
-returns c = c .before .before .before .checked-taken .ensures _ _ (c .before .before .before .before .before .before .before .before .before .before .before .before .take-pair .ensures)
+returns c = let e = c .before .before .before .before .before .checked-taken .ensures _ _ (c .before .before .before .before .before .before .before .before .before .before .before .before .before .before .before .take-pair .ensures) in (e, checked-holds _ (c .before .before .before .before .before .before .before .before .before .before .before .before .before .before .before .before .before .before .before .before .before .before .before .before .args .budget) _ _ _ e)
 
 pub run-checked-spec : {M : Type 1} → statement M
 run-checked-spec =
@@ -52,4 +56,5 @@ run-checked-spec =
     checked-taken-requires
     same-length
     same-length-2
+    same-length-3
     returns)

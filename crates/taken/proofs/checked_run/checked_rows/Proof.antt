@@ -1,21 +1,19 @@
 -- `taken::checked_run::checked_rows` meets its contract: bodies are kept, memory is begun, and the run goes on from there. Assumes nothing.
 use mathlib.Core.Path.{refl}
 use Rattle.taken.proofs.Beginning.{checked-begins}
+use Rattle.taken.proofs.Calling.{checked-end}
 use borrow.Author.Needs.{needs}
 use Rattle.taken.proofs.checked_run.checked_rows.Statement.{statement}
 use Rattle.taken.proofs.checked_run.checked_rows.Tie as tie
 
-slice-aggregate-keep-bodies : tie.Need-slice-aggregate-keep-bodies
-slice-aggregate-keep-bodies c = search needs
-
 keep-bodies-requires : tie.Need-keep-bodies-requires
-keep-bodies-requires c κs = (c .before .before .before .before .before .before .before .pre .0 .accepted, (c .before .before .before .before .before .before .before .pre .1 .0 .0 .declarations, (c .before .before .before .before .before .before .before .pre .1 .1, refl)))
+keep-bodies-requires c κs = (c .before .before .before .before .before .before .before .before .pre .0 .accepted, (c .before .before .before .before .before .before .before .before .pre .1 .0 .0 .declarations, (c .before .before .before .before .before .before .before .before .pre .1 .1 .0, c .before .before .before .before .before .before .before .before .pre .1 .1 .1)))
 
 slice-aggregate-start : tie.Need-slice-aggregate-start
 slice-aggregate-start c = search needs
 
 start-requires : tie.Need-start-requires
-start-requires c κs = record { accepted = c .before .before .before .before .before .before .before .before .before .before .before .before .pre .0 .accepted; declared = c .before .before .before .before .before .before .before .before .before .before .before .before .pre .1 .0 .0 .declarations; limited = c .before .before .before .before .before .before .before .before .before .before .before .before .pre .1 .0 .1; room = refl; long-cells = c .before .before .before .before .before .before .before .before .before .before .before .before .pre .0 .long-cells; long-states = c .before .before .before .before .before .before .before .before .before .before .before .before .pre .0 .long-states }
+start-requires c κs = record { accepted = c .before .before .before .before .before .before .before .before .before .before .before .before .before .before .pre .0 .accepted; declared = c .before .before .before .before .before .before .before .before .before .before .before .before .before .before .pre .1 .0 .0 .declarations; limited = c .before .before .before .before .before .before .before .before .before .before .before .before .before .before .pre .1 .0 .1; room = refl; long-cells = c .before .before .before .before .before .before .before .before .before .before .before .before .before .before .pre .0 .long-cells; long-states = c .before .before .before .before .before .before .before .before .before .before .before .before .before .before .pre .0 .long-states }
 
 slice-aggregate-run : tie.Need-slice-aggregate-run
 slice-aggregate-run c = search needs
@@ -23,11 +21,8 @@ slice-aggregate-run c = search needs
 slice-aggregate-run-2 : tie.Need-slice-aggregate-run-2
 slice-aggregate-run-2 c = search needs
 
-slice-aggregate-run-3 : tie.Need-slice-aggregate-run-3
-slice-aggregate-run-3 c = search needs
-
 run-requires : tie.Need-run-requires
-run-requires c κs = (c .before .before .before .before .before .before .before .before .before .before .before .before .before .before .before .before .before .before .before .before .before .before .pre .1 .0 .0, (record { limits = _; holds = checked-begins (c .before .before .before .before .before .before .before .before .before .before .before .before .before .before .before .before .before .before .before .before .before .before .pre .0 .accepted) (c .before .before .before .before .before .before .before .before .before .start .ensures) _ (c .before .before .before .before .before .before .before .before .before .before .before .before .before .before .before .before .before .before .before .before .before .before .pre .1 .0 .0 .expressions) (c .before .before .before .before .before .before .before .before .before .before .before .before .before .before .keep-bodies .ensures) refl }, c .before .before .before .before .before .before .before .before .before .before .before .before .before .before .before .before .before .before .before .before .before .before .pre .0 .readable))
+run-requires c κs = (c .before .before .before .before .before .before .before .before .before .before .before .before .before .before .before .before .before .before .before .before .before .before .before .before .pre .1 .0 .0, (record { limits = _; holds = checked-begins (c .before .before .before .before .before .before .before .before .before .before .before .before .before .before .before .before .before .before .before .before .before .before .before .before .pre .0 .accepted) (c .before .before .before .before .before .before .before .before .before .start .ensures) _ (c .before .before .before .before .before .before .before .before .before .before .before .before .before .before .before .before .before .before .before .before .before .before .before .before .pre .1 .0 .0 .expressions) (c .before .before .before .before .before .before .before .before .before .before .before .before .before .before .before .keep-bodies .ensures) refl }, c .before .before .before .before .before .before .before .before .before .before .before .before .before .before .before .before .before .before .before .before .before .before .before .before .pre .0 .readable))
 
 same-length : tie.Need-same-length
 same-length c = search needs
@@ -35,21 +30,23 @@ same-length c = search needs
 same-length-2 : tie.Need-same-length-2
 same-length-2 c = search needs
 
+same-length-3 : tie.Need-same-length-3
+same-length-3 c = search needs
+
 returns : tie.Need-returns
-returns c = c .before .before .before .run .ensures .is _ (checked-begins (c .before .before .before .before .before .before .before .before .before .before .before .before .before .before .before .before .before .before .before .before .before .before .before .before .before .before .pre .0 .accepted) (c .before .before .before .before .before .before .before .before .before .before .before .before .before .start .ensures) _ (c .before .before .before .before .before .before .before .before .before .before .before .before .before .before .before .before .before .before .before .before .before .before .before .before .before .before .pre .1 .0 .0 .expressions) (c .before .before .before .before .before .before .before .before .before .before .before .before .before .before .before .before .before .before .keep-bodies .ensures) refl)
+returns c = checked-end _ (c .before .before .before .before .before .run .ensures) (checked-begins (c .before .before .before .before .before .before .before .before .before .before .before .before .before .before .before .before .before .before .before .before .before .before .before .before .before .before .before .before .before .before .pre .0 .accepted) (c .before .before .before .before .before .before .before .before .before .before .before .before .before .before .before .start .ensures) _ (c .before .before .before .before .before .before .before .before .before .before .before .before .before .before .before .before .before .before .before .before .before .before .before .before .before .before .before .before .before .before .pre .1 .0 .0 .expressions) (c .before .before .before .before .before .before .before .before .before .before .before .before .before .before .before .before .before .before .before .before .before .keep-bodies .ensures) refl)
 
 pub checked-rows-spec : {M : Type 1} → statement M
 checked-rows-spec =
     tie.close
     (tie.spec
-    slice-aggregate-keep-bodies
     keep-bodies-requires
     slice-aggregate-start
     start-requires
     slice-aggregate-run
     slice-aggregate-run-2
-    slice-aggregate-run-3
     run-requires
     same-length
     same-length-2
+    same-length-3
     returns)

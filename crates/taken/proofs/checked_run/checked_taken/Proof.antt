@@ -2,14 +2,18 @@
 use mathlib.Core.Path.{sym}
 use denote.Ref.{now}
 use lib.Seq.{length-take-le}
+use Rattle.lingua.specs.Inputs.{buffers}
 use Rattle.pair.proofs.Given.{tables-there, named-there, bodies-held}
-use Rattle.taken.proofs.Calling.{startable, run-refused, run-done}
+use Rattle.taken.proofs.Calling.{startable, present-wrong, run-refused, run-done}
 use borrow.Author.Needs.{needs}
 use Rattle.taken.proofs.checked_run.checked_taken.Statement.{statement}
 use Rattle.taken.proofs.checked_run.checked_taken.Tie as tie
 
+returns : tie.Need-returns
+returns c = λ prof lims h. present-wrong _ (buffers _ _) _ (c .before .before .before .before .before .before .before .args .budget) (c .if1 .taken)
+
 run-refusal-requires : tie.Need-run-refusal-requires
-run-refusal-requires c κs = (now (c .before .before .before .before .before .before .before .args .others), c .before .before .before .before .before .before .before .pre)
+run-refusal-requires c κs = (now (c .before .before .before .before .before .before .before .before .before .args .others), c .before .before .before .before .before .before .before .before .before .pre)
 
 same-length : tie.Need-same-length
 same-length c = search needs
@@ -17,18 +21,18 @@ same-length c = search needs
 same-length-2 : tie.Need-same-length-2
 same-length-2 c = search needs
 
-returns : tie.Need-returns
-returns c = λ prof lims h. run-refused (c .before .before .before .before .before .before .before .before .before .args .budget) (c .before .run-refusal .ensures prof lims _ h) (c .if1 .taken)
+returns-2 : tie.Need-returns-2
+returns-2 c = λ prof lims h. run-refused _ _ _ (c .before .before .before .before .before .before .before .before .before .before .before .args .budget) (c .before .before .before .before .if1 .left) (c .before .run-refusal .ensures prof lims _ h) (c .if2 .taken)
 
 slice-aggregate-checked-rows : tie.Need-slice-aggregate-checked-rows
-slice-aggregate-checked-rows c = sym (length-take-le _ _ ((c .before .before .before .before .run-refusal .ensures _ _ _ (c .before .before .before .before .before .before .before .before .before .before .before .before .pre .is) .taken (c .before .before .before .if1 .left)) .files .within))
+slice-aggregate-checked-rows c = sym (length-take-le _ _ ((c .before .before .before .before .run-refusal .ensures _ _ _ (c .before .before .before .before .before .before .before .before .before .before .before .before .before .before .pre .is) .taken (c .before .before .before .if2 .left)) .files .within))
 
 slice-aggregate-checked-rows-2 : tie.Need-slice-aggregate-checked-rows-2
-slice-aggregate-checked-rows-2 c = sym (length-take-le _ _ ((c .before .before .before .before .before .run-refusal .ensures _ _ _ (c .before .before .before .before .before .before .before .before .before .before .before .before .before .pre .is) .taken (c .before .before .before .before .if1 .left)) .files .within-others))
+slice-aggregate-checked-rows-2 c = sym (length-take-le _ _ ((c .before .before .before .before .before .run-refusal .ensures _ _ _ (c .before .before .before .before .before .before .before .before .before .before .before .before .before .before .before .pre .is) .taken (c .before .before .before .before .if2 .left)) .files .within-others))
 
 checked-rows-requires : tie.Need-checked-rows-requires
 checked-rows-requires c κs =
-    let t = c .before .before .before .before .before .before .before .run-refusal .ensures _ _ _ (c .before .before .before .before .before .before .before .before .before .before .before .before .before .before .before .pre .is) .taken (c .before .before .before .before .before .before .if1 .left) in (startable t, ((tables-there (t .files), named-there (t .files)), bodies-held (t .files)))
+    let t = c .before .before .before .before .before .before .before .before .run-refusal .ensures _ _ _ (c .before .before .before .before .before .before .before .before .before .before .before .before .before .before .before .before .before .before .pre .is) .taken (c .before .before .before .before .before .before .before .if2 .left) in (startable t, ((tables-there (t .files), named-there (t .files)), (bodies-held (t .files), c .before .before .before .before .before .before .before .before .before .before .before .if1 .left)))
 
 same-length-3 : tie.Need-same-length-3
 same-length-3 c = search needs
@@ -36,20 +40,25 @@ same-length-3 c = search needs
 same-length-4 : tie.Need-same-length-4
 same-length-4 c = search needs
 
-returns-2 : tie.Need-returns-2
-returns-2 c = λ prof lims h. run-done (c .before .before .before .before .before .before .before .before .before .before .before .before .before .before .before .before .before .before .before .args .budget) (c .before .before .before .before .before .before .before .before .before .before .before .run-refusal .ensures prof lims _ h) (c .before .before .before .before .before .before .before .before .before .before .if1 .left) _ _ _ (c .before .before .before .checked-rows .ensures)
+same-length-5 : tie.Need-same-length-5
+same-length-5 c = search needs
+
+returns-3 : tie.Need-returns-3
+returns-3 c = λ prof lims h. run-done _ _ _ (c .before .before .before .before .before .before .before .before .before .before .before .before .before .before .before .before .before .before .before .before .before .before .before .before .args .budget) (c .before .before .before .before .before .before .before .before .before .before .before .before .before .before .before .before .before .if1 .left) (c .before .before .before .before .before .before .before .before .before .before .before .before .before .before .run-refusal .ensures prof lims _ h) (c .before .before .before .before .before .before .before .before .before .before .before .before .before .if2 .left) _ _ _ _ (c .before .before .before .before .before .checked-rows .ensures)
 
 pub checked-taken-spec : {M : Type 1} → statement M
 checked-taken-spec =
     tie.close
     (tie.spec
+    returns
     run-refusal-requires
     same-length
     same-length-2
-    returns
+    returns-2
     slice-aggregate-checked-rows
     slice-aggregate-checked-rows-2
     checked-rows-requires
     same-length-3
     same-length-4
-    returns-2)
+    same-length-5
+    returns-3)
