@@ -10,20 +10,17 @@ use lib.IntN.{ℤ, pos, negsuc}
 use Rattle.lingua.specs.Numbers.{body-cells, declaration-section}
 use Rattle.lingua.specs.Outcome.{if_then_else_}
 use Rattle.lingua.specs.Body.{size}
-use Rattle.lingua.specs.Store.{filledAt}
+use Rattle.lingua.specs.Store.{Variable, variableAt, presentBody, filledAt}
 use Rattle.lingua.specs.Rows.{bytesAt, untilZero, pairCount, nameRow}
-use Rattle.lingua.specs.Trees.{declaredBody, bodyOr, declarationAt, nameAt}
+use Rattle.lingua.specs.Trees.{nameAt}
 use Rattle.lingua.specs.Format.{rowsOf}
 use Rattle.lingua.specs.Refusal.{lowest, pairRules}
 use Rattle.lingua.specs.Answers.{Answer, refused, answered, Ending}
 use Rattle.lingua.specs.Report.{digitsIn, decimal, signedDecimal, endLine, cellTexts, refusedText}
 use Rattle.safety.specs.Accepted.{length-until}
-use Rattle.safety.specs.Accepted.{AcceptedRows, accepted-pair}
-use Rattle.safety.specs.Memory.{declared-size}
-use Rattle.rules.specs.Accepted.{counts}
 use Rattle.text.specs.Line.{contentOf, variableLine}
 use Rattle.report.specs.Call.{answerText}
-use Rattle.report.specs.Memory.{bodyCells, memoryLine, memoryLines, linesUnless, variablesText}
+use Rattle.report.specs.Memory.{Left, bodyCells, memoryLine, memoryLines, linesUnless, variablesText}
 use Rattle.report.specs.Written.{most-text}
 
 -- ---- numbers
@@ -68,32 +65,31 @@ name-length : (rows : List ℕ) (d : ℕ) → length (nameAt rows declaration-se
 unfolding nameAt bytesAt
 name-length rows d = omega (arith, length-take 8 (drop (10 * nameRow rows declaration-section d + 2) rows))
 
-module _ (rows : List ℕ) (accepted : AcceptedRows rows) (cells : List ℤ) (states : List ℕ) where
-  body-length : (d : ℕ) → d < pairCount rows declaration-section → length (bodyCells rows cells d) ≤ 64
-  unfolding bodyCells declarationAt
+module _ {rows present : List ℕ} {cells : List ℤ} {states : List ℕ} {vs : List Variable} (left : Left rows present cells states vs) where
+  body-length : (d : ℕ) → d < pairCount rows declaration-section → length (bodyCells cells vs d) ≤ 64
+  unfolding bodyCells
   body-length d l =
-      omega (arith, length-take (size (bodyOr (declaredBody rows d))) (drop (body-cells * d) cells), declared-size rows [] accepted d l)
+      omega (arith, length-take (size (presentBody (variableAt vs d))) (drop (body-cells * d) cells), left .stored .holdable d (omega (arith, l, left .count)) .few-cells)
 
-  line-length : (d : ℕ) → d < pairCount rows declaration-section → length (memoryLine rows cells states d) ≤ 1417
+  line-length : (d : ℕ) → d < pairCount rows declaration-section → length (memoryLine rows cells states vs d) ≤ 1417
   unfolding memoryLine variableLine
   line-length d l =
       simp length-append
-      (omega (arith, length-until (nameAt rows declaration-section d), name-length rows d, content-length (filledAt states d) (bodyCells rows cells d) (body-length d l)))
+      (omega (arith, length-until (nameAt rows declaration-section d), name-length rows d, content-length (filledAt states d) (bodyCells cells vs d) (body-length d l)))
 
-  lines-length : (d n : ℕ) → d + n ≤ pairCount rows declaration-section → length (memoryLines rows cells states d n) ≤ 1417 * n
+  lines-length : (d n : ℕ) → d + n ≤ pairCount rows declaration-section → length (memoryLines rows cells states vs d n) ≤ 1417 * n
   unfolding memoryLines
   lines-length d zero l = omega arith
   lines-length d (suc n) l = simp length-append (omega (arith, line-length d (omega arith), lines-length (suc d) n (omega arith)))
 
-variables-length : (prof lims : List ℕ) (cells : List ℤ) (states : List ℕ) → length (variablesText prof lims cells states) ≤ 22672
-unfolding variablesText linesUnless
-variables-length prof lims cells states = go (lowest (pairRules prof lims)) refl
-  where
-    go : (n : ℕ) → lowest (pairRules prof lims) ≡ n → length (linesUnless n (rowsOf prof) cells states) ≤ 22672
-    go zero e =
-        let accepted = accepted-pair prof lims e in
-        omega (arith, lines-length (rowsOf prof) accepted cells states 0 (pairCount (rowsOf prof) declaration-section) (omega arith), counts (rowsOf prof) (accepted .counts) .variables .most)
-    go (suc n) e = omega arith
+module _ (prof lims : List ℕ) {present : List ℕ} {cells : List ℤ} {states : List ℕ} {vs : List Variable} (left : lowest (pairRules prof lims) ≡ 0 → Left (rowsOf prof) present cells states vs) where
+  variables-length : length (variablesText prof lims cells states vs) ≤ 22672
+  unfolding variablesText linesUnless
+  variables-length = go (lowest (pairRules prof lims)) refl
+    where
+      go : (n : ℕ) → lowest (pairRules prof lims) ≡ n → length (linesUnless n (rowsOf prof) cells states vs) ≤ 22672
+      go zero e = omega (arith, lines-length (left e) 0 (pairCount (rowsOf prof) declaration-section) (omega arith), left e .count, left e .stored .few)
+      go (suc n) e = omega arith
 
-pub report-fits : (a : Answer Ending) (prof lims : List ℕ) (cells : List ℤ) (states : List ℕ) → length (answerText a ++ variablesText prof lims cells states) ≤ most-text
-report-fits a prof lims cells states = simp length-append (omega (arith, answer-length a, variables-length prof lims cells states))
+  pub report-fits : (a : Answer Ending) → length (answerText a ++ variablesText prof lims cells states vs) ≤ most-text
+  report-fits a = simp length-append (omega (arith, answer-length a, variables-length))

@@ -8,71 +8,60 @@ use native.Mathlib.Numerals.{add-one}
 use native.Mathlib.Omega.{arith}
 use lib.ListN.{length, take, drop}
 use lib.IntN.{ℤ}
-use Rattle.lingua.specs.Numbers.{body-cells, most-variables, declaration-section}
-use Rattle.lingua.specs.Outcome.{Result}
-use Rattle.lingua.specs.Body.{Body, size}
-use Rattle.lingua.specs.Store.{filledAt}
+use Rattle.lingua.specs.Numbers.{body-cells, declaration-section}
+use Rattle.lingua.specs.Body.{size}
+use Rattle.lingua.specs.Store.{Variable, variableAt, presentBody, filledAt}
 use Rattle.lingua.specs.Rows.{bytesAt, pairCount}
-use Rattle.lingua.specs.Trees.{declaredBody, bodyOr, nameAt}
-use Rattle.safety.specs.Accepted.{AcceptedRows}
-use Rattle.body.specs.Walk.{Measured}
-use Rattle.body.specs.declared.walk.Measure.{Measure}
+use Rattle.lingua.specs.Trees.{nameAt}
 use Rattle.decoder.specs.Tables.{IsTable}
 use Rattle.decoder.specs.declared.tables.Table.{Table}
-use Rattle.rules.specs.Accepted.{counts}
-use Rattle.profile.specs.Variables.{DeclaredIs}
 use Rattle.profile.proofs.Declaring.{name-place, pairs}
 use Rattle.text.specs.Appended.{Appended}
 use Rattle.text.specs.Line.{variableLine}
 use Rattle.text.proofs.Texts.{append-none, append-both}
-use Rattle.report.specs.Memory.{bodyCells, memoryLine, memoryLines}
+use Rattle.report.specs.Memory.{Left, bodyCells, memoryLine, memoryLines}
 
 -- ---- one variable
-pub few-variables : (rows : List ℕ) (t : Table) (d : ℕ) → AcceptedRows rows → IsTable rows declaration-section t → d < t .count / 2 → d < most-variables
-few-variables rows t d accepted is l =
-    omega (arith, pairs rows declaration-section t is, counts rows (accepted .counts) .variables .most)
-
-pub measured-size : (rows x : List ℕ) (d : ℕ) (m : Measure) (h : DeclaredIs rows d x) → Measured m 0 (h .body)
-    → (m .cells ≡ size (bodyOr (declaredBody rows d))) × (m .cells ≤ body-cells)
-measured-size rows x d m h e = (e .is-cells ∙ ap (λ (o : Result Body). size (bodyOr o)) (sym (h .is)), omega (arith, e .is-cells, h .holds .few-cells))
+pub there : {rows present : List ℕ} {cells : List ℤ} {states : List ℕ} {vs : List Variable} {t : Table} {d : ℕ} → Left rows present cells states vs → IsTable rows declaration-section t → d < t .count / 2 → d < length vs
+there {rows} {t = t} h is l = omega (arith, h .count, pairs rows declaration-section t is)
 
 pub line-put :
-    {out last : List ℕ} {at end : ℕ} (rows : List ℕ) (cells : List ℤ) (states name : List ℕ) (t : Table) (d count : ℕ) (filled : Bool) →
+    {out last : List ℕ} {at end : ℕ} (rows : List ℕ) (cells : List ℤ) (states : List ℕ) (vs : List Variable) (name : List ℕ) (t : Table) (d count : ℕ) (filled : Bool) →
     IsTable rows declaration-section t →
     name ≡ bytesAt rows (t .start + 2 * d) →
-    count ≡ size (bodyOr (declaredBody rows d)) →
+    count ≡ size (presentBody (variableAt vs d)) →
     filled ≡ filledAt states d →
-    Appended out at (variableLine name filled (take (64 * d + count - 64 * d) (drop (64 * d) cells))) last end →
-    Appended out at (memoryLine rows cells states d) last end
+    Appended out at (variableLine name filled (take (body-cells * d + count - body-cells * d) (drop (body-cells * d) cells))) last end →
+    Appended out at (memoryLine rows cells states vs d) last end
 unfolding memoryLine bodyCells nameAt
-line-put {out} {last} {at} {end} rows cells states name t d count filled is named counted flag p =
+line-put {out} {last} {at} {end} rows cells states vs name t d count filled is named counted flag p =
     let n : name ≡ nameAt rows declaration-section d = named ∙ ap (bytesAt rows) (name-place rows declaration-section t is d) in
-    let k : 64 * d + count - 64 * d ≡ size (bodyOr (declaredBody rows d)) = omega (arith, counted) in
-    subst (λ (j : ℕ). Appended out at (variableLine (nameAt rows declaration-section d) (filledAt states d) (take j (drop (64 * d) cells))) last end) k
-    (subst (λ (l : List ℕ). Appended out at (variableLine l (filledAt states d) (take (64 * d + count - 64 * d) (drop (64 * d) cells))) last end) n
-    (subst (λ (b : Bool). Appended out at (variableLine name b (take (64 * d + count - 64 * d) (drop (64 * d) cells))) last end) flag p))
+    let k : body-cells * d + count - body-cells * d ≡ size (presentBody (variableAt vs d)) = omega (arith, counted) in
+    subst (λ (j : ℕ). Appended out at (variableLine (nameAt rows declaration-section d) (filledAt states d) (take j (drop (body-cells * d) cells))) last end) k
+    (subst (λ (l : List ℕ). Appended out at (variableLine l (filledAt states d) (take (body-cells * d + count - body-cells * d) (drop (body-cells * d) cells))) last end) n
+    (subst (λ (b : Bool). Appended out at (variableLine name b (take (body-cells * d + count - body-cells * d) (drop (body-cells * d) cells))) last end) flag p))
 
 -- ---- all of them
-module _ (rows : List ℕ) (cells : List ℤ) (states : List ℕ) where
-  lines-one-more : (d n : ℕ) → memoryLines rows cells states d (suc n) ≡ memoryLines rows cells states d n ++ memoryLine rows cells states (d + n)
+module _ (rows : List ℕ) (cells : List ℤ) (states : List ℕ) (vs : List Variable) where
+  lines-one-more : (d n : ℕ) → memoryLines rows cells states vs d (suc n) ≡ memoryLines rows cells states vs d n ++ memoryLine rows cells states vs (d + n)
   unfolding memoryLines
   lines-one-more d zero =
-      append-nil (memoryLine rows cells states d) ∙ ap (λ (k : ℕ). memoryLine rows cells states k) (let e : d ≡ d + zero = omega arith in e)
+      append-nil (memoryLine rows cells states vs d) ∙ ap (λ (k : ℕ). memoryLine rows cells states vs k) (let e : d ≡ d + zero = omega arith in e)
   lines-one-more d (suc n) =
-      ap (λ (l : List ℕ). memoryLine rows cells states d ++ l) (lines-one-more (suc d) n)
-      ∙ sym (append-assoc (memoryLine rows cells states d) (memoryLines rows cells states (suc d) n) (memoryLine rows cells states (suc d + n)))
-      ∙ ap (λ (k : ℕ). (memoryLine rows cells states d ++ memoryLines rows cells states (suc d) n) ++ memoryLine rows cells states k) (let e : suc d + n ≡ d + suc n = omega arith in e)
+      ap (λ (l : List ℕ). memoryLine rows cells states vs d ++ l) (lines-one-more (suc d) n)
+      ∙ sym (append-assoc (memoryLine rows cells states vs d) (memoryLines rows cells states vs (suc d) n) (memoryLine rows cells states vs (suc d + n)))
+      ∙ ap (λ (k : ℕ). (memoryLine rows cells states vs d ++ memoryLines rows cells states vs (suc d) n) ++ memoryLine rows cells states vs k) (let e : suc d + n ≡ d + suc n = omega arith in e)
 
-  pub lines-begin : (out : List ℕ) (at : ℕ) → Appended out at (memoryLines rows cells states 0 0) out at
+  pub lines-begin : (out : List ℕ) (at : ℕ) → Appended out at (memoryLines rows cells states vs 0 0) out at
   unfolding memoryLines
   lines-begin out at = append-none out at
 
   pub lines-next :
       {out mid last : List ℕ} {at then end : ℕ} (d : ℕ) →
-      Appended out at (memoryLines rows cells states 0 d) mid then →
+      Appended out at (memoryLines rows cells states vs 0 d) mid then →
       length mid ≡ length out →
-      Appended mid then (memoryLine rows cells states d) last end →
-      Appended out at (memoryLines rows cells states 0 (d + 1)) last end
+      Appended mid then (memoryLine rows cells states vs d) last end →
+      Appended out at (memoryLines rows cells states vs 0 (d + 1)) last end
   lines-next d p e q = rw (add-one, lines-one-more 0 d, zero-add) (append-both p e q)
 
   pub lines-all :
@@ -80,7 +69,7 @@ module _ (rows : List ℕ) (cells : List ℤ) (states : List ℕ) where
       d ≤ n →
       n ≤ d →
       n ≡ pairCount rows declaration-section →
-      Appended out at (memoryLines rows cells states 0 d) last end →
-      Appended out at (memoryLines rows cells states 0 (pairCount rows declaration-section)) last end
+      Appended out at (memoryLines rows cells states vs 0 d) last end →
+      Appended out at (memoryLines rows cells states vs 0 (pairCount rows declaration-section)) last end
   lines-all {out} {last} {at} {end} d n a b e p =
-      subst (λ (k : ℕ). Appended out at (memoryLines rows cells states 0 k) last end) (let k : d ≡ n = omega arith in k ∙ e) p
+      subst (λ (k : ℕ). Appended out at (memoryLines rows cells states vs 0 k) last end) (let k : d ≡ n = omega arith in k ∙ e) p

@@ -1,31 +1,31 @@
 // The variables' lines, from the memory that a run leaves.
 use body::walk::measure_body;
+use checked::leaves::present;
 use decoder::fields::bytes_at;
 use decoder::tables::Table;
-use profile::declarations::declared_body;
+use lingua::sizes::BODY_CELLS;
 use run::words::is_filled;
 use text::report::put_variable_line;
 ghost use mathlib.Core.Path.{_≡_};
-ghost use Prim.Native.Nat.{_/_, _≤_, _<_};
+ghost use mathlib.Core.List.{List};
+ghost use Prim.Native.Nat.{ℕ, _/_, _<_};
+ghost use lib.IntN.{ℤ};
 ghost use lib.ListN.{length};
-ghost use Rattle.lingua.specs.Numbers.{cells-length, states-length, declaration-section, type-section};
+ghost use Rattle.lingua.specs.Numbers.{declaration-section};
 ghost use Rattle.lingua.specs.Body.{size};
-ghost use Rattle.lingua.specs.Trees.{declaredBody, bodyOr};
-ghost use Rattle.lingua.specs.Rows.{tableCount, pairCount};
-ghost use Rattle.safety.specs.Accepted.{AcceptedRows};
+ghost use Rattle.lingua.specs.Rows.{pairCount};
+ghost use Rattle.lingua.specs.Store.{Variable, variableAt, presentBody};
 ghost use Rattle.decoder.specs.Tables.{IsTable};
-ghost use Rattle.rules.specs.Types.{BodiesBelow};
+ghost use Rattle.checked.specs.Meaning.{Stored, HasStored};
 ghost use Rattle.text.specs.Appended.{Appended};
-ghost use Rattle.report.specs.Memory.{memoryLine, memoryLines};
+ghost use Rattle.report.specs.Memory.{Left, HasLeft, memoryLine, memoryLines};
 
-// How many cells the declared body of variable d takes.
-fn declared_cells(rows: &[u8], t: Table, d: usize, bodies: &[u8]) -> usize
-    requires { ⌜ IsTable (now rows) declaration-section t ⌝ }
-    requires { ⌜ d < t .count / 2 ⌝ }
-    requires { ⌜ AcceptedRows (now rows) × BodiesBelow (now rows) (now bodies) (tableCount (now rows) type-section) ⌝ }
-    ensures { λ r. ⌜ (r ≡ size (bodyOr (declaredBody (now (rows .entry)) d))) × (r ≤ 64) ⌝ }
+// How many cells the present body of variable d takes.
+fn present_cells(bodies: &[u8], d: usize) -> usize
+    requires { ⌜ ((cells : List ℤ) × ((states : List ℕ) × HasStored (now bodies) cells states d)) ⌝ }
+    ensures { λ r. ⌜ ((cells : List ℤ) (states : List ℕ) (vs : List Variable) → Stored (now (bodies .entry)) cells states vs → d < length vs → r ≡ size (presentBody (variableAt vs d))) ⌝ }
 {
-    let body = declared_body(rows, t, d, bodies);
+    let body = present(bodies, d);
     let m = measure_body(body);
     m.cells
 }
@@ -35,21 +35,21 @@ fn put_line(
     rows: &[u8],
     t: Table,
     d: usize,
-    bodies: &[u8],
     cells: &[i64],
     states: &[u16],
+    bodies: &[u8],
     out: &mut [u8],
     at: usize,
 ) -> usize
     requires { ⌜ IsTable (now rows) declaration-section t ⌝ }
     requires { ⌜ d < t .count / 2 ⌝ }
-    requires { ⌜ AcceptedRows (now rows) × (BodiesBelow (now rows) (now bodies) (tableCount (now rows) type-section) × ((length (now cells) ≡ cells-length) × (length (now states) ≡ states-length))) ⌝ }
-    ensures { λ r. ⌜ Appended (now (out .entry)) at (memoryLine (now (rows .entry)) (now (cells .entry)) (now (states .entry)) d) (now (out .exit)) r ⌝ }
+    requires { ⌜ HasLeft (now rows) (now bodies) (now cells) (now states) ⌝ }
+    ensures { λ r. ⌜ ((vs : List Variable) → Left (now (rows .entry)) (now (bodies .entry)) (now (cells .entry)) (now (states .entry)) vs → Appended (now (out .entry)) at (memoryLine (now (rows .entry)) (now (cells .entry)) (now (states .entry)) vs d) (now (out .exit)) r) ⌝ }
 {
     let start = t.start;
     let name = bytes_at(rows, start + 2 * d);
-    let count = declared_cells(rows, t, d, bodies);
-    let from = 64 * d;
+    let count = present_cells(bodies, d);
+    let from = BODY_CELLS * d;
     let to = from + count;
     put_variable_line(out, at, name, is_filled(states, d), &cells[from..to])
 }
@@ -58,22 +58,21 @@ fn put_line(
 pub(crate) fn put_lines(
     rows: &[u8],
     t: Table,
-    bodies: &[u8],
     cells: &[i64],
     states: &[u16],
+    bodies: &[u8],
     out: &mut [u8],
     at: usize,
 ) -> usize
     requires { ⌜ IsTable (now rows) declaration-section t ⌝ }
-    requires { ⌜ AcceptedRows (now rows) ⌝ }
-    requires { ⌜ BodiesBelow (now rows) (now bodies) (tableCount (now rows) type-section) × ((length (now cells) ≡ cells-length) × (length (now states) ≡ states-length)) ⌝ }
-    ensures { λ r. ⌜ Appended (now (out .entry)) at (memoryLines (now (rows .entry)) (now (cells .entry)) (now (states .entry)) 0 (pairCount (now (rows .entry)) declaration-section)) (now (out .exit)) r ⌝ }
+    requires { ⌜ HasLeft (now rows) (now bodies) (now cells) (now states) ⌝ }
+    ensures { λ r. ⌜ ((vs : List Variable) → Left (now (rows .entry)) (now (bodies .entry)) (now (cells .entry)) (now (states .entry)) vs → Appended (now (out .entry)) at (memoryLines (now (rows .entry)) (now (cells .entry)) (now (states .entry)) vs 0 (pairCount (now (rows .entry)) declaration-section)) (now (out .exit)) r) ⌝ }
 {
     let n = t.count / 2;
     let mut end = at;
     let mut d = 0;
     while d < n {
-        end = put_line(rows, t, d, bodies, cells, states, out, end);
+        end = put_line(rows, t, d, cells, states, bodies, out, end);
         d += 1;
     }
     end

@@ -7,6 +7,7 @@ use lingua::sizes::CELLS_LENGTH;
 use lingua::sizes::REPORT_BUDGET;
 use lingua::sizes::STATES_LENGTH;
 use lingua::sizes::TYPE_BODIES_LENGTH;
+use lingua::sizes::VARIABLE_BODIES_LENGTH;
 use pair::take_pair;
 use taken::checked_run::checked_taken;
 ghost use Prim.Native.Nat.{_≤_};
@@ -21,23 +22,25 @@ pub(crate) fn report_text(profile: &[u8], limits: &[u8], out: &mut [u8]) -> usiz
 {
     let mut areas = [0u8; AREAS_LENGTH];
     let mut others = [0u8; AREA_BYTES];
-    let mut bodies = [0u8; TYPE_BODIES_LENGTH];
-    let pair = take_pair(profile, limits, &mut areas, &mut others, &mut bodies);
+    let mut types = [0u8; TYPE_BODIES_LENGTH];
+    let pair = take_pair(profile, limits, &mut areas, &mut others, &mut types);
     let variables = [0u16; 0];
     let numbers = [0i64; 0];
     let mut cells = [0i64; CELLS_LENGTH];
     let mut states = [0u16; STATES_LENGTH];
+    let mut bodies = [0u8; VARIABLE_BODIES_LENGTH];
     let answer = checked_taken(
         pair,
         &areas,
         &others,
-        &bodies,
+        &types,
         &variables,
         &numbers,
         REPORT_BUDGET,
         &mut cells,
         &mut states,
+        &mut bodies,
     );
     let end = put_answer(answer, out);
-    put_variables(pair, &areas, &bodies, &cells, &states, out, end)
+    put_variables(pair, &areas, &cells, &states, &bodies, out, end)
 }

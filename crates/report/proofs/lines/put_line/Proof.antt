@@ -2,13 +2,13 @@
 use native.Mathlib.Omega.{arith}
 use borrow.Author.Needs.{needs}
 use denote.Ref.{now}
-use Rattle.laws.specs.Stores.{flag-room}
-use Rattle.report.proofs.Putting.{few-variables, line-put}
+use Rattle.run.proofs.Parts.{states-room, cells-room}
+use Rattle.checked.proofs.Storing.{memory-of}
+use Rattle.report.proofs.Putting.{there, line-put}
 use Rattle.report.proofs.lines.put_line.Statement.{statement}
 use Rattle.report.proofs.lines.put_line.Tie as tie
 use Rattle.report.proofs.lines.put_line.Reads as reads
 use Rattle.report.proofs.lines.put_line.Lts as lts
-use Rattle.report.proofs.lines.declared_cells.Reads as declared-cells-reads
 use Rattle.decoder.proofs.fields.bytes_at.Reads as bytes-at-reads
 use Rattle.run.proofs.words.is_filled.Reads as is-filled-reads
 use Rattle.text.proofs.report.put_variable_line.Reads as put-variable-line-reads
@@ -22,23 +22,29 @@ add-bytes-at c = search needs
 bytes-at-requires : tie.Need-bytes-at-requires
 bytes-at-requires c κs = search needs
 
-declared-cells-requires : tie.Need-declared-cells-requires
-declared-cells-requires c κs = search needs
+present-cells-requires : tie.Need-present-cells-requires
+present-cells-requires c κs = let h = c .before .before .before .before .before .pre .1 .1 in (_, (_, record { store = h .store; stored = h .left .stored; there = there (h .left) (c .before .before .before .before .before .pre .0) (c .before .before .before .before .before .pre .1 .0) }))
 
 mul-from : tie.Need-mul-from
 mul-from c =
-    omega (arith, few-variables (now (c .before .before .before .before .before .before .args .rows)) (c .before .before .before .before .before .before .args .t) (c .before .before .before .before .before .before .args .d) (c .before .before .before .before .before .before .pre .1 .1 .0) (c .before .before .before .before .before .before .pre .0) (c .before .before .before .before .before .before .pre .1 .0), c .declared-cells .ensures .1, c .before .before .before .before .before .before .pre .1 .1 .1 .1 .0, c .before .before .before .before .before .before .pre .1 .1 .1 .1 .1)
+    let h = c .before .before .before .before .before .before .pre .1 .1 in
+    let l = there (h .left) (c .before .before .before .before .before .before .pre .0) (c .before .before .before .before .before .before .pre .1 .0) in
+    omega (arith, cells-room (memory-of (h .left .stored)) _ l, c .present-cells .ensures _ _ _ (h .left .stored) l, h .left .stored .holdable _ l .few-cells, h .left .stored .few, l)
 
 add-to : tie.Need-add-to
 add-to c =
-    omega (arith, few-variables (now (c .before .before .before .before .before .before .args .rows)) (c .before .before .before .before .before .before .args .t) (c .before .before .before .before .before .before .args .d) (c .before .before .before .before .before .before .pre .1 .1 .0) (c .before .before .before .before .before .before .pre .0) (c .before .before .before .before .before .before .pre .1 .0), c .declared-cells .ensures .1, c .before .before .before .before .before .before .pre .1 .1 .1 .1 .0, c .before .before .before .before .before .before .pre .1 .1 .1 .1 .1)
+    let h = c .before .before .before .before .before .before .pre .1 .1 in
+    let l = there (h .left) (c .before .before .before .before .before .before .pre .0) (c .before .before .before .before .before .before .pre .1 .0) in
+    omega (arith, cells-room (memory-of (h .left .stored)) _ l, c .present-cells .ensures _ _ _ (h .left .stored) l, h .left .stored .holdable _ l .few-cells, h .left .stored .few, l)
 
 is-filled-requires : tie.Need-is-filled-requires
-is-filled-requires c κs = flag-room (now (c .before .before .before .before .before .before .before .args .states)) (c .before .before .before .before .before .before .before .args .d) (omega (arith, c .before .before .before .before .before .before .before .pre .1 .1 .1 .1 .1)) (few-variables (now (c .before .before .before .before .before .before .before .args .rows)) (c .before .before .before .before .before .before .before .args .t) (c .before .before .before .before .before .before .before .args .d) (c .before .before .before .before .before .before .before .pre .1 .1 .0) (c .before .before .before .before .before .before .before .pre .0) (c .before .before .before .before .before .before .before .pre .1 .0))
+is-filled-requires c κs = let h = c .before .before .before .before .before .before .before .pre .1 .1 in states-room (memory-of (h .left .stored)) _ (there (h .left) (c .before .before .before .before .before .before .before .pre .0) (c .before .before .before .before .before .before .before .pre .1 .0))
 
 mul-put-variable-line : tie.Need-mul-put-variable-line
 mul-put-variable-line c =
-    omega (arith, few-variables (now (c .before .before .before .before .before .before .before .before .args .rows)) (c .before .before .before .before .before .before .before .before .args .t) (c .before .before .before .before .before .before .before .before .args .d) (c .before .before .before .before .before .before .before .before .pre .1 .1 .0) (c .before .before .before .before .before .before .before .before .pre .0) (c .before .before .before .before .before .before .before .before .pre .1 .0), c .before .before .declared-cells .ensures .1, c .before .before .before .before .before .before .before .before .pre .1 .1 .1 .1 .0, c .before .before .before .before .before .before .before .before .pre .1 .1 .1 .1 .1)
+    let h = c .before .before .before .before .before .before .before .before .pre .1 .1 in
+    let l = there (h .left) (c .before .before .before .before .before .before .before .before .pre .0) (c .before .before .before .before .before .before .before .before .pre .1 .0) in
+    omega (arith, cells-room (memory-of (h .left .stored)) _ l, c .before .before .present-cells .ensures _ _ _ (h .left .stored) l, h .left .stored .holdable _ l .few-cells, h .left .stored .few, l)
 
 sub-put-variable-line : tie.Need-sub-put-variable-line
 sub-put-variable-line c = search needs
@@ -48,7 +54,9 @@ part-put-variable-line-start c = search needs
 
 part-put-variable-line-end : tie.Need-part-put-variable-line-end
 part-put-variable-line-end c =
-    omega (arith, few-variables (now (c .before .before .before .before .before .before .before .before .args .rows)) (c .before .before .before .before .before .before .before .before .args .t) (c .before .before .before .before .before .before .before .before .args .d) (c .before .before .before .before .before .before .before .before .pre .1 .1 .0) (c .before .before .before .before .before .before .before .before .pre .0) (c .before .before .before .before .before .before .before .before .pre .1 .0), c .before .before .declared-cells .ensures .1, c .before .before .before .before .before .before .before .before .pre .1 .1 .1 .1 .0, c .before .before .before .before .before .before .before .before .pre .1 .1 .1 .1 .1)
+    let h = c .before .before .before .before .before .before .before .before .pre .1 .1 in
+    let l = there (h .left) (c .before .before .before .before .before .before .before .before .pre .0) (c .before .before .before .before .before .before .before .before .pre .1 .0) in
+    omega (arith, cells-room (memory-of (h .left .stored)) _ l, c .before .before .present-cells .ensures _ _ _ (h .left .stored) l, h .left .stored .holdable _ l .few-cells, h .left .stored .few, l)
 
 put-variable-line-requires : tie.Need-put-variable-line-requires
 put-variable-line-requires c κs = search needs
@@ -57,8 +65,8 @@ same-length : tie.Need-same-length
 same-length c = search needs
 
 returns : tie.Need-returns
-returns c =
-    line-put (now (c .before .before .before .before .before .before .before .before .before .before .before .before .args .rows)) (now (c .before .before .before .before .before .before .before .before .before .before .before .before .args .cells)) (now (c .before .before .before .before .before .before .before .before .before .before .before .before .args .states)) _ (c .before .before .before .before .before .before .before .before .before .before .before .before .args .t) (c .before .before .before .before .before .before .before .before .before .before .before .before .args .d) (c .before .before .before .before .before .before .declared-cells .result) _ (c .before .before .before .before .before .before .before .before .before .before .before .before .pre .0) (c .before .before .before .before .before .before .before .bytes-at .ensures .0) (c .before .before .before .before .before .before .declared-cells .ensures .0) (c .before .before .before .before .is-filled .ensures) (c .before .before .put-variable-line .ensures)
+returns c = λ vs h.
+    line-put (now (c .before .before .before .before .before .before .before .before .before .before .before .before .args .rows)) (now (c .before .before .before .before .before .before .before .before .before .before .before .before .args .cells)) (now (c .before .before .before .before .before .before .before .before .before .before .before .before .args .states)) vs _ (c .before .before .before .before .before .before .before .before .before .before .before .before .args .t) (c .before .before .before .before .before .before .before .before .before .before .before .before .args .d) (c .before .before .before .before .before .before .present-cells .result) _ (c .before .before .before .before .before .before .before .before .before .before .before .before .pre .0) (c .before .before .before .before .before .before .before .bytes-at .ensures .0) (c .before .before .before .before .before .before .present-cells .ensures _ _ vs (h .stored) (there h (c .before .before .before .before .before .before .before .before .before .before .before .before .pre .0) (c .before .before .before .before .before .before .before .before .before .before .before .before .pre .1 .0))) (c .before .before .before .before .is-filled .ensures) (c .before .before .put-variable-line .ensures)
 
 pub put-line-spec : {M : Type 1} → statement M
 put-line-spec =
@@ -67,7 +75,7 @@ put-line-spec =
     mul-bytes-at
     add-bytes-at
     bytes-at-requires
-    declared-cells-requires
+    present-cells-requires
     mul-from
     add-to
     is-filled-requires

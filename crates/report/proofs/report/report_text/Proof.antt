@@ -1,11 +1,12 @@
 -- `report::report::report_text` meets its contract: what the run of the taken files ensures, and the two texts behind each other. Assumes
 -- nothing.
-use mathlib.Core.Path.{refl}
+use mathlib.Core.Path.{refl, sym, _∙_}
 use borrow.Author.Needs.{needs}
 use denote.Ref.{now}
 use Rattle.pair.proofs.Given.{room-there}
 use Rattle.report.specs.Call.{reportCall}
-use Rattle.report.proofs.Reporting.{report-written}
+use Rattle.report.proofs.Reporting.{run-left, report-written}
+use Rattle.report.proofs.Taking.{left-rows}
 use Rattle.report.proofs.report.report_text.Statement.{statement}
 use Rattle.report.proofs.report.report_text.Tie as tie
 
@@ -42,8 +43,11 @@ slice-aggregate-checked-taken-6 c = search needs
 slice-aggregate-checked-taken-7 : tie.Need-slice-aggregate-checked-taken-7
 slice-aggregate-checked-taken-7 c = search needs
 
+slice-aggregate-checked-taken-8 : tie.Need-slice-aggregate-checked-taken-8
+slice-aggregate-checked-taken-8 c = search needs
+
 checked-taken-requires : tie.Need-checked-taken-requires
-checked-taken-requires c κs = record { prof = _; lims = _; is = c .before .before .before .before .before .before .before .before .before .before .take-pair .ensures }
+checked-taken-requires c κs = record { prof = _; lims = _; is = c .before .before .before .before .before .before .before .before .before .before .before .take-pair .ensures }
 
 put-answer-requires : tie.Need-put-answer-requires
 put-answer-requires c κs = search needs
@@ -61,7 +65,10 @@ slice-aggregate-put-variables-4 : tie.Need-slice-aggregate-put-variables-4
 slice-aggregate-put-variables-4 c = search needs
 
 put-variables-requires : tie.Need-put-variables-requires
-put-variables-requires c κs = ((_, record { prof = _; lims = _; is = c .before .before .before .before .before .before .before .before .before .before .before .before .before .before .before .before .before .before .before .before .before .before .take-pair .ensures }), search needs)
+unfolding reportCall
+put-variables-requires c κs =
+    let h = c .before .before .before .before .before .before .before .before .before .before .before .before .before .before .before .before .before .before .before .before .before .before .before .before .take-pair .ensures in
+    ((_, (_, record { prof = _; lims = _; is = h })), λ z. record { store = _; left = left-rows h z (run-left (now (c .before .before .before .before .before .before .before .before .before .before .before .before .before .before .before .before .before .before .before .before .before .before .before .before .before .before .before .before .before .before .before .args .profile)) (now (c .before .before .before .before .before .before .before .before .before .before .before .before .before .before .before .before .before .before .before .before .before .before .before .before .before .before .before .before .before .before .before .args .limits)) _ _ _ _ (c .before .before .before .before .before .before .before .before .before .before .before .before .checked-taken .ensures _ _ h) (sym (h .refusal) ∙ z)) })
 
 same-length : tie.Need-same-length
 same-length c = search needs
@@ -69,7 +76,10 @@ same-length c = search needs
 returns : tie.Need-returns
 unfolding reportCall
 returns c =
-    report-written (now (c .before .before .before .before .before .before .before .before .before .before .before .before .before .before .before .before .before .before .before .before .before .before .before .before .before .before .before .before .before .before .before .before .args .profile)) (now (c .before .before .before .before .before .before .before .before .before .before .before .before .before .before .before .before .before .before .before .before .before .before .before .before .before .before .before .before .before .before .before .before .args .limits)) _ _ _ (c .before .before .before .before .before .before .before .before .before .before .before .before .before .before .before .before .before .before .before .before .before .before .before .before .before .before .before .before .before .before .before .before .pre) (c .before .before .before .before .before .before .before .before .before .before .before .before .before .before .checked-taken .ensures _ _ (c .before .before .before .before .before .before .before .before .before .before .before .before .before .before .before .before .before .before .before .before .before .before .before .before .before .take-pair .ensures)) (c .before .before .before .before .before .before .before .before .before .before .put-answer .ensures) (search needs) (c .before .before .put-variables .ensures _ _ _ (c .before .before .before .before .before .before .before .before .before .before .before .before .before .before .before .before .before .before .before .before .before .before .before .before .before .take-pair .ensures))
+    let h = c .before .before .before .before .before .before .before .before .before .before .before .before .before .before .before .before .before .before .before .before .before .before .before .before .before .before .before .take-pair .ensures in
+    let e = c .before .before .before .before .before .before .before .before .before .before .before .before .before .before .before .checked-taken .ensures _ _ h in
+    report-written (now (c .before .before .before .before .before .before .before .before .before .before .before .before .before .before .before .before .before .before .before .before .before .before .before .before .before .before .before .before .before .before .before .before .before .before .args .profile)) (now (c .before .before .before .before .before .before .before .before .before .before .before .before .before .before .before .before .before .before .before .before .before .before .before .before .before .before .before .before .before .before .before .before .before .before .args .limits)) _ _ _ _ (c .before .before .before .before .before .before .before .before .before .before .before .before .before .before .before .before .before .before .before .before .before .before .before .before .before .before .before .before .before .before .before .before .before .before .pre) e (c .before .before .before .before .before .before .before .before .before .before .put-answer .ensures) (search needs)
+    (c .before .before .put-variables .ensures _ _ _ _ _ h (λ z. left-rows h z (run-left (now (c .before .before .before .before .before .before .before .before .before .before .before .before .before .before .before .before .before .before .before .before .before .before .before .before .before .before .before .before .before .before .before .before .before .before .args .profile)) (now (c .before .before .before .before .before .before .before .before .before .before .before .before .before .before .before .before .before .before .before .before .before .before .before .before .before .before .before .before .before .before .before .before .before .before .args .limits)) _ _ _ _ e (sym (h .refusal) ∙ z))))
 
 pub report-text-spec : {M : Type 1} → statement M
 report-text-spec =
@@ -86,6 +96,7 @@ report-text-spec =
     slice-aggregate-checked-taken-5
     slice-aggregate-checked-taken-6
     slice-aggregate-checked-taken-7
+    slice-aggregate-checked-taken-8
     checked-taken-requires
     put-answer-requires
     slice-aggregate-put-variables
