@@ -1,6 +1,7 @@
 // Each call's answer as a line at the start of a buffer, with the line's length.
 use crate::first;
 use crate::hex::put_hex;
+use crate::sparse::put_byte_places;
 use crate::sparse::put_cells;
 use crate::sparse::put_words;
 use lingua::CheckAnswer;
@@ -84,6 +85,20 @@ fn ended_line(ended: Ended, cells: &[i64], states: &[u16], out: &mut [u8]) -> us
     let between = put_cells(out, before, cells);
     let after = put_bytes(out, between, b" marks ");
     let end = put_words(out, after, states);
+    put(out, end, b'\n')
+}
+
+// The present bodies of a run that was made, however it ended.
+pub(crate) fn bodies_line(answer: RunAnswer, kept: bool, bodies: &[u8], out: &mut [u8]) -> usize {
+    match answer {
+        RunAnswer::Refused(number) => refused(number, kept, out),
+        _ => present_line(bodies, out),
+    }
+}
+
+fn present_line(bodies: &[u8], out: &mut [u8]) -> usize {
+    let at = put_bytes(out, 0, b"bodies ");
+    let end = put_byte_places(out, at, bodies);
     put(out, end, b'\n')
 }
 

@@ -2,6 +2,7 @@
 ghost use Prim.Native.Nat.{_≤_};
 ghost use lib.ListN.{length};
 use crate::answers::bad_case;
+use crate::answers::bodies_line;
 use crate::answers::check_line;
 use crate::answers::read_line;
 use crate::answers::run_line;
@@ -22,10 +23,18 @@ use lingua::sizes::CELLS_LENGTH;
 use lingua::sizes::LAYOUT_LENGTH;
 use lingua::sizes::ROWS_LENGTH;
 use lingua::sizes::STATES_LENGTH;
+use lingua::sizes::VARIABLE_BODIES_LENGTH;
 
 pub enum KindFound {
     Of(FileKind),
     Bad,
+}
+
+// Which run a line asks for, and what of it is shown.
+pub enum RunKind {
+    Desk,
+    Bodies,
+    Chair,
 }
 
 // The answer's line at the start of `out`, and its length.
@@ -47,10 +56,13 @@ pub(crate) fn answer(line: &[u8], out: &mut [u8]) -> usize {
     }
     if count == 5 {
         if same(kind, b"desk") {
-            return run_case(line, true, out);
+            return run_case(line, RunKind::Desk, out);
+        }
+        if same(kind, b"bodies") {
+            return run_case(line, RunKind::Bodies, out);
         }
         if same(kind, b"chair") {
-            return run_case(line, false, out);
+            return run_case(line, RunKind::Chair, out);
         }
     }
     bad_case(out)
@@ -156,8 +168,8 @@ fn inspect(profile: &[u8], limits: &[u8], out: &mut [u8]) -> usize {
     check_line(answer, nonsense::words_kept(&layout), &layout, out)
 }
 
-// ---- desk or chair PROFILE LIMITS READINGS BUDGET
-fn run_case(line: &[u8], checked: bool, out: &mut [u8]) -> usize {
+// ---- desk, bodies or chair PROFILE LIMITS READINGS BUDGET
+fn run_case(line: &[u8], kind: RunKind, out: &mut [u8]) -> usize {
     let mut profile = [0u8; 32768];
     let Count::Of(p) = decode(field(line, 1), &mut profile) else {
         return bad_case(out);
@@ -168,7 +180,7 @@ fn run_case(line: &[u8], checked: bool, out: &mut [u8]) -> usize {
     };
     run_files(
         line,
-        checked,
+        kind,
         first::bytes(&profile, p),
         first::bytes(&limits, l),
         out,
@@ -176,7 +188,7 @@ fn run_case(line: &[u8], checked: bool, out: &mut [u8]) -> usize {
 }
 
 // A run takes at most 16 inputs. So where there are more than the 64 that find room, it refuses those 64 as it would all.
-fn run_files(line: &[u8], checked: bool, profile: &[u8], limits: &[u8], out: &mut [u8]) -> usize {
+fn run_files(line: &[u8], kind: RunKind, profile: &[u8], limits: &[u8], out: &mut [u8]) -> usize {
     let mut variables = [0u16; 64];
     let mut numbers = [0i64; 64];
     let Count::Of(n) = parse_inputs(field(line, 3), &mut variables, &mut numbers) else {
@@ -185,17 +197,8 @@ fn run_files(line: &[u8], checked: bool, profile: &[u8], limits: &[u8], out: &mu
     let Word::Of(budget) = parse_word(field(line, 4)) else {
         return bad_case(out);
     };
-    if checked {
-        return run_checked(
-            profile,
-            limits,
-            first::words(&variables, n),
-            first::numbers(&numbers, n),
-            budget,
-            out,
-        );
-    }
-    run_erased(
+    run(
+        kind,
         profile,
         limits,
         first::words(&variables, n),
@@ -205,7 +208,8 @@ fn run_files(line: &[u8], checked: bool, profile: &[u8], limits: &[u8], out: &mu
     )
 }
 
-fn run_checked(
+fn run(
+    kind: RunKind,
     profile: &[u8],
     limits: &[u8],
     variables: &[u16],
@@ -213,8 +217,26 @@ fn run_checked(
     budget: u16,
     out: &mut [u8],
 ) -> usize {
+    match kind {
+        RunKind::Desk => run_checked(profile, limits, variables, numbers, budget, false, out),
+        RunKind::Bodies => run_checked(profile, limits, variables, numbers, budget, true, out),
+        RunKind::Chair => run_erased(profile, limits, variables, numbers, budget, out),
+    }
+}
+
+// A desk line shows the cells and the state words; `present` asks for the present bodies of the same run in their place.
+fn run_checked(
+    profile: &[u8],
+    limits: &[u8],
+    variables: &[u16],
+    numbers: &[i64],
+    budget: u16,
+    present: bool,
+    out: &mut [u8],
+) -> usize {
     let mut cells = [nonsense::CELL; CELLS_LENGTH];
     let mut states = [nonsense::WORD; STATES_LENGTH];
+    let mut bodies = [nonsense::BYTE; VARIABLE_BODIES_LENGTH];
     let answer = calls::checked_run::run_checked(
         profile,
         limits,
@@ -223,8 +245,14 @@ fn run_checked(
         budget,
         &mut cells,
         &mut states,
+        &mut bodies,
     );
-    let kept = nonsense::cells_kept(&cells) && nonsense::words_kept(&states);
+    let kept = nonsense::cells_kept(&cells)
+        && nonsense::words_kept(&states)
+        && nonsense::bytes_kept(&bodies);
+    if present {
+        return bodies_line(answer, kept, &bodies, out);
+    }
     run_line(answer, kept, &cells, &states, out)
 }
 

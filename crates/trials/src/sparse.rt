@@ -43,6 +43,20 @@ pub(crate) fn put_words(out: &mut [u8], start: usize, values: &[u16]) -> usize {
     put_end(out, start, at)
 }
 
+fn put_byte(out: &mut [u8], start: usize, at: usize, index: usize, value: u8) -> usize {
+    put_word(out, start, at, index, value as u16)
+}
+
+pub(crate) fn put_byte_places(out: &mut [u8], start: usize, values: &[u8]) -> usize {
+    let mut at = start;
+    let mut i = 0;
+    while i < values.len() {
+        at = put_byte(out, start, at, i, values[i]);
+        i += 1;
+    }
+    put_end(out, start, at)
+}
+
 fn put_cell(out: &mut [u8], start: usize, at: usize, index: usize, value: i64) -> usize {
     if value == 0 {
         return at;
