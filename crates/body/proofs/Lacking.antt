@@ -10,14 +10,13 @@ use lib.Dec.{eqb}
 use lib.ListN.{getD}
 use Rattle.lingua.specs.Outcome.{if_then_else_, isSome}
 use Rattle.lingua.specs.Body.{Body, record-of, Attributes, end, attribute, countAttributes, attributesOf, attributeBody, sameBody, sameAttributes, removeAttribute, lacksOneOf, lacksOne, coherent}
-use Rattle.laws.specs.Outcomes.{false-is-true, same-attributes}
+use Rattle.laws.specs.Outcomes.{false-is-true, is-some, same-attributes}
 use Rattle.laws.specs.Removal.{removed-fewer}
 use Rattle.body.specs.declared.walk.Measure.{Measure}
 use Rattle.body.specs.Encode.{Holds}
 use Rattle.body.specs.Walk.{At, Measured}
 use Rattle.body.specs.Find.{HeldRecord, HeldWith}
 use Rattle.body.proofs.Finding.{for-record, Ahead, ahead-start, next-view, next-number, passed}
-use Rattle.body.proofs.Selecting.{something}
 
 -- an attribute of hs is one of gs
 abbrev pub Among : Attributes → Attributes → Type 0
@@ -45,8 +44,8 @@ lacks-more (attribute n b hs) fs gs a e =
     by-test : (t : Bool) → sameAttributes fs (removeAttribute n gs) ≡ t → (lacksOneOf hs fs gs ≡ true → countAttributes fs < countAttributes gs)
         → countAttributes fs < countAttributes gs
     by-test true q f =
-        let s = something (attributeBody n gs) (a n (first-there n b hs)) in
-        omega (arith, ap countAttributes (same-attributes fs (removeAttribute n gs) q), removed-fewer n gs (s .it) (s .is) .fewer-attributes)
+        let s = is-some (attributeBody n gs) (a n (first-there n b hs)) in
+        omega (arith, ap countAttributes (same-attributes fs (removeAttribute n gs) q), removed-fewer n gs (s .0) (s .1) .fewer-attributes)
     by-test false q f = f (rw q at e)
 
 pub not-lacking : (fs gs : Attributes) → countAttributes gs ≤ countAttributes fs → lacksOne fs gs ≡ false

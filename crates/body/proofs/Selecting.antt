@@ -9,6 +9,7 @@ use lib.Dec.{eqb}
 use Rattle.lingua.specs.Outcome.{isSome}
 use Rattle.lingua.specs.Body.{Body, record-of, Attributes, end, attribute, size, sizes, nodes, attributeNodes, attributeBody, attributeOffset}
 use Rattle.lingua.specs.Encode.{encoded}
+use Rattle.laws.specs.Outcomes.{is-some}
 use Rattle.body.specs.declared.find.Found.{Found}
 use Rattle.body.specs.Encode.{Holds, Held}
 use Rattle.body.specs.Walk.{At, SomeAt}
@@ -39,14 +40,6 @@ pub nothing : {A : Type 0} (o : Option A) → isSome o ≡ false → o ≡ none
 nothing none e = refl
 nothing (some a) e = absurd (let k : _≡_ {A = ℕ} 0 1 = cc in let z : ⊥ = omega arith in z)
 
-pub record Something {A : Type 0} (o : Option A) : Type 0 where
-  pub it : A
-  pub is : o ≡ some it
-
-pub something : {A : Type 0} (o : Option A) → isSome o ≡ true → Something o
-something none e = absurd (let k : _≡_ {A = ℕ} 0 1 = cc in let z : ⊥ = omega arith in z)
-something (some a) e = record { it = a; is = refl }
-
 -- what is known of an attribute that was found
 pub record Got (x : List ℕ) (f : Found) (n : ℕ) (fs : Attributes) : Type 0 where
   pub body : Body
@@ -64,12 +57,12 @@ module _ (x : List ℕ) (n : ℕ) (f : Found) (g : (fs : Attributes) → Holds x
   unfolding size nodes
   got fs h e =
       let r = g fs h in
-      let s = something (attributeBody n fs) (sym (r .is-found) ∙ e) in
-      let l = attribute-smaller n fs (s .it) (s .is) in
+      let s = is-some (attributeBody n fs) (sym (r .is-found) ∙ e) in
+      let l = attribute-smaller n fs (s .0) (s .1) in
       record {
-        body = s .it;
-        is = s .is;
-        stands = r .stands (s .it) (s .is);
+        body = s .0;
+        is = s .1;
+        stands = r .stands (s .0) (s .1);
         is-offset = r .is-offset e;
         few-cells = omega (arith, l .cells-of, h .few-cells);
         few-nodes = omega (arith, l .nodes-of, h .few-nodes);
@@ -77,8 +70,8 @@ module _ (x : List ℕ) (n : ℕ) (f : Found) (g : (fs : Attributes) → Holds x
 
   pub placed : (fs : Attributes) → Holds x (record-of fs) → f .found ≡ true → PlacedAt (f .at) n fs
   placed fs h e =
-      let s = something (attributeBody n fs) (sym (g fs h .is-found) ∙ e) in
-      record { body = s .it; there = s .is; is-place = g fs h .is-place e }
+      let s = is-some (attributeBody n fs) (sym (g fs h .is-found) ∙ e) in
+      record { body = s .0; there = s .1; is-place = g fs h .is-place e }
 
   pub some-found : HeldRecord x → f .found ≡ true → SomePlacedAt x (f .at)
   some-found h e = record { attributes = h .attributes; holds = h .holds; number = n; placed = placed (h .attributes) (h .holds) e }
