@@ -121,31 +121,26 @@ module _ (x y : List ℕ) (left at : ℕ) (s : Lacking x y left at) where
             same-answer = λ fs h. by-first fs h ∙ ap (λ (u : Bool). u || lacksOneOf (v .others) fs (a .all)) e;
           }
 
--- ---- coherent bodies
-module _ (b c : Body) where
-  pub coherent-same : true ≡ sameBody b c → true ≡ coherent b c
+-- ---- whether two bodies that differ are coherent
+module _ (b c : Body) (e : false ≡ sameBody b c) where
+  pub coherent-first : attributesOf b ≡ none → false ≡ coherent b c
   unfolding coherent
-  coherent-same e = rw (sym e) refl
+  coherent-first p = rw (sym e, p) refl
 
-  module _ (e : false ≡ sameBody b c) where
-    pub coherent-first : attributesOf b ≡ none → false ≡ coherent b c
+  module _ (fs : Attributes) (p : attributesOf b ≡ some fs) where
+    pub coherent-second : attributesOf c ≡ none → false ≡ coherent b c
     unfolding coherent
-    coherent-first p = rw (sym e, p) refl
+    coherent-second q = rw (sym e, p, q) refl
 
-    module _ (fs : Attributes) (p : attributesOf b ≡ some fs) where
-      pub coherent-second : attributesOf c ≡ none → false ≡ coherent b c
+    module _ (gs : Attributes) (q : attributesOf c ≡ some gs) where
+      pub coherent-wider : (t : Bool) → countAttributes fs < countAttributes gs → t ≡ lacksOne fs gs → t ≡ coherent b c
       unfolding coherent
-      coherent-second q = rw (sym e, p, q) refl
+      coherent-wider t l r = rw (sym e, p, q, sym r, not-lacking gs fs (omega arith)) (or-false t)
+        where
+          or-false : (u : Bool) → u ≡ (u || false)
+          or-false true = refl
+          or-false false = refl
 
-      module _ (gs : Attributes) (q : attributesOf c ≡ some gs) where
-        pub coherent-wider : (t : Bool) → countAttributes fs < countAttributes gs → t ≡ lacksOne fs gs → t ≡ coherent b c
-        unfolding coherent
-        coherent-wider t l r = rw (sym e, p, q, sym r, not-lacking gs fs (omega arith)) (or-false t)
-          where
-            or-false : (u : Bool) → u ≡ (u || false)
-            or-false true = refl
-            or-false false = refl
-
-        pub coherent-narrower : (t : Bool) → countAttributes gs ≤ countAttributes fs → t ≡ lacksOne gs fs → t ≡ coherent b c
-        unfolding coherent
-        coherent-narrower t l r = rw (sym e, p, q, not-lacking fs gs l, sym r) refl
+      pub coherent-narrower : (t : Bool) → countAttributes gs ≤ countAttributes fs → t ≡ lacksOne gs fs → t ≡ coherent b c
+      unfolding coherent
+      coherent-narrower t l r = rw (sym e, p, q, not-lacking fs gs l, sym r) refl

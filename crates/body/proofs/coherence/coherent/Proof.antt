@@ -1,6 +1,7 @@
 -- `body::coherence::coherent` meets its contract: equal bodies, else what `one_apart` says. Assumes nothing.
 use mathlib.Core.Path.{sym, _∙_}
-use Rattle.body.proofs.Lacking.{coherent-same}
+use Rattle.laws.specs.Outcomes.{same-body}
+use Rattle.laws.specs.Coherent.{coherent-same}
 use borrow.Author.Needs.{needs}
 use Rattle.body.proofs.coherence.coherent.Statement.{statement}
 use Rattle.body.proofs.coherence.coherent.Tie as tie
@@ -9,7 +10,7 @@ same-requires : tie.Need-same-requires
 same-requires c κs = search needs
 
 returns : tie.Need-returns
-returns c = λ b d h k. coherent-same b d (sym (c .if1 .taken) ∙ c .before .same .ensures b d h k)
+returns c = λ b d h k. sym (coherent-same b d (same-body b d (sym (c .before .same .ensures b d h k) ∙ c .if1 .taken)))
 
 one-apart-requires : tie.Need-one-apart-requires
 one-apart-requires c κs = (c .before .before .pre .0, c .before .before .pre .1)
