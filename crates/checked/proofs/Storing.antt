@@ -14,9 +14,10 @@ use Rattle.lingua.specs.Errors.{not-filled}
 use Rattle.lingua.specs.Outcome.{ok, fail, Result, orFail}
 use Rattle.lingua.specs.Body.{Body, size}
 use Rattle.lingua.specs.Value.{Composite}
-use Rattle.lingua.specs.Store.{Variable, variableAt, presentOf, presentBody, contents, filledAt}
+use Rattle.lingua.specs.Store.{Variable, no-variable, variableAt, presentOf, presentBody, contents, filledAt}
 use Rattle.laws.specs.Lengths.{length-cells}
-use Rattle.laws.specs.Presents.{Compact, compact-by, bodies-at, bodies-long}
+use Rattle.laws.specs.Every.{every-by}
+use Rattle.laws.specs.Presents.{Compact, bodies-at, bodies-long}
 use Rattle.safety.specs.TypeSound.{VariablesFit}
 use Rattle.profile.specs.Constants.{ConstantRow, IsCell}
 use Rattle.profile.specs.Row.{constantOf}
@@ -80,7 +81,7 @@ memory-of {vs = vs} h = record { cells-are = h .cells-are; states-are = h .state
 
 module _ {variables : List ℕ} {cells : List ℤ} {states : List ℕ} {vs : List Variable} (h : Stored variables cells states vs) where
   pub all-compact : Compact vs
-  all-compact = compact-by vs (λ n l. h .holdable n l .few-nodes)
+  all-compact = every-by no-variable vs (λ n l. h .holdable n l .few-nodes)
 
   module _ (n : ℕ) (lt : n < length vs) where
     pub not-filled-is : filledAt states n ≡ false → orFail (contents vs n) not-filled ≡ fail not-filled

@@ -1,4 +1,5 @@
 pub mod Lists
+pub mod Every
 pub mod Lengths
 pub mod Records
 pub mod Items

@@ -13,7 +13,8 @@ use Rattle.lingua.specs.Encode.{encoded}
 use Rattle.lingua.specs.Store.{Variable, no-variable, variableAt, presentBody, storeBodies, bodiesIn}
 use Rattle.laws.specs.Lists.{paste-at, pad-free, pad-append}
 use Rattle.laws.specs.Encoded.{length-encoded}
-use Rattle.laws.specs.Stores.{parts, Sized, sized-none, sized-more, length-parts, part-at, part-set}
+use Rattle.laws.specs.Every.{Every, every-implies}
+use Rattle.laws.specs.Stores.{parts, Sized, length-parts, part-at, part-set}
 
 abbrev pub variableBytes : Variable → List ℕ
 variableBytes v = encoded (presentBody v)
@@ -24,22 +25,11 @@ store-bodies-parts [] = refl
 store-bodies-parts (v ∷ vs) = ap (λ (l : List ℕ). variableBytes v ++ l) (store-bodies-parts vs)
 
 -- every present body has few enough nodes for its 96 bytes
-pub data Compact : List Variable → Type 0 where
-  compact-none : Compact []
-  compact-more : {v : Variable} {vs : List Variable} → nodes (presentBody v) ≤ body-nodes → Compact vs → Compact (v ∷ vs)
-
-pub compact-by : (vs : List Variable) → ((n : ℕ) → n < length vs → nodes (presentBody (variableAt vs n)) ≤ body-nodes) → Compact vs
-compact-by [] f = compact-none
-compact-by (v ∷ vs) f = compact-more (f 0 (omega arith)) (compact-by vs (λ n l. f (suc n) (let k : suc n < length (v ∷ vs) = omega arith in k)))
-
-pub compact-take : (n : ℕ) {vs : List Variable} → Compact vs → Compact (take n vs)
-compact-take zero hs = compact-none
-compact-take (suc n) compact-none = compact-none
-compact-take (suc n) (compact-more h hs) = compact-more h (compact-take n hs)
+abbrev pub Compact : List Variable → Type 0
+Compact vs = Every (λ v. nodes (presentBody v) ≤ body-nodes) vs
 
 bodies-sized : {vs : List Variable} → Compact vs → Sized variableBytes body-bytes vs
-bodies-sized compact-none = sized-none
-bodies-sized (compact-more {v} {vs} h hs) = sized-more (length-encoded (presentBody v) h) (bodies-sized hs)
+bodies-sized hs = every-implies (λ v h. length-encoded (presentBody v) h) hs
 
 module _ (vs : List Variable) (n : ℕ) (lt : n < length vs) (hs : Compact vs) where
   -- variable n's 96 bytes

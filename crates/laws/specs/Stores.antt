@@ -14,6 +14,7 @@ use Rattle.lingua.specs.Expression.{Yoke, yokeNumber}
 use Rattle.lingua.specs.Store.{Variable, no-variable, variableAt, withContent, withYoke, contentCells, filledFlag, stateWords, storeCells, storeStates, cellsIn, statesIn, flagPlace, yokePlace, flagAt, yokeAt, fillAt, setYokeAt}
 use Rattle.lingua.specs.Run.{Declaration, unfilled}
 use Rattle.laws.specs.Lists.{length-pad, paste-at, pad-free, pad-append}
+use Rattle.laws.specs.Every.{Every, every-none, every-more, every-implies}
 
 -- ---- lists of parts of one length
 module _ {A B : Type 0} (f : A → List B) where
@@ -22,26 +23,20 @@ module _ {A B : Type 0} (f : A → List B) where
   parts (x ∷ xs) = f x ++ parts xs
 
   -- each part has length k
-  pub data Sized (k : ℕ) : List A → Type 0 where
-    sized-none : Sized k []
-    sized-more : {x : A} {xs : List A} → length (f x) ≡ k → Sized k xs → Sized k (x ∷ xs)
+  abbrev pub Sized : ℕ → List A → Type 0
+  Sized k xs = Every (λ x. length (f x) ≡ k) xs
 
   pub length-parts : (k : ℕ) (xs : List A) → Sized k xs → length (parts xs) ≡ k * length xs
   unfolding parts
-  length-parts k [] sized-none = sym (mul-zero k)
-  length-parts k (x ∷ xs) (sized-more h hs) =
+  length-parts k [] every-none = sym (mul-zero k)
+  length-parts k (x ∷ xs) (every-more h hs) =
       omega (arith, length-append (f x) (parts xs), length-parts k xs hs, h, mul-suc k (length xs))
-
-  pub sized-take : (k n : ℕ) (xs : List A) → Sized k xs → Sized k (take n xs)
-  sized-take k zero xs hs = sized-none
-  sized-take k (suc n) [] hs = sized-none
-  sized-take k (suc n) (x ∷ xs) (sized-more h hs) = sized-more h (sized-take k n xs hs)
 
   pub length-take-parts : (k n : ℕ) (xs : List A) → Sized k xs → n ≤ length xs → length (parts (take n xs)) ≡ k * n
   unfolding parts
   length-take-parts k zero xs hs le = sym (mul-zero k)
   length-take-parts k (suc n) [] hs le = absurd (let z : ⊥ = omega arith in z)
-  length-take-parts k (suc n) (x ∷ xs) (sized-more h hs) le =
+  length-take-parts k (suc n) (x ∷ xs) (every-more h hs) le =
       omega (arith, length-append (f x) (parts (take n xs)), length-take-parts k n xs hs (le-of-suc-le-suc le), h, mul-suc k n)
 
   -- part n between those before and those behind it
@@ -61,13 +56,13 @@ module _ {A B : Type 0} (f : A → List B) where
 
   pub sized-at : (k n : ℕ) (xs : List A) (d : A) → Sized k xs → n < length xs → length (f (getD xs n d)) ≡ k
   sized-at k n [] d hs lt = absurd (let z : ⊥ = omega arith in z)
-  sized-at k zero (x ∷ xs) d (sized-more h hs) lt = h
-  sized-at k (suc n) (x ∷ xs) d (sized-more h hs) lt = sized-at k n xs d hs (le-of-suc-le-suc lt)
+  sized-at k zero (x ∷ xs) d (every-more h hs) lt = h
+  sized-at k (suc n) (x ∷ xs) d (every-more h hs) lt = sized-at k n xs d hs (le-of-suc-le-suc lt)
 
   pub sized-set : (k n : ℕ) (xs : List A) (a : A) → Sized k xs → length (f a) ≡ k → Sized k (set xs n a)
-  sized-set k n [] a hs h = sized-none
-  sized-set k zero (x ∷ xs) a (sized-more g hs) h = sized-more h hs
-  sized-set k (suc n) (x ∷ xs) a (sized-more g hs) h = sized-more g (sized-set k n xs a hs h)
+  sized-set k n [] a hs h = every-none
+  sized-set k zero (x ∷ xs) a (every-more g hs) h = every-more h hs
+  sized-set k (suc n) (x ∷ xs) a (every-more g hs) h = every-more g (sized-set k n xs a hs h)
 
   -- ---- the same with z behind it up to m
   module _ (k m : ℕ) (z : B) (xs : List A) (hs : Sized k xs) (n : ℕ) (lt : n < length xs) where
@@ -125,22 +120,15 @@ store-states-parts [] = refl
 store-states-parts (v ∷ vs) = ap (λ (l : List ℕ). stateWords v ++ l) (store-states-parts vs)
 
 -- every content has at most 64 cells
-pub data Small : List Variable → Type 0 where
-  small-none : Small []
-  small-more : {v : Variable} {vs : List Variable} → length (contentCells (v .content)) ≤ body-cells → Small vs → Small (v ∷ vs)
+abbrev pub Small : List Variable → Type 0
+Small vs = Every (λ v. length (contentCells (v .content)) ≤ body-cells) vs
 
--- from each content's bound
-pub small-by : (vs : List Variable) → ((n : ℕ) → n < length vs → length (contentCells (variableAt vs n .content)) ≤ body-cells) → Small vs
-small-by [] f = small-none
-small-by (v ∷ vs) f = small-more (f 0 (omega arith)) (small-by vs (λ n l. f (suc n) (let k : suc n < length (v ∷ vs) = omega arith in k)))
-
-pub small-sized : {vs : List Variable} → Small vs → Sized variableCells body-cells vs
-small-sized small-none = sized-none
-small-sized (small-more {v} {vs} h hs) = sized-more (length-pad body-cells (pos 0) (contentCells (v .content)) h) (small-sized hs)
+small-sized : {vs : List Variable} → Small vs → Sized variableCells body-cells vs
+small-sized hs = every-implies (λ v h. length-pad body-cells (pos 0) (contentCells (v .content)) h) hs
 
 pub states-sized : (vs : List Variable) → Sized stateWords state-words vs
-states-sized [] = sized-none
-states-sized (v ∷ vs) = sized-more refl (states-sized vs)
+states-sized [] = every-none
+states-sized (v ∷ vs) = every-more refl (states-sized vs)
 
 -- ---- one of two neighbours in a list
 no-two : {A : Type 0} {a b : ℕ} → _≡_ {A = List ℕ} [] (a ∷ b ∷ []) → A

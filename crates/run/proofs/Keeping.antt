@@ -28,7 +28,8 @@ use Rattle.lingua.specs.Format.{profile}
 use Rattle.lingua.specs.Rules.{nameWrong}
 use Rattle.lingua.specs.Trees.{bodyOr, declarationAt, limitIf, limitFrom, limitOf, limitRow, nameAt}
 use Rattle.laws.specs.Formed.{formed-bounds}
-use Rattle.laws.specs.Presents.{variableBytes, Compact, compact-by, compact-take, body-more}
+use Rattle.laws.specs.Every.{every-by, every-take}
+use Rattle.laws.specs.Presents.{variableBytes, Compact, body-more}
 use Rattle.laws.specs.Equal.{same-text, text-same}
 use Rattle.safety.specs.Answers.{true-is-false}
 use Rattle.safety.specs.Limited.{one-variable}
@@ -50,7 +51,7 @@ unfolding bodiesIn storeBodies pad
 bodies-none rows variables e = record { is = λ limits. e }
 
 pub start-compact : (rows limits : List ℕ) → AcceptedRows rows → Compact (startStore rows limits)
-start-compact rows limits accepted = compact-by (startStore rows limits) (λ n l.
+start-compact rows limits accepted = every-by no-variable (startStore rows limits) (λ n l.
     let inside : n < pairCount rows declaration-section = omega (arith, start-count rows limits) in
     subst (λ (v : Variable). nodes (presentBody v) ≤ body-nodes) (sym (start-at rows limits n inside)) (formed-bounds (declared-formed rows accepted limits n inside) .few-nodes))
 
@@ -68,7 +69,7 @@ bodies-more rows variables after d x accepted l kept given q = record { is = λ 
         ap (λ (l : List ℕ). paste l (body-bytes * d) x body-bytes) (kept .is limits)
         ∙ ap (λ (b : List ℕ). paste (bodiesIn (take d vs)) (body-bytes * d) b body-bytes) (given .holds .is ∙ ap encoded (sym (ap (λ (o : Result Body). bodyOr o) (given .is))))
         ∙ ap (λ (j : ℕ). paste (bodiesIn (take d vs)) (body-bytes * j) (variableBytes w) body-bytes) (sym m)
-        ∙ sym (body-more (take d vs) w (compact-take d (start-compact rows limits accepted)) (omega (arith, m, few-variables rows accepted)) (formed-bounds (declared-formed rows accepted limits d l) .few-nodes))
+        ∙ sym (body-more (take d vs) w (every-take d (start-compact rows limits accepted)) (omega (arith, m, few-variables rows accepted)) (formed-bounds (declared-formed rows accepted limits d l) .few-nodes))
         ∙ ap (λ (v : Variable). bodiesIn (take d vs ++ (v ∷ []))) (sym (start-at rows limits d l))
         ∙ ap (λ (us : List Variable). bodiesIn us) (sym (take-suc vs d no-variable (omega arith)))
         ∙ ap (λ (j : ℕ). bodiesIn (take j vs)) (sym (add-one d))

@@ -2,9 +2,9 @@
 -- nothing.
 use mathlib.Core.Path.{_≡_, refl, sym, ap, _∙_}
 use mathlib.Core.Bool.{true, false}
-use mathlib.Core.List.{List, [], _∷_}
+use mathlib.Core.List.{List}
 use mathlib.Core.Option.{Option, some, none}
-use Prim.Native.Nat.{ℕ, suc, _+_, _-_, _*_, _≤_, _<_}
+use Prim.Native.Nat.{ℕ, _+_, _-_, _*_, _≤_, _<_}
 use native.Mathlib.Omega.{arith}
 use lib.IntN.{ℤ, pos}
 use lib.Dec.{eqb}
@@ -16,21 +16,18 @@ use Rattle.lingua.specs.Body.{size}
 use Rattle.lingua.specs.Value.{pad, cellsOf, Composite}
 use Rattle.lingua.specs.Expression.{yokeNumber}
 use Rattle.lingua.specs.Rows.{tableCount}
-use Rattle.lingua.specs.Store.{Variable, variableAt, contentCells, filledFlag, cellsIn, flagPlace, yokePlace, flagAt, yokeAt, filledAt}
+use Rattle.lingua.specs.Store.{Variable, no-variable, variableAt, contentCells, filledFlag, cellsIn, flagPlace, yokePlace, flagAt, yokeAt, filledAt}
 use Rattle.lingua.specs.Trees.{yokeTree}
 use Rattle.lingua.specs.Typing.{Bodies}
 use Rattle.laws.specs.Lengths.{length-cells}
-use Rattle.laws.specs.Stores.{Small, small-none, small-more, cells-at, cells-long, states-long, yoke-room, flag-room, flag-at, yoke-at}
+use Rattle.laws.specs.Every.{every-by}
+use Rattle.laws.specs.Stores.{Small, cells-at, cells-long, states-long, yoke-room, flag-room, flag-at, yoke-at}
 use Rattle.safety.specs.Constants.{Fitting}
 use Rattle.safety.specs.TypeSound.{VariablesFit}
 use Rattle.safety.specs.Named.{number-of}
 use Rattle.profile.specs.Yokes.{YokeOf}
 use Rattle.cells.specs.Stack.{Lies}
 use Rattle.run.specs.Memory.{Memory}
-
-small-by : (vs : List Variable) → ((n : ℕ) → n < length vs → length (contentCells (variableAt vs n .content)) ≤ body-cells) → Small vs
-small-by [] f = small-none
-small-by (v ∷ vs) f = small-more (f 0 (omega arith)) (small-by vs (λ n l. f (suc n) (let k : suc n < length (v ∷ vs) = omega arith in k)))
 
 module _ {cells : List ℤ} {states : List ℕ} {vs : List Variable} {vars : Bodies} (h : Memory cells states vs vars) where
   -- a filled variable's value has its body and fits
@@ -49,7 +46,7 @@ module _ {cells : List ℤ} {states : List ℕ} {vs : List Variable} {vars : Bod
           omega (arith, length-cells (q .1), ap size (q .0), h .small n l)
 
   pub contents-small : Small vs
-  contents-small = small-by vs content-small
+  contents-small = every-by no-variable vs content-small
 
   module _ (n : ℕ) (lt : n < length vs) where
     -- ---- its room

@@ -1,4 +1,5 @@
--- Lists all of whose elements have a property: of parts joined, mapped, tabulated, and of tests that hold everywhere. Assumes nothing.
+-- Lists all of whose elements have a property (`Every` of laws, passed on here): of parts joined, mapped, tabulated, and of tests that hold
+-- everywhere. Assumes nothing.
 use mathlib.Core.Path.{_≡_, refl, sym, subst}
 use mathlib.Core.Bool.{Bool, true}
 use mathlib.Core.List.{List, [], _∷_, _++_, map, List·Memᴰ, List·Memᴰ·head, List·Memᴰ·tail}
@@ -10,10 +11,7 @@ use Rattle.lingua.specs.Trees.{tabulateFrom, tabulate}
 use Rattle.lingua.specs.Format.{everyBelow}
 use Rattle.laws.specs.Outcomes.{and-left, and-right}
 use Rattle.laws.specs.Tests.{every-at as below-at}
-
-pub data Every {A : Type 0} (P : A → Type 0) : List A → Type 0 where
-  every-none : Every P []
-  every-more : {x : A} {xs : List A} → P x → Every P xs → Every P (x ∷ xs)
+pub use Rattle.laws.specs.Every.{Every, every-none, every-more, every-implies}
 
 module _ {A : Type 0} {P : A → Type 0} where
   pub every-append : {xs ys : List A} → Every P xs → Every P ys → Every P (xs ++ ys)
@@ -46,10 +44,6 @@ every-map f h (every-more {x} p ps) = every-more (h x p) (every-map f h ps)
 pub every-unmap : {A B : Type 0} {Q : B → Type 0} (f : A → B) (xs : List A) → Every Q (map f xs) → Every (λ x. Q (f x)) xs
 every-unmap f [] p = every-none
 every-unmap f (x ∷ xs) (every-more h p) = every-more h (every-unmap f xs p)
-
-pub every-implies : {A : Type 0} {P Q : A → Type 0} → ((x : A) → P x → Q x) → {xs : List A} → Every P xs → Every Q xs
-every-implies h every-none = every-none
-every-implies h (every-more {x} p ps) = every-more (h x p) (every-implies h ps)
 
 -- every element is among the elements
 pub every-member : {A : Type 0} (xs : List A) → Every (λ x. List·Memᴰ x xs) xs

@@ -18,7 +18,7 @@ use Rattle.lingua.specs.Value.{Value, whole, inRange, Fits, asWhole, pad, cells
 use Rattle.lingua.specs.Encode.{encoded}
 use Rattle.lingua.specs.Expression.{Yoke, yokeNumber, Instruction, skip, assign, set-yoke, sequence, branch, loop, handle}
 use Rattle.lingua.specs.Evaluation.{Variables, eval, evalYoke, booleanOf, no-current}
-use Rattle.lingua.specs.Store.{Variable, variableAt, presentOf, presentBody, contents, within, admitted, assigned, yokeHolds, yokeChanged, withContent, withYoke, Reading, readingTaken, contentCells, filledFlag, cellsIn, statesIn, bodiesIn, flagAt, yokeAt}
+use Rattle.lingua.specs.Store.{Variable, no-variable, variableAt, presentOf, presentBody, contents, within, admitted, assigned, yokeHolds, yokeChanged, withContent, withYoke, Reading, readingTaken, contentCells, filledFlag, cellsIn, statesIn, bodiesIn, flagAt, yokeAt}
 use Rattle.lingua.specs.Run.{State, Profile, unfilled, started, takeReadings, run, lastState}
 use Rattle.lingua.specs.Typing.{Entry, bodiesOf, checkProfile}
 use Rattle.lingua.specs.Rows.{pairCount}
@@ -27,8 +27,9 @@ use Rattle.lingua.specs.Format.{rowsOf}
 use Rattle.lingua.specs.Refusal.{lowest, pairRules, isNumberVariable}
 use Rattle.laws.specs.Lengths.{length-cells}
 use Rattle.laws.specs.Formed.{formed-bounds, formed-as}
-use Rattle.laws.specs.Stores.{small-by, cells-at as lent-cells, flag-at, yoke-at}
-use Rattle.laws.specs.Presents.{compact-by, bodies-at, bodies-same}
+use Rattle.laws.specs.Every.{every-by}
+use Rattle.laws.specs.Stores.{cells-at as lent-cells, flag-at, yoke-at}
+use Rattle.laws.specs.Presents.{bodies-at, bodies-same}
 use Rattle.safety.specs.Answers.{same-answer, bound, demanded, after}
 use Rattle.safety.specs.Every.{Every, every-all, every-implies}
 use Rattle.safety.specs.Everywhere.{everywhere-all}
@@ -100,7 +101,7 @@ ContentsFit vs = (n : ℕ) → length (contentCells (variableAt vs n .content)) 
 pub cells-at : (vs : List Variable) → ContentsFit vs → (n : ℕ) → n < length vs
     → take body-cells (drop (body-cells * n) (cellsIn vs)) ≡ pad body-cells (pos 0) (contentCells (variableAt vs n .content))
 unfolding ContentsFit
-cells-at vs h n l = lent-cells vs n l (small-by vs (λ k m. h k))
+cells-at vs h n l = lent-cells vs n l (every-by no-variable vs (λ k m. h k))
 
 pub states-at : (vs : List Variable) (n : ℕ) → n < length vs
     → (flagAt (statesIn vs) n ≡ filledFlag (variableAt vs n .content)) × (yokeAt (statesIn vs) n ≡ yokeNumber (variableAt vs n .yoke))
@@ -171,7 +172,7 @@ module _ (rows lims : List ℕ) (accepted : AcceptedRows rows) (readings : List 
       by (some x) e = filled-formed n x e
 
   bytes-at : (n : ℕ) → n < length last → take body-bytes (drop (body-bytes * n) (bodiesIn last)) ≡ encoded (presentBody (variableAt last n))
-  bytes-at n l = bodies-at last n l (compact-by last (λ k m. formed-bounds (present-formed k) .few-nodes))
+  bytes-at n l = bodies-at last n l (every-by no-variable last (λ k m. formed-bounds (present-formed k) .few-nodes))
 
   -- the current yoke is the one that the state word names
   yoke-is : (n : ℕ) → n < length last → variableAt last n .yoke ≡ yokeTree rows (yokeAt (statesIn last) n)
