@@ -10,9 +10,8 @@ use lib.Seq.{getD-take, getD-drop}
 use Rattle.lingua.specs.Numbers.{body-bytes, body-cells, declaration-section}
 use Rattle.lingua.specs.Errors.{not-filled}
 use Rattle.lingua.specs.Outcome.{ok, fail, Result, orFail}
-use Rattle.lingua.specs.Body.{Body, boolean, number, word, list-of, record-of, size}
+use Rattle.lingua.specs.Body.{Body, size}
 use Rattle.lingua.specs.Value.{pad, Composite}
-use Rattle.lingua.specs.Encode.{bytes, encoded}
 use Rattle.lingua.specs.Evaluation.{eval}
 use Rattle.lingua.specs.Rows.{pairCount}
 use Rattle.lingua.specs.Store.{Variable, variableAt, presentBody, contents, filledAt}
@@ -24,7 +23,9 @@ use Rattle.profile.specs.Facts.{rowTree}
 use Rattle.profile.specs.Constants.{ConstantRow, IsCell}
 use Rattle.body.specs.Encode.{Holds}
 use Rattle.body.proofs.Bytes.{tag}
-use Rattle.body.proofs.Tags.{held-tag}
+use Rattle.body.proofs.Making.{held-at, simple-taken}
+use Rattle.body.proofs.Tags.{held-tag, by-first}
+use Rattle.body.proofs.Answers.{scalar-cell}
 use Rattle.cells.proofs.Operands.{lies-long}
 use Rattle.run.proofs.Copying.{one-cell}
 use Rattle.run.proofs.Parts.{cells-room}
@@ -37,28 +38,11 @@ use Rattle.checked.proofs.Storing.{memory-of, gives-constant, gives-var
 use Rattle.checked.proofs.Cycle.{by-row}
 
 -- ---- a body by its first byte
-simple-encoded : (b : Body) → tag b ≤ 3 → encoded b ≡ pad body-bytes 0 (tag b ∷ [])
-unfolding encoded bytes tag
-simple-encoded boolean h = refl
-simple-encoded number h = refl
-simple-encoded word h = refl
-simple-encoded (list-of b) h = absurd (let z : ⊥ = omega (arith, h) in z)
-simple-encoded (record-of fs) h = absurd (let z : ⊥ = omega (arith, h) in z)
-
-simple-size : (b : Body) → tag b ≤ 3 → size b ≡ 1
-unfolding size tag
-simple-size boolean h = refl
-simple-size number h = refl
-simple-size word h = refl
-simple-size (list-of b) h = absurd (let z : ⊥ = omega (arith, h) in z)
-simple-size (record-of fs) h = absurd (let z : ⊥ = omega (arith, h) in z)
-
 pub simple-is : (first : ℕ) (body : List ℕ) (b : Body) → Holds body b → getD body 0 0 ≡ first → first ≤ 3 → IsSimple first body b
 simple-is first body b h e l =
-    let t : first ≡ tag b = sym e ∙ held-tag body b h in
     record {
-      is = λ k. h .is ∙ simple-encoded b (omega (arith, l, t)) ∙ ap (λ (j : ℕ). pad body-bytes 0 (j ∷ [])) (sym t);
-      one-cell = λ k. simple-size b (omega (arith, l, t));
+      is = λ k. h .is ∙ sym (simple-taken body 0 b (held-at body b h) (omega (arith, l, e))) ∙ ap (λ (j : ℕ). pad body-bytes 0 (j ∷ [])) e;
+      one-cell = λ k. ap size (by-first b (omega (arith, l, e, held-tag body b h))) ∙ sym (scalar-cell (tag b));
     }
 
 pub no-simple : (body : List ℕ) (b : Body) → IsSimple 0 body b
