@@ -2,7 +2,8 @@
 use mathlib.Core.Path.{_≡_, refl, sym, ap, _∙_, subst}
 use mathlib.Core.Bool.{true, not}
 use mathlib.Core.List.{List}
-use Prim.Native.Nat.{ℕ, zero, suc}
+use Prim.Native.Nat.{ℕ, suc}
+use native.Mathlib.Nat.{suc-pred-eq-of-ne-zero}
 use lib.Dec.{eqb}
 use lib.ListN.{length, take}
 use borrow.Author.Tests.{eq-eqb, ne-eqb}
@@ -45,12 +46,8 @@ module _ (prof lims layout areas others bodies : List ℕ) (p : Pair) (room : le
   refusal-is =
       lowest-skip bad-buffer (not (eqb (length layout) layout-length)) (pairRules prof lims) (ap not (eq-eqb (length layout) layout-length room)) ∙ sym (h .refusal)
 
-  some-number : (n : ℕ) → (n ≡ 0 → ⊥) → (m : ℕ) × (n ≡ suc m)
-  some-number zero k = absurd (k refl)
-  some-number (suc m) k = (m, refl)
-
   pub check-refused : (p .refusal ≡ 0 → ⊥) → typeCheckResult (check-answer.Refused (p .refusal)) layout ≡ typeCheckCall prof lims layout
-  check-refused k = let s = some-number (p .refusal) k in call-refused prof lims layout (p .refusal) (s .0) refusal-is (s .1)
+  check-refused k = call-refused prof lims layout (p .refusal) _ refusal-is (sym (suc-pred-eq-of-ne-zero k))
 
   module _ (z : p .refusal ≡ 0) where
     pub ready : Ready (take (p .rows) areas) (p .tables) bodies

@@ -2,7 +2,8 @@
 use mathlib.Core.Path.{_≡_, refl, sym, ap, ap₂, _∙_, subst}
 use mathlib.Core.Bool.{Bool, true, false, not, _&&_}
 use mathlib.Core.List.{List, [], _∷_, _++_}
-use Prim.Native.Nat.{ℕ, zero, suc, _*_, _%_, _≤_}
+use Prim.Native.Nat.{ℕ, suc, _*_, _%_, _≤_}
+use native.Mathlib.Nat.{suc-pred-eq-of-ne-zero}
 use native.Mathlib.Omega.{arith}
 use lib.Dec.{eqb}
 use lib.ListN.{length, take}
@@ -60,10 +61,6 @@ none-of-either f file e = go (by-parts f file)
     go (second y d) = (y, sym d ∙ sym e)
     go (first a b d) = absurd (let k : ⊥ = omega (arith, e ∙ d) in k)
 
-refusal-suc : (n : ℕ) → (n ≡ 0 → ⊥) → (m : ℕ) × (n ≡ suc m)
-refusal-suc zero h = absurd (h refl)
-refusal-suc (suc m) h = (m, refl)
-
 -- ---- the reader
 above-one : (f : File) (file : List ℕ) → allAbove 1 (wholeFileRules f file) ≡ true
 unfolding wholeFileRules fileRules rowRules allOf
@@ -87,7 +84,7 @@ refusal-is f file buffer n l e =
 
 pub read-refused : (f : File) (file buffer : List ℕ) (n : ℕ) → length buffer ≡ rows-length → n ≡ lowest (wholeFileRules f file) → (n ≡ 0 → ⊥)
     → readResult (read-answer.Refused n) buffer ≡ readCall f file buffer
-read-refused f file buffer n l e h = let s = refusal-suc n h in read-as f file buffer n (s .0) (refusal-is f file buffer n l e) (s .1)
+read-refused f file buffer n l e h = read-as f file buffer n _ (refusal-is f file buffer n l e) (sym (suc-pred-eq-of-ne-zero h))
 
 pub read-done : (f : File) (file buffer out : List ℕ) (model count : ℕ) → length buffer ≡ rows-length → 0 ≡ lowest (wholeFileRules f file)
     → out ≡ pad rows-length 0 (rowsOf file) → model ≡ modelOf file → count ≡ rowCount (rowsOf file) → readResult (read-answer.Rows model count) out ≡ readCall f file buffer
@@ -129,7 +126,7 @@ module _ (f : File) (model : ℕ) (rows buffer : List ℕ) (tens : length rows %
       (rw (eq-eqb (length rows % row-bytes) 0 tens, eq-eqb (length buffer) (fileLength f (rowCount rows)) room)) ∙ sym e
 
   pub write-refused : (n : ℕ) → n ≡ lowest (rowRules f rows) → (n ≡ 0 → ⊥) → writeResult (write-answer.Refused n) buffer ≡ writeCall f model rows buffer
-  write-refused n e h = let s = refusal-suc n h in write-as f model rows buffer n (s .0) (write-refusal-is n e) (s .1)
+  write-refused n e h = write-as f model rows buffer n _ (write-refusal-is n e) (sym (suc-pred-eq-of-ne-zero h))
 
   pub write-done : (out : List ℕ) → 0 ≡ lowest (rowRules f rows) → out ≡ fileOf f model rows → writeResult write-answer.Written out ≡ writeCall f model rows buffer
   unfolding writeResult writeCall writeUnless writeMeaning

@@ -2,7 +2,8 @@
 use mathlib.Core.Path.{_≡_, refl, sym, ap, ap₂, _∙_, subst}
 use mathlib.Core.Bool.{Bool, true, false}
 use mathlib.Core.List.{List, []}
-use Prim.Native.Nat.{ℕ, zero, suc}
+use Prim.Native.Nat.{ℕ, suc}
+use native.Mathlib.Nat.{suc-pred-eq-of-ne-zero}
 use native.Mathlib.Omega.{arith}
 use lib.IntN.{ℤ}
 use lib.ListN.{length, take}
@@ -35,10 +36,6 @@ use Rattle.walk.specs.Meaning.{context, HoldsBy, Holds, Readable, Runs}
 use Rattle.taken.specs.Taken.{RunTaken, RunIs}
 use Rattle.taken.specs.Ways.{Startable, checkedEnd, NumbersLimited, PassedRows, erasedVerdict, erasedRows}
 use Rattle.taken.proofs.Refusing.{short-present, short-layout, run-refuses, type-error-refuses, none-refuses}
-
-some-number : (n : ℕ) → (n ≡ 0 → ⊥) → (m : ℕ) × (n ≡ suc m)
-some-number zero k = absurd (k refl)
-some-number (suc m) k = (m, refl)
 
 -- ---- what is taken serves both runs
 module _ {i : Inputs} {b : Buffers} {areas others bodies : List ℕ} {p : Pair} (t : RunTaken p i b areas others bodies) where
@@ -75,7 +72,7 @@ module _ (i : Inputs) (b : Buffers) (present : List ℕ) (budget : ℕ) where
     shares = h .refusal ∙ sym (checked-shares i b present l)
 
     pub run-refused : (n ≡ 0 → ⊥) → checkedResult (run-answer.Refused n) (b .cells) (b .states) present ≡ checkedCall i budget b present
-    run-refused k = let s = some-number n k in checked-refused n (s .0) (sym shares) (s .1)
+    run-refused k = checked-refused n _ (sym shares) (sym (suc-pred-eq-of-ne-zero k))
 
     pub run-done : (z : n ≡ 0) (r : RunAnswer) (after : List ℤ) (words bytes : List ℕ)
         → checkedResult r after words bytes ≡ checkedEnd budget (run (profileOf (take (p .rows) areas) (take (p .limits) others)) (readingsOf (i .variables) (i .numbers)) budget)
@@ -131,8 +128,7 @@ module _ (i : Inputs) (b : Buffers) (layout : List ℕ) (budget : ℕ) where
   module _ {areas others bodies : List ℕ} {n : ℕ} {p : Pair} (l : length layout ≡ layout-length) (h : RunIs n p i b areas others bodies) where
     pub erased-run-refused : (n ≡ 0 → ⊥) → erasedResult (run-answer.Refused n) (b .cells) (b .states) layout ≡ erasedCall i budget b layout
     erased-run-refused k =
-        let s = some-number n k in
-        erased-refused n (s .0) (run-refuses i b layout l (λ z. k (h .refusal ∙ z)) ∙ sym (h .refusal)) (s .1)
+        erased-refused n _ (run-refuses i b layout l (λ z. k (h .refusal ∙ z)) ∙ sym (h .refusal)) (sym (suc-pred-eq-of-ne-zero k))
 
     module _ (z : n ≡ 0) where
       rows-are : erasedRows (take (p .rows) areas) (take (p .limits) others) (i .variables) (i .numbers) budget b layout ≡ erasedRows (rowsOf (i .profile)) (rowsOf (i .limits)) (i .variables) (i .numbers) budget b layout
