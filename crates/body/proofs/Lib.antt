@@ -18,3 +18,4 @@ pub mod Expanding
 pub mod Results
 pub mod Offsets
 pub mod Simple
+pub mod HalfEnds

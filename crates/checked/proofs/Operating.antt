@@ -18,29 +18,14 @@ use Rattle.body.specs.declared.typed.Typed.{Typed}
 use Rattle.cells.specs.Stack.{Leaves}
 use Rattle.cells.proofs.Operands.{lies-above}
 use Rattle.cells.specs.Operands.{Operand, HasOperand, Operands, HasOperands}
-use Rattle.body.specs.Half.{Half, Half-passes}
+use Rattle.body.specs.Half.{Half}
+use Rattle.body.proofs.HalfEnds.{half-error, half-passed}
 use Rattle.checked.specs.declared.answer.Evaluated.{Evaluated}
 use Rattle.checked.specs.Meaning.{Answers, Gives, Given, simpleEvaluated, SimpleAnswer}
 use Rattle.checked.proofs.Giving.{gives-answer, gives-error}
 
 pub given-held : {x : Evaluated} {s : List ℤ} → Given x s → x .error ≡ 0 → Held (x .body)
 given-held g e = let a = g .gives .answer e in record { body = a .value .body; holds = a .holds }
-
--- ---- the half on bodies
-half-error : (t : Typed) (r : Result Body) (second : Body → ℕ) → Half t r second → (t .error ≡ 0 → ⊥) → r ≡ fail (t .error)
-unfolding Half
-half-error t (ok b) second h f = absurd (f (h .passed))
-half-error t (fail n) second h f = ap {B = Result Body} fail (sym (h .error))
-
-record Passed (t : Typed) (r : Result Body) (second : Body → ℕ) : Type 0 where
-  body : Body
-  is : r ≡ ok body
-  passes : Half-passes t body (second body)
-
-half-passed : (t : Typed) (r : Result Body) (second : Body → ℕ) → Half t r second → t .error ≡ 0 → Passed t r second
-unfolding Half
-half-passed t (ok b) second h e = record { body = b; is = refl; passes = h }
-half-passed t (fail n) second h e = absurd (let k : ⊥ = omega (arith, h .some-error, h .error) in k)
 
 -- ---- one operand
 -- the operand, and the body that the operation gives
