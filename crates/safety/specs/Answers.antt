@@ -2,7 +2,6 @@
 use mathlib.Core.Path.{_≡_, refl, sym, ap, subst}
 use mathlib.Core.Bool.{Bool, true, false}
 use mathlib.Core.List.{List, [], _∷_}
-use mathlib.Core.Option.{some, none}
 use Prim.Native.Nat.{ℕ}
 use native.Mathlib.Omega.{arith}
 use Rattle.lingua.specs.Outcome.{Outcome, ok, fail, Result, _>>=_, _>>_, require, allAnswers}
@@ -47,9 +46,6 @@ all-answered {A = A} {P} (o ∷ os) xs q h =
 pub located-answer : {A : Type 0} (p : ℕ) (o : Result A) (a : A) → located p o ≡ ok a → o ≡ ok a
 located-answer p (ok b) a q = ap {B = Result _} ok (same-answer q)
 located-answer p (fail n) a q = never-ok q
-
-pub none-is-some {ℓ} : {A : Type 0} {B : Type ℓ} {a : A} → none ≡ some a → B
-none-is-some e = absurd (let z : _≡_ {A = ℕ} 0 1 = cc in let k : ⊥ = omega arith in k)
 
 -- ---- tests
 pub true-is-false {ℓ} : {A : Type ℓ} → true ≡ false → A

@@ -17,7 +17,8 @@ use Rattle.lingua.specs.Rows.{tableCount}
 use Rattle.lingua.specs.Trees.{profileOf}
 use Rattle.lingua.specs.Format.{rowsOf}
 use Rattle.lingua.specs.Refusal.{lowest, pairRules}
-use Rattle.safety.specs.Answers.{bound, demanded, none-is-some}
+use Rattle.laws.specs.Outcomes.{none-is-some}
+use Rattle.safety.specs.Answers.{bound, demanded}
 use Rattle.safety.specs.Every.{every-all}
 use Rattle.safety.specs.Stored.{assigned-each, changed-each}
 use Rattle.safety.specs.Everywhere.{everywhere-implies}

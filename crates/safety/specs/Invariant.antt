@@ -14,7 +14,8 @@ use Rattle.lingua.specs.Evaluation.{Variables, eval, evalYoke, booleanOf, no-cu
 use Rattle.lingua.specs.Store.{Limit, Variable, no-variable, variableAt, contents, within, Reading}
 use Rattle.lingua.specs.Run.{State, Declaration, Profile, unfilled, started, takeReadings, run, lastState}
 use Rattle.lingua.specs.Typing.{bodiesOf}
-use Rattle.safety.specs.Answers.{bound, none-is-some}
+use Rattle.laws.specs.Outcomes.{none-is-some}
+use Rattle.safety.specs.Answers.{bound}
 use Rattle.safety.specs.Every.{Every, every-none, every-more, every-all}
 use Rattle.safety.specs.Constants.{ConstantsFit, ClosedYoke}
 use Rattle.safety.specs.Fitting.{eval-fits}

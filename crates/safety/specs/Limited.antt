@@ -21,9 +21,9 @@ use Rattle.lingua.specs.Typing.{bodiesOf}
 use Rattle.lingua.specs.Format.{profile, rowsOf, everyBelow}
 use Rattle.lingua.specs.Rules.{isName, isNew, nameWrong}
 use Rattle.lingua.specs.Refusal.{Rule, rule, lowest, fileRules, rowRules, wholeFileRules, pairRules, isNumberVariable, namesNumber, limitFits, limitWrong}
-use Rattle.laws.specs.Outcomes.{and-left, and-right}
+use Rattle.laws.specs.Outcomes.{and-left, and-right, none-is-some}
 use Rattle.laws.specs.Equal.{same-text, text-same}
-use Rattle.safety.specs.Answers.{none-is-some, true-is-false}
+use Rattle.safety.specs.Answers.{true-is-false}
 use Rattle.safety.specs.Every.{below-true}
 use Rattle.safety.specs.Programs.{ReadsNumber}
 use Rattle.safety.specs.Passed.{reads-number}

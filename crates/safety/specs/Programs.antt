@@ -17,7 +17,8 @@ use Rattle.lingua.specs.Typing.{Entry, Bodies, no-current-body, bodiesOf}
 use Rattle.lingua.specs.Meets.{yokeMet, yokeChecksMet, assignMet, testMet, onFilled, readingMet, runMet}
 use Rattle.laws.specs.Coherent.{coherent-same}
 use Rattle.laws.specs.Classes.{overflow-runs, yoke-runs}
-use Rattle.safety.specs.Answers.{bound, demanded, after, same-answer, none-is-some}
+use Rattle.laws.specs.Outcomes.{none-is-some}
+use Rattle.safety.specs.Answers.{bound, demanded, after, same-answer}
 use Rattle.safety.specs.Every.{Every, every-none, every-append, every-implies}
 use Rattle.safety.specs.Constants.{Fitting, ConstantsFit, ClosedYoke}
 use Rattle.safety.specs.Stored.{StoreKept, replaced, assigned-each, changed-each}

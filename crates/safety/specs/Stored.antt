@@ -13,9 +13,9 @@ use Rattle.lingua.specs.Value.{whole, fit-whole, inRange, asWhole, Composite, c
 use Rattle.lingua.specs.Expression.{Yoke}
 use Rattle.lingua.specs.Evaluation.{Variables, truthOr, booleanOf, evalYoke}
 use Rattle.lingua.specs.Store.{Variable, variableAt, presentOf, presentBody, contents, withContent, withYoke, within, admitted, assigned, yokeHolds, yokeChanged, Reading, readingTaken}
-use Rattle.laws.specs.Outcomes.{and-left, and-right}
+use Rattle.laws.specs.Outcomes.{and-left, and-right, none-is-some}
 use Rattle.laws.specs.Coherent.{coherent-alone}
-use Rattle.safety.specs.Answers.{same-answer, never-ok, bound, demanded, after, none-is-some}
+use Rattle.safety.specs.Answers.{same-answer, never-ok, bound, demanded, after}
 use Rattle.safety.specs.Constants.{Fitting, ClosedYoke, yoke-any-store}
 use Rattle.safety.specs.Fitting.{FilledFit, yoke-fits, true-is}
 

@@ -17,7 +17,7 @@ use Rattle.lingua.specs.Trees.{yokeTree, declarationAt, profileOf}
 use Rattle.lingua.specs.References.{declaredYoke}
 use Rattle.lingua.specs.Refusal.{isNumberVariable}
 use Rattle.laws.specs.Formed.{formed-bounds}
-use Rattle.safety.specs.Answers.{none-is-some}
+use Rattle.laws.specs.Outcomes.{none-is-some}
 use Rattle.safety.specs.Accepted.{AcceptedRows, declared-root, profile-well-made}
 use Rattle.safety.specs.Formed.{declared-formed, bodies-formed}
 use Rattle.safety.specs.Invariant.{declaredStore, start-kept, start-empty}
