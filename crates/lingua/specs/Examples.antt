@@ -7,17 +7,17 @@ use Prim.Native.Nat.{ℕ}
 use native.Mathlib.Omega.{arith}
 use lib.ListN.{take, drop, set, replicate}
 use lib.IntN.{ℤ, pos}
-use Rattle.lingua.specs.Errors.{overflow, division-by-zero, yoke-not-satisfied, number-expected, attribute-present, no-coherence, yoke-expected, body-too-large, record-expected, no-such-attribute, last-attribute, bad-marker, bad-check, type-error-found}
-use Rattle.lingua.specs.Outcome.{Outcome, ok, fail, Result, _>>=_}
+use Rattle.lingua.specs.Errors.{overflow, division-by-zero, yoke-not-satisfied, number-expected, boolean-expected, list-expected, attribute-present, no-coherence, yoke-expected, body-too-large, record-expected, no-such-attribute, last-attribute, bad-marker, bad-check, type-error-found}
+use Rattle.lingua.specs.Outcome.{ok, fail, Result, _>>=_}
 use Rattle.lingua.specs.Body.{Body, boolean, number, word, list-of, record-of, Attributes, end, attribute, coherent}
 use Rattle.lingua.specs.WellFormed.{InBounds, WellFormed, formed-number, formed-record, formed-end, formed-attribute}
 use Rattle.lingua.specs.Value.{whole, text, items, item, no-items, fields, field, no-fields, cellsOf, pad, Composite, composite}
-use Rattle.lingua.specs.Operation.{negation, make-record, select, pop, remove, add, divide, less, expand, unaryBody, binaryBody}
-use Rattle.lingua.specs.Expression.{Expression, constant, variable, current, unary, binary, all-list, Yoke, always, yoke, Instruction, skip, assign, set-yoke, sequence, loop, handle}
-use Rattle.lingua.specs.Evaluation.{applyUnary, applyBinary, no-current}
+use Rattle.lingua.specs.Operation.{negation, make-record, select, pop, remove, add, divide, less, equal, expand, unaryBody, binaryBody}
+use Rattle.lingua.specs.Expression.{conjunction, Expression, constant, variable, current, unary, binary, lazy, choice, all-list, Yoke, always, yoke, Instruction, skip, assign, set-yoke, sequence, loop, handle}
+use Rattle.lingua.specs.Evaluation.{booleanOf, applyUnary, applyBinary, no-current}
 use Rattle.lingua.specs.Store.{Reading, cellsIn, statesIn, bodiesIn}
 use Rattle.lingua.specs.Run.{Declaration, Profile, run, lastState}
-use Rattle.lingua.specs.Typing.{TypeError, Typed, check, layoutOf}
+use Rattle.lingua.specs.Typing.{typeError, Typed, Finding, fault, Bodies, check, checkYoke, checkTest, checkProfile, layoutOf}
 use Rattle.lingua.specs.Meets.{met, runMet}
 use Rattle.lingua.specs.Format.{profile, limits, blockCheck, fileOf, rowsOf}
 use Rattle.lingua.specs.Answers.{refused, answered, Ending, ending, faulted}
@@ -184,14 +184,107 @@ unfolding computing
 fast-reading-met = refl
 
 -- ---- the type check
-abbrev pub layoutIn : Outcome TypeError Typed → List ℕ
+abbrev pub layoutIn : Finding Typed → List ℕ
 layoutIn (ok t) = layoutOf (t .entries)
 layoutIn (fail e) = []
 
 -- row 0 gives three cells; row 1 selects attribute 5, two cells behind the start
-pub selected-layout : take 4 (layoutIn (check (unary 1 (select 5) (constant 0 (composite (record-of (attribute 1 number (attribute 3 word (attribute 5 number end)))) (fields no-fields)))) (λ n. boolean) boolean)) ≡ 3 ∷ 0 ∷ 1 ∷ 2 ∷ []
+pub selected-layout : take 4 (layoutIn (check (unary 1 (select 5) (constant 0 (composite (record-of (attribute 1 number (attribute 3 word (attribute 5 number end)))) (fields no-fields)))) (λ n. boolean) (some boolean))) ≡ 3 ∷ 0 ∷ 1 ∷ 2 ∷ []
 unfolding computing
 selected-layout = refl
+
+-- ---- the lowest row named first
+-- a number and a truth in a row
+abbrev pub one-in : ℕ → Expression
+one-in r = constant r (composite number (whole (pos 1)))
+
+abbrev pub truth-in : ℕ → Expression
+truth-in r = constant r (booleanOf true)
+
+abbrev pub truths : Bodies
+truths n = boolean
+
+-- (not 1) = (true + 1): row 5 is evaluated before row 3
+abbrev pub two-faults : Expression
+two-faults = binary 6 equal (unary 5 negation (one-in 4)) (binary 3 add (truth-in 1) (one-in 2))
+
+-- row 6 is no fault, since its operands have no bodies
+pub all-faults : check two-faults truths (some boolean) ≡ fail (typeError boolean-expected 5 ∷ typeError number-expected 3 ∷ [])
+unfolding computing
+all-faults = refl
+
+-- the lowest row is named, not the first to be evaluated, nor the instruction
+pub lowest-row : checkTest two-faults truths 512 ≡ fail (typeError number-expected 3)
+unfolding computing
+lowest-row = refl
+
+pub own-fault : checkTest (one-in 0) truths 512 ≡ fail (typeError boolean-expected 512)
+unfolding computing
+own-fault = refl
+
+-- 1 and (not 1): the first operand is no Boolean, but the second has no body
+pub no-body-no-fault : check (lazy 3 conjunction (one-in 2) (unary 1 negation (one-in 0))) truths (some boolean) ≡ fail (fault boolean-expected 1)
+unfolding computing
+no-body-no-fault = refl
+
+-- if 1 then (not 1) else 1: the test is no Boolean, but a branch has no body
+pub branch-without-body : check (choice 4 (one-in 3) (unary 2 negation (one-in 1)) (one-in 0)) truths (some boolean) ≡ fail (fault boolean-expected 2)
+unfolding computing
+branch-without-body = refl
+
+-- if 1 then true else 1: one error, the lowest that applies
+pub test-before-branches : check (choice 3 (one-in 2) (truth-in 1) (one-in 0)) truths (some boolean) ≡ fail (fault boolean-expected 3)
+unfolding computing
+test-before-branches = refl
+
+-- all-list: value < 1, on a number: the yoke's rows hang on a current value that has no body
+pub no-list : check (all-list 3 (binary 2 less (current 1) (one-in 0))) truths (some number) ≡ fail (fault list-expected 3)
+unfolding computing
+no-list = refl
+
+-- not 1 in such a yoke does not, through nested all-lists too, and being lower it is named
+pub both-counted : check (all-list 2 (unary 1 negation (one-in 0))) truths (some number) ≡ fail (typeError boolean-expected 1 ∷ typeError list-expected 2 ∷ [])
+unfolding computing
+both-counted = refl
+
+pub nested-counted : check (all-list 3 (all-list 2 (unary 1 negation (one-in 0)))) truths (some number) ≡ fail (typeError boolean-expected 1 ∷ typeError list-expected 3 ∷ [])
+unfolding computing
+nested-counted = refl
+
+pub lower-in-no-list : checkYoke (yoke (all-list 2 (unary 1 negation (one-in 0)))) truths number 768 ≡ fail (typeError boolean-expected 1)
+unfolding computing
+lower-in-no-list = refl
+
+-- an all-list in such a yoke is no fault: neither for its own current value nor for an inner yoke that is no Boolean
+pub nested-no-list : check (all-list 2 (all-list 1 (current 0))) truths (some number) ≡ fail (fault list-expected 2)
+unfolding computing
+nested-no-list = refl
+
+pub nested-no-truth : check (all-list 2 (all-list 1 (one-in 0))) truths (some number) ≡ fail (fault list-expected 2)
+unfolding computing
+nested-no-truth = refl
+
+-- on a list, an all-list is no fault where its inner yoke has no body, and is one where that is no Boolean
+pub list-no-body : check (all-list 2 (unary 1 negation (current 0))) truths (some (list-of number)) ≡ fail (fault boolean-expected 1)
+unfolding computing
+list-no-body = refl
+
+pub list-no-truth : check (all-list 1 (current 0)) truths (some (list-of number)) ≡ fail (fault yoke-expected 1)
+unfolding computing
+list-no-truth = refl
+
+-- a loop on not 1, in a row
+abbrev pub loop-on-number : ℕ → ℕ → Instruction
+loop-on-number i r = loop i (unary r negation (one-in 0)) (skip 9)
+
+-- the earliest instruction, though a later one has a lower row at fault; and a declared yoke before them
+pub earliest-instruction : checkProfile (record { declarations = []; instructions = loop-on-number 0 5 ∷ loop-on-number 1 2 ∷ []; program = skip 9 }) ≡ fail (typeError boolean-expected 5)
+unfolding computing
+earliest-instruction = refl
+
+pub declarations-first : checkProfile (record { declarations = speed (yoke (unary 7 negation (current 6))) none ∷ []; instructions = loop-on-number 0 5 ∷ []; program = skip 9 }) ≡ fail (typeError boolean-expected 7)
+unfolding computing
+declarations-first = refl
 
 -- ---- seats that gain a part
 -- a seat has attribute 1, its width; a footplate is attribute 2, a headrest attribute 3
@@ -254,7 +347,7 @@ unfolding computing
 removed-cells = refl
 
 -- the offset is the removed attribute's in the operand: attribute 3 stands one cell behind the start; in the result nothing stands there
-pub removed-layout : take 4 (layoutIn (check (unary 1 (remove 3) (constant 0 (composite (record-of (attribute 1 number (attribute 3 word (attribute 5 number end)))) (fields no-fields)))) (λ n. boolean) boolean)) ≡ 3 ∷ 0 ∷ 2 ∷ 1 ∷ []
+pub removed-layout : take 4 (layoutIn (check (unary 1 (remove 3) (constant 0 (composite (record-of (attribute 1 number (attribute 3 word (attribute 5 number end)))) (fields no-fields)))) (λ n. boolean) (some boolean))) ≡ 3 ∷ 0 ∷ 2 ∷ 1 ∷ []
 unfolding computing
 removed-layout = refl
 

@@ -1,6 +1,6 @@
--- What a check or an evaluation gives: an answer, or the first thing that was wrong. Assumes nothing: these are definitions.
+-- What a check or an evaluation gives: an answer, or what was wrong. Assumes nothing: these are definitions.
 use mathlib.Core.Bool.{Bool, true, false}
-use mathlib.Core.List.{List, [], _∷_}
+use mathlib.Core.List.{List, [], _∷_, _++_}
 use mathlib.Core.Option.{Option, some, none}
 use Prim.Native.Nat.{ℕ}
 
@@ -38,6 +38,11 @@ abbrev pub orFail : {E A : Type 0} → Option A → E → Outcome E A
 orFail (some a) e = ok a
 orFail none e = fail e
 
+-- what an option holds, or b
+abbrev pub orElse : {A : Type 0} → Option A → A → A
+orElse (some a) b = a
+orElse none b = b
+
 abbrev pub isSome : {A : Type 0} → Option A → Bool
 isSome (some a) = true
 isSome none = false
@@ -45,6 +50,17 @@ isSome none = false
 abbrev pub isOk : {E A : Type 0} → Outcome E A → Bool
 isOk (ok a) = true
 isOk (fail e) = false
+
+abbrev pub answerOf : {E A : Type 0} → Outcome E A → Option A
+answerOf (ok a) = some a
+answerOf (fail e) = none
+
+-- both answers, or everything that was wrong in either
+abbrev pub both : {E A B : Type 0} → Outcome (List E) A → Outcome (List E) B → Outcome (List E) (A × B)
+both (ok a) (ok b) = ok (a, b)
+both (ok a) (fail fs) = fail fs
+both (fail es) (ok b) = fail es
+both (fail es) (fail fs) = fail (es ++ fs)
 
 -- all the answers, or what was wrong first
 unfoldable pub allAnswers : {E A : Type 0} → List (Outcome E A) → Outcome E (List A)

@@ -1,19 +1,21 @@
 -- The type check (document 01: inspection): the checks of a run on bodies alone, and the layout table (document 01: sheet).
 -- Assumes nothing: these are definitions.
+use mathlib.Core.Bool.{Bool}
 use mathlib.Core.List.{List, [], _∷_, _++_, map}
 use mathlib.Core.Option.{Option, some, none}
 use Prim.Native.Nat.{ℕ, suc, _+_, _*_}
+use lib.Dec.{ltb}
 use lib.ListN.{getD, set, replicate}
 use Rattle.lingua.specs.Numbers.{layout-length, instruction-place, declaration-place}
 use Rattle.lingua.specs.Errors.{boolean-expected, list-expected, no-coherence, yoke-expected}
-use Rattle.lingua.specs.Outcome.{Outcome, ok, fail, Result, require, orFail, allAnswers, _>>=_, _>>_}
+use Rattle.lingua.specs.Outcome.{Outcome, ok, fail, Result, require, if_then_else_, orFail, orElse, answerOf, both, allAnswers, _>>=_, _>>_}
 use Rattle.lingua.specs.Body.{Body, boolean, Attributes, size, sameBody, isBoolean, elementBody, attributesOf, attributeOffset}
 use Rattle.lingua.specs.Operation.{Unary, negation, make-record, select, make-list, top, pop, remove, Binary, add, subtract, multiply, divide, less, equal, glue, expand, change, push, unaryBody, binaryBody}
 use Rattle.lingua.specs.Expression.{Expression, constant, variable, current, unary, binary, lazy, choice, all-list, Yoke, always, yoke, Instruction, skip, assign, set-yoke, sequence, branch, loop, handle}
 use Rattle.lingua.specs.Evaluation.{no-current}
 use Rattle.lingua.specs.Run.{Declaration, Profile}
 
--- what the type check found first (document 01: fault)
+-- what the type check finds wrong at a place (document 01: fault)
 pub record TypeError : Type 0 where
   pub error : ℕ
   pub place : ℕ
@@ -33,14 +35,30 @@ pub record Typed : Type 0 where
   pub body : Body
   pub entries : List Entry
 
--- the same outcome with a place for its error
-abbrev pub located : {A : Type 0} → ℕ → Result A → Outcome TypeError A
-located p (ok a) = ok a
-located p (fail n) = fail (typeError n p)
+-- what is found of an expression: its body, or that it has none, with the faults of all its rows
+abbrev pub Finding : Type 0 → Type 0
+Finding A = Outcome (List TypeError) A
 
-abbrev pub typed : ℕ → Body → Body → ℕ → List Entry → Outcome TypeError Typed
+-- a row that breaks a rule itself
+abbrev pub fault : ℕ → ℕ → List TypeError
+fault n r = typeError n r ∷ []
+
+-- a row's own rule: its answer, or the row's fault
+abbrev pub ownRule : {A : Type 0} → ℕ → Result A → Finding A
+ownRule r (ok a) = ok a
+ownRule r (fail n) = fail (fault n r)
+
+abbrev pub no-current-body : Body
+no-current-body = no-current .body
+
+-- where the current value has no body, an entry has that of an expression outside yokes; such an entry reaches no layout table
+abbrev pub currentOr : Option Body → Body
+currentOr (some b) = b
+currentOr none = no-current-body
+
+abbrev pub typed : ℕ → Option Body → Body → ℕ → List Entry → Finding Typed
 typed r cur b second es =
-    ok (record { body = b; entries = es ++ (record { row = r; current = cur; result = b; second = second } ∷ []) })
+    ok (record { body = b; entries = es ++ (record { row = r; current = currentOr cur; result = b; second = second } ∷ []) })
 
 abbrev pub offsetAmong : ℕ → Option Attributes → ℕ
 offsetAmong n none = 0
@@ -78,63 +96,81 @@ binarySecond push b c d = 0
 abbrev pub Bodies : Type 0
 Bodies = ℕ → Body
 
--- both sides of and/or, and both branches; operands first, but for and, or and if each operand's own check behind it
-unfoldable pub check : Expression → Bodies → Body → Outcome TypeError Typed
+-- a current value's body, if it has one; where it has none no row is at fault for it
+unfoldable pub currentBody : Option Body → Finding Body
+currentBody (some b) = ok b
+currentBody none = fail []
+
+-- the body of a list's elements; a current value of another body is the row's fault
+unfoldable pub elementsAt : ℕ → Option Body → Finding Body
+elementsAt r cur = do
+  b ← currentBody cur
+  ownRule r (orFail (elementBody b) list-expected)
+
+-- a row is at fault if its operands have bodies and it breaks a rule itself; then it has no body, as where an operand has none. The
+-- operands of and, or and if, too, are all gone through before the row. An all-list asks for a list and for its inner yoke; where there is
+-- no list, the current value of the inner yoke has no body
+unfoldable pub check : Expression → Bodies → Option Body → Finding Typed
 check (constant r c) vars cur = typed r cur (c .body) 0 []
 check (variable r n) vars cur = typed r cur (vars n) 0 []
-check (current r) vars cur = typed r cur cur 0 []
+check (current r) vars cur = do
+  b ← currentBody cur
+  typed r cur b 0 []
 check (unary r o e) vars cur = do
   x ← check e vars cur
-  b ← located r (unaryBody o (x .body))
+  b ← ownRule r (unaryBody o (x .body))
   typed r cur b (unarySecond o (x .body)) (x .entries)
 check (binary r o e f) vars cur = do
-  x ← check e vars cur
-  y ← check f vars cur
-  b ← located r (binaryBody o (x .body) (y .body))
-  typed r cur b (binarySecond o (x .body) (y .body) b) (x .entries ++ y .entries)
+  xy ← both (check e vars cur) (check f vars cur)
+  b ← ownRule r (binaryBody o (xy .0 .body) (xy .1 .body))
+  typed r cur b (binarySecond o (xy .0 .body) (xy .1 .body) b) (xy .0 .entries ++ xy .1 .entries)
 check (lazy r k e f) vars cur = do
-  x ← check e vars cur
-  require (isBoolean (x .body)) (typeError boolean-expected r)
-  y ← check f vars cur
-  require (isBoolean (y .body)) (typeError boolean-expected r)
-  typed r cur boolean 0 (x .entries ++ y .entries)
+  xy ← both (check e vars cur) (check f vars cur)
+  require (isBoolean (xy .0 .body)) (fault boolean-expected r)
+  require (isBoolean (xy .1 .body)) (fault boolean-expected r)
+  typed r cur boolean 0 (xy .0 .entries ++ xy .1 .entries)
 check (choice r p e f) vars cur = do
-  x ← check p vars cur
-  require (isBoolean (x .body)) (typeError boolean-expected r)
-  y ← check e vars cur
-  z ← check f vars cur
-  require (sameBody (y .body) (z .body)) (typeError no-coherence r)
-  typed r cur (y .body) 0 (x .entries ++ (y .entries ++ z .entries))
+  xyz ← both (check p vars cur) (both (check e vars cur) (check f vars cur))
+  require (isBoolean (xyz .0 .body)) (fault boolean-expected r)
+  require (sameBody (xyz .1 .0 .body) (xyz .1 .1 .body)) (fault no-coherence r)
+  typed r cur (xyz .1 .0 .body) 0 (xyz .0 .entries ++ (xyz .1 .0 .entries ++ xyz .1 .1 .entries))
 check (all-list r e) vars cur = do
-  b ← located r (orFail (elementBody cur) list-expected)
-  x ← check e vars b
-  require (isBoolean (x .body)) (typeError yoke-expected r)
-  typed r cur boolean (size b) (x .entries)
+  xb ← both (check e vars (answerOf (elementsAt r cur))) (elementsAt r cur)
+  require (isBoolean (xb .0 .body)) (fault yoke-expected r)
+  typed r cur boolean (size (xb .1)) (xb .0 .entries)
+
+-- ---- which fault is named
+-- of two the one at the lower place
+abbrev pub lower : Option TypeError → Option TypeError → Option TypeError
+lower none f = f
+lower (some e) none = some e
+lower (some e) (some f) = if ltb (f .place) (e .place) then some f else some e
+
+unfoldable pub lowestFault : List TypeError → Option TypeError
+lowestFault [] = none
+lowestFault (e ∷ es) = lower (some e) (lowestFault es)
+
+-- of a declaration or an instruction: the fault of its expression's lowest row at fault; else, where the expression's body does not suit
+-- it, its own. It names its own also where there is neither a body nor a fault, which never is (`some-fault` in crate safety)
+unfoldable pub judged : Finding Typed → (Body → Bool) → TypeError → Outcome TypeError (List Entry)
+judged (ok x) suits own = do
+  require (suits (x .body)) own
+  ok (x .entries)
+judged (fail es) suits own = fail (orElse (lowestFault es) own)
 
 -- a yoke on a variable's declared body; p is the place where it is declared or set
 unfoldable pub checkYoke : Yoke → Bodies → Body → ℕ → Outcome TypeError (List Entry)
 checkYoke always vars b p = ok []
-checkYoke (yoke e) vars b p = do
-  x ← check e vars b
-  require (isBoolean (x .body)) (typeError yoke-expected p)
-  ok (x .entries)
-
-abbrev pub no-current-body : Body
-no-current-body = no-current .body
+checkYoke (yoke e) vars b p = judged (check e vars (some b)) isBoolean (typeError yoke-expected p)
 
 unfoldable pub checkTest : Expression → Bodies → ℕ → Outcome TypeError (List Entry)
-checkTest e vars p = do
-  x ← check e vars no-current-body
-  require (isBoolean (x .body)) (typeError boolean-expected p)
-  ok (x .entries)
+checkTest e vars p = judged (check e vars (some no-current-body)) isBoolean (typeError boolean-expected p)
 
 -- an instruction's own row; its parts are rows of their own
 unfoldable pub checkInstruction : Bodies → Instruction → Outcome TypeError (List Entry)
 checkInstruction vars (skip r) = ok []
-checkInstruction vars (assign r n e) = do
-  x ← check e vars no-current-body
-  require (sameBody (vars n) (x .body)) (typeError no-coherence (instruction-place + r))
-  ok (x .entries)
+checkInstruction vars (assign r n e) =
+    judged (check e vars (some no-current-body)) (sameBody (vars n)) (typeError no-coherence (instruction-place + r))
 checkInstruction vars (set-yoke r n y) = checkYoke y vars (vars n) (instruction-place + r)
 checkInstruction vars (sequence r i j) = ok []
 checkInstruction vars (branch r e i j) = checkTest e vars (instruction-place + r)
@@ -153,7 +189,7 @@ unfoldable pub joined : {A : Type 0} → List (List A) → List A
 joined [] = []
 joined (xs ∷ xss) = xs ++ joined xss
 
--- declared yokes first, then instructions by row; the first type error is the answer
+-- declared yokes first, then instructions by row; of the earliest that has a fault, the one that is named is the answer
 unfoldable pub checkProfile : Profile → Outcome TypeError (List Entry)
 checkProfile p = do
   ds ← allAnswers (checkDeclarations (bodiesOf (p .declarations)) 0 (p .declarations))
