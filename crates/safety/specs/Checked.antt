@@ -1,19 +1,20 @@
 -- What an answer of the type check shows, step by step: the bodies' half of each operation passed, and the entries are those of the
 -- operands, then the row's own. Assumes nothing.
 use mathlib.Core.Path.{_≡_, refl, sym, subst}
+use mathlib.Core.Bool.{Bool, true}
 use mathlib.Core.List.{List, [], _∷_, _++_}
 use mathlib.Core.Option.{some}
 use Prim.Native.Nat.{ℕ, _+_}
 use Rattle.lingua.specs.Numbers.{instruction-place}
 use Rattle.lingua.specs.Errors.{boolean-expected, list-expected, no-coherence, yoke-expected}
-use Rattle.lingua.specs.Outcome.{Outcome, ok, fail, _>>=_, _>>_, require, orFail}
+use Rattle.lingua.specs.Outcome.{ok, fail, orFail, answerOf, both}
 use Rattle.lingua.specs.Body.{Body, boolean, size, sameBody, isBoolean, elementBody}
 use Rattle.lingua.specs.Value.{Composite}
 use Rattle.lingua.specs.Operation.{Unary, Binary, unaryBody, binaryBody}
 use Rattle.lingua.specs.Expression.{Connective, Expression, constant, variable, current, unary, binary, lazy, choice, all-list, Yoke, always, yoke, Instruction, skip, assign, set-yoke, sequence, branch, loop, handle}
-use Rattle.lingua.specs.Typing.{TypeError, typeError, Entry, Typed, located, typed, unarySecond, binarySecond, Bodies, check, checkYoke, no-current-body, checkTest, checkInstruction}
+use Rattle.lingua.specs.Typing.{TypeError, typeError, Entry, Typed, Finding, fault, ownRule, unarySecond, binarySecond, Bodies, currentBody, elementsAt, check, judged, checkYoke, no-current-body, checkTest, checkInstruction}
 use Rattle.laws.specs.Outcomes.{orFail-ok, same-body, is-boolean}
-use Rattle.safety.specs.Answers.{same-answer, never-ok, bound, demanded, located-answer}
+use Rattle.safety.specs.Answers.{same-answer, never-ok, bound, both-bound, both-answer, demanded, own-answer}
 
 abbrev pub entry : ℕ → Body → Body → ℕ → Entry
 entry r cur b second = record { row = r; current = cur; result = b; second = second }
@@ -53,106 +54,85 @@ CheckedRow vars (branch r e i j) es = Checked vars e no-current-body boolean es
 CheckedRow vars (loop r e i) es = Checked vars e no-current-body boolean es
 CheckedRow vars (handle r n i) es = es ≡ []
 
+-- what a declaration or an instruction that passes shows of its expression
+judged-answer : (o : Finding Typed) (suits : Body → Bool) (own : TypeError) (es : List Entry) → judged o suits own ≡ ok es
+    → (t : Typed) × (o ≡ ok t) × (suits (t .body) ≡ true) × (t .entries ≡ es)
+unfolding judged
+judged-answer (ok t) suits own es q = let m = demanded (suits (t .body)) own _ es q in (t, refl, m .0, same-answer (m .1))
+judged-answer (fail fs) suits own es q = never-ok q
+
+-- the body of a list's elements was there
+elements-answer : (r : ℕ) (cur b : Body) → elementsAt r (some cur) ≡ ok b → elementBody cur ≡ some b
+unfolding elementsAt currentBody
+elements-answer r cur b q = orFail-ok (elementBody cur) list-expected b (own-answer r (orFail (elementBody cur) list-expected) b q)
+
 module _ (vars : Bodies) where
   body-as : {e : Expression} {cur b c : Body} {es : List Entry} → b ≡ c → Checked vars e cur b es → Checked vars e cur c es
   body-as {e} {cur} {es = es} q h = subst (λ (d : Body). Checked vars e cur d es) q h
 
-  entries-as : {e : Expression} {cur b : Body} {es xs : List Entry} → _≡_ {A = Outcome TypeError (List Entry)} (ok es) (ok xs) → Checked vars e cur b es → Checked vars e cur b xs
-  entries-as {e} {cur} {b} q h = subst (λ (l : List Entry). Checked vars e cur b l) (same-answer q) h
+  entries-as : {e : Expression} {cur b : Body} {es xs : List Entry} → es ≡ xs → Checked vars e cur b es → Checked vars e cur b xs
+  entries-as {e} {cur} {b} q h = subst (λ (l : List Entry). Checked vars e cur b l) q h
 
-  answered-as : {e : Expression} {cur : Body} {t u : Typed} → _≡_ {A = Outcome TypeError Typed} (ok t) (ok u) → Checked vars e cur (t .body) (t .entries) → Checked vars e cur (u .body) (u .entries)
+  answered-as : {e : Expression} {cur : Body} {t u : Typed} → _≡_ {A = Finding Typed} (ok t) (ok u) → Checked vars e cur (t .body) (t .entries) → Checked vars e cur (u .body) (u .entries)
   answered-as {e} {cur} q h = subst (λ (v : Typed). Checked vars e cur (v .body) (v .entries)) (same-answer q) h
 
-  -- what each operand's check showed
-  unfoldable Shown : Expression → Body → Outcome TypeError Typed → Type 0
-  Shown e cur o = (x : Typed) → o ≡ ok x → Checked vars e cur (x .body) (x .entries)
+  -- the inner yoke of an all-list, on the body of the list's elements
+  inner-as : (r : ℕ) (e : Expression) (cur c : Body) (x : Typed) → elementsAt r (some cur) ≡ ok c → check e vars (answerOf (elementsAt r (some cur))) ≡ ok x → check e vars (some c) ≡ ok x
+  inner-as r e cur c x q p = subst (λ (o : Finding Body). check e vars (answerOf o) ≡ ok x) q p
 
-  unary-shown : (r : ℕ) (o : Unary) (e : Expression) (cur : Body) (a : Outcome TypeError Typed) → Shown e cur a
-      → Shown (unary r o e) cur (a >>= λ x. located r (unaryBody o (x .body)) >>= λ b. typed r cur b (unarySecond o (x .body)) (x .entries))
-  unfolding Shown
-  unary-shown r o e cur (fail n) h t q = never-ok q
-  unary-shown r o e cur (ok x) h t q =
-      let b = bound (located r (unaryBody o (x .body))) _ t q in
-      answered-as (b .2) (checked-unary (h x refl) (located-answer r (unaryBody o (x .body)) (b .0) (b .1)))
-
-  binary-shown : (r : ℕ) (o : Binary) (e f : Expression) (cur : Body) (a b : Outcome TypeError Typed) → Shown e cur a → Shown f cur b
-      → Shown (binary r o e f) cur (a >>= λ x. b >>= λ y. located r (binaryBody o (x .body) (y .body)) >>= λ d. typed r cur d (binarySecond o (x .body) (y .body) d) (x .entries ++ y .entries))
-  unfolding Shown
-  binary-shown r o e f cur (fail n) b h k t q = never-ok q
-  binary-shown r o e f cur (ok x) (fail n) h k t q = never-ok q
-  binary-shown r o e f cur (ok x) (ok y) h k t q =
-      let c = bound (located r (binaryBody o (x .body) (y .body))) _ t q in
-      answered-as (c .2) (checked-binary (h x refl) (k y refl) (located-answer r (binaryBody o (x .body) (y .body)) (c .0) (c .1)))
-
-  lazy-shown : (r : ℕ) (c : Connective) (e f : Expression) (cur : Body) (a b : Outcome TypeError Typed) → Shown e cur a → Shown f cur b
-      → Shown (lazy r c e f) cur (a >>= λ x. require (isBoolean (x .body)) (typeError boolean-expected r) >> (b >>= λ y. require (isBoolean (y .body)) (typeError boolean-expected r) >> typed r cur boolean 0 (x .entries ++ y .entries)))
-  unfolding Shown
-  lazy-shown r c e f cur (fail n) b h k t q = never-ok q
-  lazy-shown r c e f cur (ok x) (fail n) h k t q = never-ok (demanded (isBoolean (x .body)) (typeError boolean-expected r) _ t q .1)
-  lazy-shown r c e f cur (ok x) (ok y) h k t q =
-      let m = demanded (isBoolean (x .body)) (typeError boolean-expected r) _ t q in
-      let n = demanded (isBoolean (y .body)) (typeError boolean-expected r) _ t (m .1) in
-      answered-as (n .1) (checked-lazy (body-as (is-boolean (x .body) (m .0)) (h x refl)) (body-as (is-boolean (y .body) (n .0)) (k y refl)))
-
-  choice-shown : (r : ℕ) (p e f : Expression) (cur : Body) (a b c : Outcome TypeError Typed) → Shown p cur a → Shown e cur b → Shown f cur c
-      → Shown (choice r p e f) cur (a >>= λ x. require (isBoolean (x .body)) (typeError boolean-expected r) >> (b >>= λ y. c >>= λ z. require (sameBody (y .body) (z .body)) (typeError no-coherence r) >> typed r cur (y .body) 0 (x .entries ++ (y .entries ++ z .entries))))
-  unfolding Shown
-  choice-shown r p e f cur (fail n) b c g h k t q = never-ok q
-  choice-shown r p e f cur (ok x) (fail n) c g h k t q = never-ok (demanded (isBoolean (x .body)) (typeError boolean-expected r) _ t q .1)
-  choice-shown r p e f cur (ok x) (ok y) (fail n) g h k t q = never-ok (demanded (isBoolean (x .body)) (typeError boolean-expected r) _ t q .1)
-  choice-shown r p e f cur (ok x) (ok y) (ok z) g h k t q =
-      let m = demanded (isBoolean (x .body)) (typeError boolean-expected r) _ t q in
-      let n = demanded (sameBody (y .body) (z .body)) (typeError no-coherence r) _ t (m .1) in
-      answered-as (n .1)
-      (checked-choice (body-as (is-boolean (x .body) (m .0)) (g x refl)) (h y refl) (body-as (sym (same-body (y .body) (z .body) (n .0))) (k z refl)))
-
-  pub check-checked : (e : Expression) (cur : Body) (t : Typed) → check e vars cur ≡ ok t → Checked vars e cur (t .body) (t .entries)
-  unfolding check Shown
+  pub check-checked : (e : Expression) (cur : Body) (t : Typed) → check e vars (some cur) ≡ ok t → Checked vars e cur (t .body) (t .entries)
+  unfolding check currentBody
   check-checked (constant r c) cur t q = answered-as q checked-constant
   check-checked (variable r n) cur t q = answered-as q checked-variable
   check-checked (current r) cur t q = answered-as q checked-current
-  check-checked (unary r o e) cur t q = unary-shown r o e cur (check e vars cur) (λ x p. check-checked e cur x p) t q
+  check-checked (unary r o e) cur t q =
+      let a = bound (check e vars (some cur)) _ t q in
+      let b = bound (ownRule r (unaryBody o (a .0 .body))) _ t (a .2) in
+      answered-as (b .2) (checked-unary (check-checked e cur (a .0) (a .1)) (own-answer r (unaryBody o (a .0 .body)) (b .0) (b .1)))
   check-checked (binary r o e f) cur t q =
-      binary-shown r o e f cur (check e vars cur) (check f vars cur) (λ x p. check-checked e cur x p) (λ y p. check-checked f cur y p) t q
+      let a = both-bound (check e vars (some cur)) (check f vars (some cur)) _ t q in
+      let b = bound (ownRule r (binaryBody o (a .0 .body) (a .1 .body))) _ t (a .4) in
+      answered-as (b .2)
+      (checked-binary (check-checked e cur (a .0) (a .2)) (check-checked f cur (a .1) (a .3)) (own-answer r (binaryBody o (a .0 .body) (a .1 .body)) (b .0) (b .1)))
   check-checked (lazy r k e f) cur t q =
-      lazy-shown r k e f cur (check e vars cur) (check f vars cur) (λ x p. check-checked e cur x p) (λ y p. check-checked f cur y p) t q
-  check-checked (choice r c e f) cur t q =
-      choice-shown r c e f cur (check c vars cur) (check e vars cur) (check f vars cur) (λ x p. check-checked c cur x p) (λ y p. check-checked e cur y p) (λ z p. check-checked f cur z p) t q
-  check-checked (all-list r e) cur t q =
-      let a = bound (located r (orFail (elementBody cur) list-expected)) _ t q in
-      let b = a .0 in
-      let c = bound (check e vars b) _ t (a .2) in
-      let x = c .0 in
-      let n = demanded (isBoolean (x .body)) (typeError yoke-expected r) _ t (c .2) in
+      let a = both-bound (check e vars (some cur)) (check f vars (some cur)) _ t q in
+      let m = demanded (isBoolean (a .0 .body)) (fault boolean-expected r) _ t (a .4) in
+      let n = demanded (isBoolean (a .1 .body)) (fault boolean-expected r) _ t (m .1) in
       answered-as (n .1)
-      (checked-all-list (orFail-ok (elementBody cur) list-expected b (located-answer r (orFail (elementBody cur) list-expected) b (a .1)))
-      (body-as (is-boolean (x .body) (n .0)) (check-checked e b x (c .1))))
+      (checked-lazy (body-as (is-boolean (a .0 .body) (m .0)) (check-checked e cur (a .0) (a .2))) (body-as (is-boolean (a .1 .body) (n .0)) (check-checked f cur (a .1) (a .3))))
+  check-checked (choice r p e f) cur t q =
+      let a = both-bound (check p vars (some cur)) (both (check e vars (some cur)) (check f vars (some cur))) _ t q in
+      let b = both-answer (check e vars (some cur)) (check f vars (some cur)) (a .1) (a .3) in
+      let m = demanded (isBoolean (a .0 .body)) (fault boolean-expected r) _ t (a .4) in
+      let n = demanded (sameBody (a .1 .0 .body) (a .1 .1 .body)) (fault no-coherence r) _ t (m .1) in
+      answered-as (n .1)
+      (checked-choice (body-as (is-boolean (a .0 .body) (m .0)) (check-checked p cur (a .0) (a .2))) (check-checked e cur (a .1 .0) (b .0))
+      (body-as (sym (same-body (a .1 .0 .body) (a .1 .1 .body) (n .0))) (check-checked f cur (a .1 .1) (b .1))))
+  check-checked (all-list r e) cur t q =
+      let a = both-bound (check e vars (answerOf (elementsAt r (some cur)))) (elementsAt r (some cur)) _ t q in
+      let n = demanded (isBoolean (a .0 .body)) (fault yoke-expected r) _ t (a .4) in
+      answered-as (n .1)
+      (checked-all-list (elements-answer r cur (a .1) (a .3)) (body-as (is-boolean (a .0 .body) (n .0)) (check-checked e (a .1) (a .0) (inner-as r e cur (a .1) (a .0) (a .3) (a .2)))))
 
   pub yoke-checked : (y : Yoke) (b : Body) (p : ℕ) (es : List Entry) → checkYoke y vars b p ≡ ok es → CheckedYoke vars y b es
   unfolding checkYoke CheckedYoke
   yoke-checked always b p es q = sym (same-answer q)
   yoke-checked (yoke e) b p es q =
-      let a = bound (check e vars b) _ es q in
-      let t = a .0 in
-      let m = demanded (isBoolean (t .body)) (typeError yoke-expected p) _ es (a .2) in
-      entries-as (m .1) (body-as (is-boolean (t .body) (m .0)) (check-checked e b t (a .1)))
+      let a = judged-answer (check e vars (some b)) isBoolean (typeError yoke-expected p) es q in
+      entries-as (a .3) (body-as (is-boolean (a .0 .body) (a .2)) (check-checked e b (a .0) (a .1)))
 
   test-checked : (e : Expression) (p : ℕ) (es : List Entry) → checkTest e vars p ≡ ok es → Checked vars e no-current-body boolean es
   unfolding checkTest
   test-checked e p es q =
-      let a = bound (check e vars no-current-body) _ es q in
-      let t = a .0 in
-      let m = demanded (isBoolean (t .body)) (typeError boolean-expected p) _ es (a .2) in
-      entries-as (m .1) (body-as (is-boolean (t .body) (m .0)) (check-checked e no-current-body t (a .1)))
+      let a = judged-answer (check e vars (some no-current-body)) isBoolean (typeError boolean-expected p) es q in
+      entries-as (a .3) (body-as (is-boolean (a .0 .body) (a .2)) (check-checked e no-current-body (a .0) (a .1)))
 
   pub row-checked : (i : Instruction) (es : List Entry) → checkInstruction vars i ≡ ok es → CheckedRow vars i es
   unfolding checkInstruction CheckedRow
   row-checked (skip r) es q = sym (same-answer q)
   row-checked (assign r n e) es q =
-      let a = bound (check e vars no-current-body) _ es q in
-      let t = a .0 in
-      let m = demanded (sameBody (vars n) (t .body)) (typeError no-coherence (instruction-place + r)) _ es (a .2) in
-      entries-as (m .1) (body-as (sym (same-body (vars n) (t .body) (m .0))) (check-checked e no-current-body t (a .1)))
+      let a = judged-answer (check e vars (some no-current-body)) (sameBody (vars n)) (typeError no-coherence (instruction-place + r)) es q in
+      entries-as (a .3) (body-as (sym (same-body (vars n) (a .0 .body) (a .2))) (check-checked e no-current-body (a .0) (a .1)))
   row-checked (set-yoke r n y) es q = yoke-checked y (vars n) (instruction-place + r) es q
   row-checked (sequence r i j) es q = sym (same-answer q)
   row-checked (branch r e i j) es q = test-checked e (instruction-place + r) es q

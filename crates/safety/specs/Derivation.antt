@@ -80,7 +80,7 @@ module _ {H : Entry → Type 0} where
   checked-derives (checked-all-list {xs = xs} q c) h = of-all-list q (checked-derives c (every-left xs _ h)) refl (own-entry xs h)
 
 module _ {H : Entry → Type 0} (vars : Bodies) where
-  pub check-derives : (e : Expression) (cur : Body) (t : Typed) → check e vars cur ≡ ok t → Every H (t .entries) → Derived H vars e cur (t .body)
+  pub check-derives : (e : Expression) (cur : Body) (t : Typed) → check e vars (some cur) ≡ ok t → Every H (t .entries) → Derived H vars e cur (t .body)
   check-derives e cur t q h = checked-derives (check-checked vars e cur t q) h
 
   yoke-derived : (y : Yoke) (b : Body) (es : List Entry) → CheckedYoke vars y b es → Every H es → DerivedYoke H vars y b
@@ -105,7 +105,7 @@ module _ {H : Entry → Type 0} (vars : Bodies) where
   row-derives i es q h = row-derived i es (row-checked vars i es q) h
 
 -- each row of the tree has an entry, with its current body, its result's and its second number
-pub check-entries : (vars : Bodies) (e : Expression) (cur : Body) (t : Typed) → check e vars cur ≡ ok t → Derived (λ x. List·Memᴰ x (t .entries)) vars e cur (t .body)
+pub check-entries : (vars : Bodies) (e : Expression) (cur : Body) (t : Typed) → check e vars (some cur) ≡ ok t → Derived (λ x. List·Memᴰ x (t .entries)) vars e cur (t .body)
 check-entries vars e cur t q = checked-derives (check-checked vars e cur t q) (every-member (t .entries))
 
 -- ---- another property

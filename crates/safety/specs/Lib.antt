@@ -10,6 +10,9 @@ pub mod Sections
 pub mod Forest
 pub mod Accepted
 pub mod RunRules
+pub mod Faults
+pub mod Former
+pub mod SamePasses
 pub mod Checked
 pub mod Derivation
 pub mod Sizes
@@ -20,6 +23,7 @@ pub mod Programs
 pub mod Passed
 pub mod Layout
 pub mod EntryRows
+pub mod FaultRows
 pub mod Once
 pub mod EveryRow
 pub mod Steps

@@ -141,7 +141,7 @@ module _ (vars : Bodies) (st : Variables) (fit : VariablesFit vars st) where
       (sym (elements-are cur c is))
       (record { good = all-good (map (λ w. eval e st w) elements) goods; meets = every-append (every-joined (every-map (λ w. met e st w) (λ w s. s .meets) each)) (not-boolean-met goods) }))
 
-  pub check-sound : (e : Expression) → ConstantsFit e → (cur : Composite) → Fitting cur → (t : Typed) → check e vars (cur .body) ≡ ok t
+  pub check-sound : (e : Expression) → ConstantsFit e → (cur : Composite) → Fitting cur → (t : Typed) → check e vars (some (cur .body)) ≡ ok t
       → Safe (t .body) (eval e st cur) (met e st cur)
   check-sound e h cur k t q =
       derived-sound e h cur k (check-derives vars e (cur .body) t q (anything (t .entries)))
