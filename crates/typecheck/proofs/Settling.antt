@@ -1,25 +1,28 @@
 -- What yokes, tests, assignments and whole lists of them give, for each way in which their functions end. Assumes nothing.
 use mathlib.Core.Path.{_≡_, refl, sym, ap, _∙_}
-use mathlib.Core.Bool.{true, false}
+use mathlib.Core.Bool.{Bool, true, false}
 use mathlib.Core.List.{List, [], _∷_, _++_, append-assoc, append-nil}
+use mathlib.Core.Option.{some}
 use Prim.Native.Nat.{ℕ, zero, suc, _+_, _-_, _≤_, _<_}
 use native.Mathlib.Numerals.{add-one}
 use native.Mathlib.Omega.{arith}
-use Rattle.lingua.specs.Numbers.{instruction-place, body-bytes}
-use Rattle.lingua.specs.Errors.{boolean-expected, no-coherence, yoke-expected}
-use Rattle.lingua.specs.Outcome.{Outcome, ok, fail, allAnswers, _>>=_, _>>_}
-use Rattle.lingua.specs.Body.{Body, boolean, size, nodes, isBoolean, sameBody}
+use Rattle.lingua.specs.Numbers.{body-bytes}
+use Rattle.lingua.specs.Outcome.{Outcome, ok, fail, allAnswers, _>>=_}
+use Rattle.lingua.specs.Body.{Body, boolean, size, nodes}
 use Rattle.lingua.specs.Value.{pad}
 use Rattle.lingua.specs.Encode.{bytes, encoded}
-use Rattle.lingua.specs.Expression.{Expression, yoke, assign}
+use Rattle.lingua.specs.Expression.{Expression, yoke}
 use Rattle.lingua.specs.Trees.{tabulateFrom, tabulate, expressionTree, yokeTree}
-use Rattle.lingua.specs.Typing.{TypeError, typeError, Entry, Typed, Bodies, check, checkYoke, checkTest, checkInstruction, joined, placed}
+use Rattle.lingua.specs.Typing.{TypeError, typeError, Entry, Typed, Finding, Bodies, check, judged, checkYoke, joined, placed}
+use Rattle.laws.specs.Outcomes.{none-is-some}
+use Rattle.safety.specs.Faults.{some-fault}
 use Rattle.body.specs.Encode.{Holds}
-use Rattle.typecheck.specs.declared.leaves.Checked.{Checked}
+use Rattle.typecheck.specs.declared.findings.Checked.{Checked}
 use Rattle.typecheck.specs.declared.verdicts.Verdict.{Verdict}
-use Rattle.typecheck.specs.Check.{Gives}
-use Rattle.typecheck.specs.Verdicts.{Settles-failed, Settles, inOrder}
-use Rattle.typecheck.proofs.Returns.{Passed, passed, placed-append}
+use Rattle.typecheck.specs.Check.{faultAt, Gives}
+use Rattle.typecheck.specs.Verdicts.{Judges, Settles-failed, Settles, inOrder}
+use Rattle.typecheck.proofs.Found.{Passed, fault-named}
+use Rattle.typecheck.proofs.Returns.{placed-append}
 
 -- the body that stands for no current value
 pub none-holds : (x : List ℕ) → x ≡ pad body-bytes 0 (1 ∷ []) → Holds x boolean
@@ -39,29 +42,38 @@ error-settles : (v : Verdict) (l m : List ℕ) (n p : ℕ) → (v .error ≡ n) 
 unfolding Settles
 error-settles v l m n p h k = record { some-error = k; error = h .0; place = h .1 }
 
--- an expression's type error is that of what it stands in
-handed-on : (c : Checked) (v : Verdict) (l m l' m' : List ℕ) (o : Outcome TypeError Typed) (k : Typed → Outcome TypeError (List Entry))
-    → Gives c l m o → (c .error ≡ 0 → ⊥) → (v .error ≡ c .error) × (v .place ≡ c .place) → Settles v l' m' (o >>= k)
-unfolding Gives Settles
-handed-on c v l m l' m' (ok t) k g n h = absurd (n (g .passed))
-handed-on c v l m l' m' (fail e) k g n h =
-    record { some-error = g .some-error; error = h .0 ∙ g .error; place = h .1 ∙ g .place }
+-- ---- what a declaration's or an instruction's expression gives
+pub judges-by : (c : Checked) (suits : Bool) (e : Expression) (vars : Bodies) (b : Body) (asks : Body → Bool) (l m : List ℕ) → Gives c l m (check e vars (some b)) → ((d : Body) → Holds (c .body) d → suits ≡ asks d)
+    → Judges c suits (check e vars (some b)) asks l m
+judges-by c suits e vars b asks l m g h = record { gives = g; faulty = λ es q. some-fault vars e b es q; told = h }
+
+-- the lowest row at fault is named
+pub judged-fails : (c : Checked) (suits : Bool) (own : TypeError) (v : Verdict) (o : Finding Typed) (asks : Body → Bool) (l m : List ℕ) → Judges c suits o asks l m
+    → (c .error ≡ 0 → ⊥) → (v .error ≡ c .error) × (v .place ≡ c .place) → Settles v l m (judged o asks own)
+unfolding judged Settles
+judged-fails c suits own v (ok t) asks l m j n h =
+    absurd (none-is-some (sym (j .gives .finds .fault) ∙ fault-named (c .error) (c .place) (omega (arith, n))))
+judged-fails c suits own v (fail es) asks l m j n h =
+    rw (sym (j .gives .finds .fault) ∙ fault-named (c .error) (c .place) (omega (arith, n))) (record { some-error = omega (arith, n); error = h .0; place = h .1 })
+
+module _ (c : Checked) (suits : Bool) (own : TypeError) (v : Verdict) (z : c .error ≡ 0) where
+  no-fault : (o : Finding Typed) (asks : Body → Bool) (l m : List ℕ) → Judges c suits o asks l m → Passed c l m o
+  no-fault (ok t) asks l m j = record { typed = t; is = refl; passes = j .gives .passes t refl }
+  no-fault (fail es) asks l m j = absurd (j .faulty es refl (sym (j .gives .finds .fault) ∙ ap (λ (n : ℕ). faultAt n (c .place)) z))
+
+  pub judged-own : (o : Finding Typed) (asks : Body → Bool) (l m : List ℕ) → Judges c suits o asks l m → suits ≡ false → 1 ≤ own .error → (v .error ≡ own .error) × (v .place ≡ own .place) → Settles v l m (judged o asks own)
+  unfolding judged
+  judged-own o asks l m j s k h =
+      let q = no-fault o asks l m j in
+      rw (q .is, sym (j .told (q .typed .body) (q .passes .holds)) ∙ s) (error-settles v l m (own .error) (own .place) h k)
+
+  pub judged-passes : (o : Finding Typed) (asks : Body → Bool) (l m : List ℕ) → Judges c suits o asks l m → suits ≡ true → (v .error ≡ 0) × (v .place ≡ 0) → Settles v l m (judged o asks own)
+  unfolding judged
+  judged-passes o asks l m j s h =
+      let q = no-fault o asks l m j in
+      rw (q .is, sym (j .told (q .typed .body) (q .passes .holds)) ∙ s) (entries-settle v l m (q .typed .entries) (h .0) (q .passes .layout))
 
 -- ---- yokes
-module _ (e : Expression) (vars : Bodies) (b : Body) (p : ℕ) where
-  pub yoke-fails : (c : Checked) (v : Verdict) (l m l' m' : List ℕ) → Gives c l m (check e vars b) → (c .error ≡ 0 → ⊥) → (v .error ≡ c .error) × (v .place ≡ c .place) → Settles v l' m' (checkYoke (yoke e) vars b p)
-  unfolding checkYoke
-  yoke-fails c v l m l' m' g n h = handed-on c v l m l' m' (check e vars b) _ g n h
-
-  module _ (c : Checked) (l m : List ℕ) (q : Passed c l m (check e vars b)) where
-    pub yoke-own : (v : Verdict) (l' m' : List ℕ) → isBoolean (q .typed .body) ≡ false → (v .error ≡ yoke-expected) × (v .place ≡ p) → Settles v l' m' (checkYoke (yoke e) vars b p)
-    unfolding checkYoke
-    yoke-own v l' m' t h = rw (q .is, t) (error-settles v l' m' yoke-expected p h (omega arith))
-
-    pub yoke-passes : (v : Verdict) → isBoolean (q .typed .body) ≡ true → (v .error ≡ 0) × (v .place ≡ 0) → Settles v l m (checkYoke (yoke e) vars b p)
-    unfolding checkYoke
-    yoke-passes v t h = rw (q .is, t) (entries-settle v l m (q .typed .entries) (h .0) (q .passes .layout))
-
 pub no-yoke : (rows : List ℕ) (y : ℕ) (vars : Bodies) (b : Body) (p : ℕ) (v : Verdict) (l : List ℕ) → y ≡ 0 → (v .error ≡ 0) × (v .place ≡ 0) → Settles v l l (checkYoke (yokeTree rows y) vars b p)
 unfolding checkYoke yokeTree
 no-yoke rows y vars b p v l e h = rw e (nothing-settles v l h)
@@ -70,36 +82,6 @@ pub yoke-row : (rows : List ℕ) (y : ℕ) → (y ≡ 0 → ⊥) → yokeTree ro
 unfolding yokeTree
 yoke-row rows zero n = absurd (n refl)
 yoke-row rows (suc r) n = ap (λ (k : ℕ). yoke (expressionTree rows k)) (let e : r ≡ suc r - 1 = omega arith in e)
-
--- ---- tests
-module _ (e : Expression) (vars : Bodies) (p : ℕ) where
-  pub test-fails : (c : Checked) (v : Verdict) (l m l' m' : List ℕ) → Gives c l m (check e vars boolean) → (c .error ≡ 0 → ⊥) → (v .error ≡ c .error) × (v .place ≡ c .place) → Settles v l' m' (checkTest e vars p)
-  unfolding checkTest
-  test-fails c v l m l' m' g n h = handed-on c v l m l' m' (check e vars boolean) _ g n h
-
-  module _ (c : Checked) (l m : List ℕ) (q : Passed c l m (check e vars boolean)) where
-    pub test-own : (v : Verdict) (l' m' : List ℕ) → isBoolean (q .typed .body) ≡ false → (v .error ≡ boolean-expected) × (v .place ≡ p) → Settles v l' m' (checkTest e vars p)
-    unfolding checkTest
-    test-own v l' m' t h = rw (q .is, t) (error-settles v l' m' boolean-expected p h (omega arith))
-
-    pub test-passes : (v : Verdict) → isBoolean (q .typed .body) ≡ true → (v .error ≡ 0) × (v .place ≡ 0) → Settles v l m (checkTest e vars p)
-    unfolding checkTest
-    test-passes v t h = rw (q .is, t) (entries-settle v l m (q .typed .entries) (h .0) (q .passes .layout))
-
--- ---- assignments
-module _ (r n : ℕ) (e : Expression) (vars : Bodies) where
-  pub assign-fails : (c : Checked) (v : Verdict) (l m l' m' : List ℕ) → Gives c l m (check e vars boolean) → (c .error ≡ 0 → ⊥) → (v .error ≡ c .error) × (v .place ≡ c .place) → Settles v l' m' (checkInstruction vars (assign r n e))
-  unfolding checkInstruction
-  assign-fails c v l m l' m' g z h = handed-on c v l m l' m' (check e vars boolean) _ g z h
-
-  module _ (c : Checked) (l m : List ℕ) (q : Passed c l m (check e vars boolean)) where
-    pub assign-own : (v : Verdict) (l' m' : List ℕ) → sameBody (vars n) (q .typed .body) ≡ false → (v .error ≡ no-coherence) × (v .place ≡ instruction-place + r) → Settles v l' m' (checkInstruction vars (assign r n e))
-    unfolding checkInstruction
-    assign-own v l' m' t h = rw (q .is, t) (error-settles v l' m' no-coherence (instruction-place + r) h (omega arith))
-
-    pub assign-passes : (v : Verdict) → sameBody (vars n) (q .typed .body) ≡ true → (v .error ≡ 0) × (v .place ≡ 0) → Settles v l m (checkInstruction vars (assign r n e))
-    unfolding checkInstruction
-    assign-passes v t h = rw (q .is, t) (entries-settle v l m (q .typed .entries) (h .0) (q .passes .layout))
 
 -- ---- one after the other
 pub record Settled (v : Verdict) (l m : List ℕ) (o : Outcome TypeError (List Entry)) : Type 0 where

@@ -47,16 +47,16 @@ module _ (rows limits : List ℕ) where
 abbrev bothLists : Outcome TypeError (List (List Entry)) → Outcome TypeError (List (List Entry)) → Outcome TypeError (List Entry)
 bothLists x y = x >>= (λ ds. y >>= (λ rs. ok (joined ds ++ joined rs)))
 
-abbrev both : Outcome TypeError (List Entry) → Outcome TypeError (List Entry) → Outcome TypeError (List Entry)
-both x y = x >>= (λ ds. y >>= (λ rs. ok (ds ++ rs)))
+abbrev inTurn : Outcome TypeError (List Entry) → Outcome TypeError (List Entry) → Outcome TypeError (List Entry)
+inTurn x y = x >>= (λ ds. y >>= (λ rs. ok (ds ++ rs)))
 
-both-same : (x y : Outcome TypeError (List (List Entry))) → bothLists x y ≡ both (x >>= (λ ess. ok (joined ess))) (y >>= (λ ess. ok (joined ess)))
+both-same : (x y : Outcome TypeError (List (List Entry))) → bothLists x y ≡ inTurn (x >>= (λ ess. ok (joined ess))) (y >>= (λ ess. ok (joined ess)))
 both-same (ok ds) (ok rs) = refl
 both-same (ok ds) (fail e) = refl
 both-same (fail e) y = refl
 
 pub by-rows : (rows limits : List ℕ)
-    → checkProfile (profileOf rows limits) ≡ both (inOrder (pairCount rows declaration-section) (declarationCheck rows)) (inOrder (tableCount rows instruction-section) (instructionCheck rows))
+    → checkProfile (profileOf rows limits) ≡ inTurn (inOrder (pairCount rows declaration-section) (declarationCheck rows)) (inOrder (tableCount rows instruction-section) (instructionCheck rows))
 unfolding checkProfile inOrder
 by-rows rows limits =
     ap (λ (vars : Bodies). bothLists (allAnswers (checkDeclarations vars 0 (profileOf rows limits .declarations))) (allAnswers (map (λ x. checkInstruction vars x) (profileOf rows limits .instructions)))) (bodies-are rows limits)
@@ -64,23 +64,23 @@ by-rows rows limits =
     ∙ both-same (allAnswers (tabulate (pairCount rows declaration-section) (declarationCheck rows))) (allAnswers (tabulate (tableCount rows instruction-section) (instructionCheck rows)))
 
 -- ---- how it ends
-pub first-fails : (x y : Outcome TypeError (List Entry)) (v : Verdict) (l m z : List ℕ) → Settles v l m x → (v .error ≡ 0 → ⊥) → z ≡ replicate layout-length 0 → Concludes v z (both x y)
+pub first-fails : (x y : Outcome TypeError (List Entry)) (v : Verdict) (l m z : List ℕ) → Settles v l m x → (v .error ≡ 0 → ⊥) → z ≡ replicate layout-length 0 → Concludes v z (inTurn x y)
 unfolding Settles Concludes
 first-fails (ok es) y v l m z s n e = absurd (n (s .passed))
 first-fails (fail t) y v l m z s n e =
     record { some-error = s .some-error; error = s .error; place = s .place; layout = e }
 
-second-by : (ds : List Entry) (y : Outcome TypeError (List Entry)) (v : Verdict) (l m z : List ℕ) → Settles v l m y → (v .error ≡ 0 → ⊥) → z ≡ replicate layout-length 0 → Concludes v z (both (ok ds) y)
+second-by : (ds : List Entry) (y : Outcome TypeError (List Entry)) (v : Verdict) (l m z : List ℕ) → Settles v l m y → (v .error ≡ 0 → ⊥) → z ≡ replicate layout-length 0 → Concludes v z (inTurn (ok ds) y)
 unfolding Settles Concludes
 second-by ds (ok es) v l m z s n e = absurd (n (s .passed))
 second-by ds (fail t) v l m z s n e =
     record { some-error = s .some-error; error = s .error; place = s .place; layout = e }
 
 module _ (x y : Outcome TypeError (List Entry)) (u : Verdict) (l0 l1 : List ℕ) (q : Settled u l0 l1 x) (v : Verdict) (l2 : List ℕ) (s : Settles v l1 l2 y) where
-  pub second-fails : (z : List ℕ) → (v .error ≡ 0 → ⊥) → z ≡ replicate layout-length 0 → Concludes v z (both x y)
+  pub second-fails : (z : List ℕ) → (v .error ≡ 0 → ⊥) → z ≡ replicate layout-length 0 → Concludes v z (inTurn x y)
   second-fails z n e = rw (q .is) (second-by (q .entries) y v l1 l2 z s n e)
 
-  pub both-pass : l0 ≡ replicate layout-length 0 → v .error ≡ 0 → Concludes v l2 (both x y)
+  pub both-pass : l0 ≡ replicate layout-length 0 → v .error ≡ 0 → Concludes v l2 (inTurn x y)
   unfolding Concludes layoutOf
   both-pass e n =
       let w = settled v l1 l2 y s n in

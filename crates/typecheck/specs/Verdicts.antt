@@ -1,15 +1,27 @@
 -- What the check of declarations and instructions gives. Assumes nothing: these are definitions.
 use mathlib.Core.Path.{_≡_}
+use mathlib.Core.Bool.{Bool}
 use mathlib.Core.List.{List}
+use mathlib.Core.Option.{none}
 use Prim.Native.Nat.{ℕ, _+_, _≤_}
 use lib.ListN.{replicate}
 use Rattle.lingua.specs.Numbers.{layout-length, declaration-place}
 use Rattle.lingua.specs.Outcome.{Outcome, ok, fail, allAnswers, _>>=_}
-use Rattle.lingua.specs.Typing.{TypeError, Entry, checkYoke, checkInstruction, joined, placed, layoutOf}
+use Rattle.lingua.specs.Body.{Body}
+use Rattle.lingua.specs.Typing.{TypeError, Entry, Typed, Finding, lowestFault, checkYoke, checkInstruction, joined, placed, layoutOf}
 use Rattle.lingua.specs.Trees.{tabulate, yokeTree, instructionTree, bodyOr, declaredBody}
 use Rattle.lingua.specs.References.{declaredYoke}
 use Rattle.typecheck.specs.declared.verdicts.Verdict.{Verdict}
-use Rattle.typecheck.specs.Check.{variableBodies}
+use Rattle.body.specs.Encode.{Holds}
+use Rattle.typecheck.specs.declared.findings.Checked.{Checked}
+use Rattle.typecheck.specs.Check.{Gives, variableBodies}
+
+-- what was found of a declaration's or an instruction's expression: without a body it has a fault, with one it is told whether that
+-- is what is asked
+pub record Judges (c : Checked) (suits : Bool) (o : Finding Typed) (asks : Body → Bool) (entry exit : List ℕ) : Type 0 where
+  pub gives : Gives c entry exit o
+  pub faulty : (es : List TypeError) → o ≡ fail es → lowestFault es ≡ none → ⊥
+  pub told : (b : Body) → Holds (c .body) b → suits ≡ asks b
 
 -- no type error, and the entries are in the layout table
 pub record Settles-passed (v : Verdict) (entry exit : List ℕ) (es : List Entry) : Type 0 where
@@ -27,7 +39,7 @@ Settles v entry exit (ok es) = Settles-passed v entry exit es
 Settles v entry exit (fail e) = Settles-failed v e
 
 -- ---- one after the other
--- f at 0 to n - 1: the first type error, or all entries
+-- f at 0 to n - 1: the type error of the first that has one, or all entries
 unfoldable pub inOrder : ℕ → (ℕ → Outcome TypeError (List Entry)) → Outcome TypeError (List Entry)
 inOrder n f = do
   ess ← allAnswers (tabulate n f)

@@ -1,34 +1,20 @@
 // What the walk does at one row: the body of a variable, and the row's note in the layout table.
+use crate::findings::Checked;
+use crate::findings::found;
 use body::walk::measure_body;
 use decoder::fields::a_at;
 use decoder::tables::Tables;
 use lingua::sizes::BODY_BYTES;
 use rules::types::type_body;
-ghost use mathlib.Core.Path.{_≡_};
 ghost use Prim.Native.Nat.{_+_, _*_, _≤_, _<_};
 ghost use lib.ListN.{length};
 ghost use Rattle.lingua.specs.Numbers.{declaration-section};
 ghost use Rattle.lingua.specs.Rows.{pairCount};
+ghost use Rattle.lingua.specs.Body.{Body};
+ghost use Rattle.lingua.specs.Expression.{current};
+ghost use Rattle.lingua.specs.Typing.{Bodies, check};
 ghost use Rattle.body.specs.Encode.{Holds, Held};
-ghost use Rattle.typecheck.specs.Check.{Ready, Noted, variableBodies};
-
-// What the check of an expression gives: the first type error and its place, or, with error 0, the body.
-pub struct Checked {
-    pub error: u8,
-    pub place: u16,
-    pub body: [u8; BODY_BYTES],
-}
-
-pub fn fault(error: u8, place: usize) -> Checked
-    requires { ⌜ place < 65536 ⌝ }
-    ensures { λ r. ⌜ (r .error ≡ error) × (r .place ≡ place) ⌝ }
-{
-    Checked {
-        error: error,
-        place: place as u16,
-        body: [0u8; BODY_BYTES],
-    }
-}
+ghost use Rattle.typecheck.specs.Check.{Ready, Noted, Gives, currentIf, variableBodies};
 
 // A variable's declared body is that of its declaration's type row.
 pub fn variable_body(rows: &[u8], tables: Tables, bodies: &[u8], n: usize) -> [u8; BODY_BYTES]
@@ -53,8 +39,21 @@ pub fn note_row(row: usize, body: [u8; BODY_BYTES], second: usize, layout: &mut 
     layout[2 * row] = m.cells as u16;
     layout[2 * row + 1] = second as u16;
     Checked {
+        known: true,
         error: 0,
         place: 0,
         body: body,
     }
+}
+
+// A current value without a body has no cells, and its row is not at fault.
+pub fn note_current(row: usize, known: bool, body: [u8; BODY_BYTES], layout: &mut [u16]) -> Checked
+    requires { ⌜ Held body ⌝ }
+    requires { ⌜ 2 * row + 1 < length (now layout) ⌝ }
+    ensures { λ r. ⌜ ((vars : Bodies) (b : Body) → Holds body b → Gives r (now (layout .entry)) (now (layout .exit)) (check (current row) vars (currentIf known b))) ⌝ }
+{
+    if !known {
+        return found(false, 0, 0);
+    }
+    note_row(row, body, 0, layout)
 }

@@ -1,4 +1,5 @@
 // The check of tests, yokes, assignments and instructions: each its expression, and then what it asks of the body.
+use crate::findings::Checked;
 use crate::leaves::variable_body;
 use crate::walk::check;
 use body::make::simple;
@@ -14,19 +15,21 @@ use lingua::sizes::BODY_BYTES;
 use lingua::sizes::INSTRUCTION_PLACE;
 use profile::row::instruction_row;
 ghost use mathlib.Core.Path.{_≡_};
-ghost use Prim.Native.Nat.{_+_, _<_};
+ghost use mathlib.Core.Bool.{Bool};
+ghost use mathlib.Core.List.{List};
+ghost use Prim.Native.Nat.{ℕ, _+_, _≤_, _<_};
 ghost use lib.ListN.{length};
-ghost use Rattle.lingua.specs.Numbers.{layout-length, expression-section, instruction-section, declaration-section, most-instructions};
+ghost use Rattle.lingua.specs.Numbers.{layout-length, expression-section, instruction-section};
 ghost use Rattle.lingua.specs.Body.{Body};
 ghost use Rattle.lingua.specs.Expression.{assign};
 ghost use Rattle.lingua.specs.Rows.{tableCount};
-ghost use Rattle.lingua.specs.Typing.{checkYoke, checkTest, checkInstruction};
+ghost use Rattle.lingua.specs.Typing.{typeError, Typed, Finding, judged, checkYoke, checkTest, checkInstruction};
 ghost use Rattle.lingua.specs.Trees.{expressionTree, yokeTree, instructionTree};
 ghost use Rattle.body.specs.Encode.{Holds};
 ghost use Rattle.typecheck.specs.Check.{Ready, Assigned, YokeAsked, variableBodies};
-ghost use Rattle.typecheck.specs.Verdicts.{Settles};
+ghost use Rattle.typecheck.specs.Verdicts.{Judges, Settles};
 
-// The first type error and its place, or error 0.
+// The type error that is named and its place, or error 0.
 pub struct Verdict {
     pub error: u8,
     pub place: u16,
@@ -39,6 +42,21 @@ pub fn settled(error: u8, place: u16) -> Verdict
         error: error,
         place: place,
     }
+}
+
+// The fault that is named: that of the expression's lowest row at fault; without one the expression has a body, and unless that
+// suits, `error` at `place`. Where the expression has no body, `suits` says nothing.
+fn judge(x: Checked, suits: bool, error: u8, place: u16) -> Verdict
+    requires { ⌜ 1 ≤ error ⌝ }
+    ensures { λ r. ⌜ ((o : Finding Typed) (asks : Body → Bool) (entry exit : List ℕ) → Judges x suits o asks entry exit → Settles r entry exit (judged o asks (typeError error place))) ⌝ }
+{
+    if x.error != 0 {
+        return settled(x.error, x.place);
+    }
+    if !suits {
+        return settled(error, place);
+    }
+    settled(0, 0)
 }
 
 // A yoke as in the marks: 0 has no expression, and asks nothing.
@@ -57,15 +75,9 @@ pub fn check_yoke(
     if yoke == 0 {
         return settled(0, 0);
     }
-    let x = check(yoke - 1, rows, tables, bodies, current, layout);
-    if x.error != 0 {
-        return settled(x.error, x.place);
-    }
+    let x = check(yoke - 1, rows, tables, bodies, true, current, layout);
     let result = x.body;
-    if !is_boolean(result) {
-        return settled(YOKE_EXPECTED, place);
-    }
-    settled(0, 0)
+    judge(x, is_boolean(result), YOKE_EXPECTED, place)
 }
 
 // Outside yokes there is no current value; its body is that of a Boolean.
@@ -83,15 +95,9 @@ fn check_test(
     ensures { λ r. ⌜ Settles r (now (layout .entry)) (now (layout .exit)) (checkTest (expressionTree (now (rows .entry)) e) (variableBodies (now (rows .entry))) place) ⌝ }
 {
     let none = simple(BOOLEAN);
-    let x = check(e, rows, tables, bodies, none, layout);
-    if x.error != 0 {
-        return settled(x.error, x.place);
-    }
+    let x = check(e, rows, tables, bodies, true, none, layout);
     let result = x.body;
-    if !is_boolean(result) {
-        return settled(BOOLEAN_EXPECTED, place);
-    }
-    settled(0, 0)
+    judge(x, is_boolean(result), BOOLEAN_EXPECTED, place)
 }
 
 // The expression, and then that its body is the variable's declared one.
@@ -108,16 +114,11 @@ fn check_assignment(
     ensures { λ r. ⌜ Settles r (now (layout .entry)) (now (layout .exit)) (checkInstruction (variableBodies (now (rows .entry))) (assign row n (expressionTree (now (rows .entry)) e))) ⌝ }
 {
     let none = simple(BOOLEAN);
-    let x = check(e, rows, tables, bodies, none, layout);
-    if x.error != 0 {
-        return settled(x.error, x.place);
-    }
+    let x = check(e, rows, tables, bodies, true, none, layout);
     let declared = variable_body(rows, tables, bodies, n);
     let given = x.body;
-    if !same(declared, given) {
-        return settled(NO_COHERENCE, (INSTRUCTION_PLACE + row) as u16);
-    }
-    settled(0, 0)
+    let place = (INSTRUCTION_PLACE + row) as u16;
+    judge(x, same(declared, given), NO_COHERENCE, place)
 }
 
 // An instruction's own row; its parts are rows of their own.

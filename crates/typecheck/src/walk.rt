@@ -1,7 +1,10 @@
-// The check of an expression, down its tree: operands are lower rows, so the row number falls at each call. Each row is noted in
-// the layout table after its operands.
-use crate::leaves::Checked;
-use crate::leaves::fault;
+// The check of an expression, down its tree: operands are lower rows, so the row number falls at each call. It goes on behind a
+// fault, so that every row is gone through once. A row that has a body is noted in the layout table, after its operands.
+use crate::findings::Checked;
+use crate::findings::elements;
+use crate::findings::fault;
+use crate::findings::together;
+use crate::leaves::note_current;
 use crate::leaves::note_row;
 use crate::leaves::variable_body;
 use body::operation::binary_half;
@@ -26,19 +29,20 @@ ghost use Rattle.lingua.specs.Operations.{unaryMeaning, binaryMeaning};
 ghost use Rattle.lingua.specs.Typing.{check};
 ghost use Rattle.lingua.specs.Trees.{expressionTree};
 ghost use Rattle.body.specs.Encode.{Holds};
-ghost use Rattle.typecheck.specs.Check.{Asked, Gives, variableBodies};
+ghost use Rattle.typecheck.specs.Check.{Asked, Gives, currentIf, variableBodies};
 
-// The body that an expression row gives where the current value has a body.
+// What is found of an expression row. The current value has the body `current`, or none unless `known`.
 pub fn check(
     row: usize,
     rows: &[u8],
     tables: Tables,
     bodies: &[u8],
+    known: bool,
     current: [u8; BODY_BYTES],
     layout: &mut [u16],
 ) -> Checked
     requires { ⌜ Asked row (now rows) tables (now bodies) current (now layout) ⌝ }
-    ensures { λ r. ⌜ ((b : Body) → Holds current b → Gives r (now (layout .entry)) (now (layout .exit)) (check (expressionTree (now (rows .entry)) row) (variableBodies (now (rows .entry))) b)) ⌝ }
+    ensures { λ r. ⌜ ((b : Body) → Holds current b → Gives r (now (layout .entry)) (now (layout .exit)) (check (expressionTree (now (rows .entry)) row) (variableBodies (now (rows .entry))) (currentIf known b))) ⌝ }
 {
     let table = tables.expressions;
     let e = expression_row(rows, table, row);
@@ -51,12 +55,12 @@ pub fn check(
             let body = variable_body(rows, tables, bodies, n);
             note_row(row, body, 0, layout)
         }
-        Row::Current => note_row(row, current, 0, layout),
-        Row::Unary(o, a) => unary(row, rows, tables, bodies, o, a, current, layout),
-        Row::Binary(o, a, b) => binary(row, rows, tables, bodies, o, a, b, current, layout),
-        Row::Lazy(_, a, b) => lazy(row, rows, tables, bodies, a, b, current, layout),
-        Row::Choice(a, b, c) => choice(row, rows, tables, bodies, a, b, c, current, layout),
-        Row::AllList(a) => all_list(row, rows, tables, bodies, a, current, layout),
+        Row::Current => note_current(row, known, current, layout),
+        Row::Unary(o, a) => unary(row, rows, tables, bodies, o, a, known, current, layout),
+        Row::Binary(o, a, b) => binary(row, rows, tables, bodies, o, a, b, known, current, layout),
+        Row::Lazy(_, a, b) => lazy(row, rows, tables, bodies, a, b, known, current, layout),
+        Row::Choice(a, b, c) => choice(row, rows, tables, bodies, a, b, c, known, current, layout),
+        Row::AllList(a) => all_list(row, rows, tables, bodies, a, known, current, layout),
     }
 }
 
@@ -68,15 +72,16 @@ fn unary(
     bodies: &[u8],
     o: UnaryOperation,
     a: usize,
+    known: bool,
     current: [u8; BODY_BYTES],
     layout: &mut [u16],
 ) -> Checked
     requires { ⌜ Asked row (now rows) tables (now bodies) current (now layout) ⌝ }
     requires { ⌜ a < row ⌝ }
-    ensures { λ r. ⌜ ((b : Body) → Holds current b → Gives r (now (layout .entry)) (now (layout .exit)) (check (unary row (unaryMeaning o) (expressionTree (now (rows .entry)) a)) (variableBodies (now (rows .entry))) b)) ⌝ }
+    ensures { λ r. ⌜ ((b : Body) → Holds current b → Gives r (now (layout .entry)) (now (layout .exit)) (check (unary row (unaryMeaning o) (expressionTree (now (rows .entry)) a)) (variableBodies (now (rows .entry))) (currentIf known b))) ⌝ }
 {
-    let x = check(a, rows, tables, bodies, current, layout);
-    if x.error != 0 {
+    let x = check(a, rows, tables, bodies, known, current, layout);
+    if !x.known {
         return x;
     }
     let of = x.body;
@@ -97,20 +102,19 @@ fn binary(
     o: BinaryOperation,
     a: usize,
     b: usize,
+    known: bool,
     current: [u8; BODY_BYTES],
     layout: &mut [u16],
 ) -> Checked
     requires { ⌜ Asked row (now rows) tables (now bodies) current (now layout) ⌝ }
     requires { ⌜ (a < row) × (b < row) ⌝ }
-    ensures { λ r. ⌜ ((d : Body) → Holds current d → Gives r (now (layout .entry)) (now (layout .exit)) (check (binary row (binaryMeaning o) (expressionTree (now (rows .entry)) a) (expressionTree (now (rows .entry)) b)) (variableBodies (now (rows .entry))) d)) ⌝ }
+    ensures { λ r. ⌜ ((d : Body) → Holds current d → Gives r (now (layout .entry)) (now (layout .exit)) (check (binary row (binaryMeaning o) (expressionTree (now (rows .entry)) a) (expressionTree (now (rows .entry)) b)) (variableBodies (now (rows .entry))) (currentIf known d))) ⌝ }
 {
-    let x = check(a, rows, tables, bodies, current, layout);
-    if x.error != 0 {
-        return x;
-    }
-    let y = check(b, rows, tables, bodies, current, layout);
-    if y.error != 0 {
-        return y;
+    let x = check(a, rows, tables, bodies, known, current, layout);
+    let y = check(b, rows, tables, bodies, known, current, layout);
+    let all = together(x, y);
+    if !all.known {
+        return all;
     }
     let left = x.body;
     let right = y.body;
@@ -122,7 +126,7 @@ fn binary(
     note_row(row, body, h.offset, layout)
 }
 
-// And and or: each operand, and then that it is Boolean.
+// And and or: both operands, and then that each is Boolean.
 fn lazy(
     row: usize,
     rows: &[u8],
@@ -130,24 +134,23 @@ fn lazy(
     bodies: &[u8],
     a: usize,
     b: usize,
+    known: bool,
     current: [u8; BODY_BYTES],
     layout: &mut [u16],
 ) -> Checked
     requires { ⌜ Asked row (now rows) tables (now bodies) current (now layout) ⌝ }
     requires { ⌜ (a < row) × (b < row) ⌝ }
-    ensures { λ r. ⌜ ((k : Connective) (d : Body) → Holds current d → Gives r (now (layout .entry)) (now (layout .exit)) (check (lazy row k (expressionTree (now (rows .entry)) a) (expressionTree (now (rows .entry)) b)) (variableBodies (now (rows .entry))) d)) ⌝ }
+    ensures { λ r. ⌜ ((k : Connective) (d : Body) → Holds current d → Gives r (now (layout .entry)) (now (layout .exit)) (check (lazy row k (expressionTree (now (rows .entry)) a) (expressionTree (now (rows .entry)) b)) (variableBodies (now (rows .entry))) (currentIf known d))) ⌝ }
 {
-    let x = check(a, rows, tables, bodies, current, layout);
-    if x.error != 0 {
-        return x;
+    let x = check(a, rows, tables, bodies, known, current, layout);
+    let y = check(b, rows, tables, bodies, known, current, layout);
+    let all = together(x, y);
+    if !all.known {
+        return all;
     }
     let left = x.body;
     if !is_boolean(left) {
         return fault(BOOLEAN_EXPECTED, row);
-    }
-    let y = check(b, rows, tables, bodies, current, layout);
-    if y.error != 0 {
-        return y;
     }
     let right = y.body;
     if !is_boolean(right) {
@@ -156,7 +159,7 @@ fn lazy(
     note_row(row, right, 0, layout)
 }
 
-// The test, that it is Boolean, both branches, and then that their bodies are equal.
+// The test and both branches, that the test is Boolean, and then that the branches' bodies are equal.
 fn choice(
     row: usize,
     rows: &[u8],
@@ -165,28 +168,25 @@ fn choice(
     a: usize,
     b: usize,
     c: usize,
+    known: bool,
     current: [u8; BODY_BYTES],
     layout: &mut [u16],
 ) -> Checked
     requires { ⌜ Asked row (now rows) tables (now bodies) current (now layout) ⌝ }
     requires { ⌜ (a < row) × ((b < row) × (c < row)) ⌝ }
-    ensures { λ r. ⌜ ((d : Body) → Holds current d → Gives r (now (layout .entry)) (now (layout .exit)) (check (choice row (expressionTree (now (rows .entry)) a) (expressionTree (now (rows .entry)) b) (expressionTree (now (rows .entry)) c)) (variableBodies (now (rows .entry))) d)) ⌝ }
+    ensures { λ r. ⌜ ((d : Body) → Holds current d → Gives r (now (layout .entry)) (now (layout .exit)) (check (choice row (expressionTree (now (rows .entry)) a) (expressionTree (now (rows .entry)) b) (expressionTree (now (rows .entry)) c)) (variableBodies (now (rows .entry))) (currentIf known d))) ⌝ }
 {
-    let t = check(a, rows, tables, bodies, current, layout);
-    if t.error != 0 {
-        return t;
+    let t = check(a, rows, tables, bodies, known, current, layout);
+    let yes = check(b, rows, tables, bodies, known, current, layout);
+    let no = check(c, rows, tables, bodies, known, current, layout);
+    let branches = together(yes, no);
+    let all = together(t, branches);
+    if !all.known {
+        return all;
     }
     let test = t.body;
     if !is_boolean(test) {
         return fault(BOOLEAN_EXPECTED, row);
-    }
-    let yes = check(b, rows, tables, bodies, current, layout);
-    if yes.error != 0 {
-        return yes;
-    }
-    let no = check(c, rows, tables, bodies, current, layout);
-    if no.error != 0 {
-        return no;
     }
     let chosen = yes.body;
     let other = no.body;
@@ -196,28 +196,28 @@ fn choice(
     note_row(row, chosen, 0, layout)
 }
 
-// That the current value is a list, then the inner yoke on an element's body, and that it is Boolean.
+// The inner yoke on an element's body, if there is one, and then that it is Boolean. A current value that is no list is a fault
+// whatever the inner yoke has; one without a body is none.
 fn all_list(
     row: usize,
     rows: &[u8],
     tables: Tables,
     bodies: &[u8],
     a: usize,
+    known: bool,
     current: [u8; BODY_BYTES],
     layout: &mut [u16],
 ) -> Checked
     requires { ⌜ Asked row (now rows) tables (now bodies) current (now layout) ⌝ }
     requires { ⌜ a < row ⌝ }
-    ensures { λ r. ⌜ ((b : Body) → Holds current b → Gives r (now (layout .entry)) (now (layout .exit)) (check (all-list row (expressionTree (now (rows .entry)) a)) (variableBodies (now (rows .entry))) b)) ⌝ }
+    ensures { λ r. ⌜ ((b : Body) → Holds current b → Gives r (now (layout .entry)) (now (layout .exit)) (check (all-list row (expressionTree (now (rows .entry)) a)) (variableBodies (now (rows .entry))) (currentIf known b))) ⌝ }
 {
-    let h = unary_half(UnaryOperation::Top, current);
-    if h.error != 0 {
-        return fault(h.error, row);
-    }
-    let element = h.body;
-    let x = check(a, rows, tables, bodies, element, layout);
-    if x.error != 0 {
-        return x;
+    let list = elements(row, known, current);
+    let element = list.body;
+    let x = check(a, rows, tables, bodies, list.known, element, layout);
+    let all = together(x, list);
+    if !all.known {
+        return all;
     }
     let result = x.body;
     if !is_boolean(result) {

@@ -1,4 +1,4 @@
-// The whole type check: declared yokes first, then instructions by rising row; the first type error is the answer.
+// The whole type check: declared yokes first, then instructions by rising row; the earliest that has a fault gives the answer.
 use crate::leaves::variable_body;
 use crate::verdicts::Verdict;
 use crate::verdicts::check_instruction;

@@ -46,6 +46,7 @@ same-length c = search needs
 returns : tie.Need-returns
 returns c =
     record {
+      known = refl;
       passed = refl;
       same = refl;
       layout = λ b h. ap (λ (n : ℕ). set (set (now (c .before .before .before .args .layout)) (2 * c .before .before .before .args .row) n) (2 * c .before .before .before .args .row + 1) (c .before .before .before .args .second)) (c .before .measure-body .ensures b h .is-cells);

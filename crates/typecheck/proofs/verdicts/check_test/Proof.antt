@@ -1,10 +1,8 @@
--- `typecheck::verdicts::check_test` meets its contract: its ways out are the laws of Settling on tests. Assumes nothing.
-use mathlib.Core.Path.{sym, _∙_}
-use borrow.Author.Tests.{not-true, not-false}
-use Rattle.lingua.specs.Body.{boolean}
-use Rattle.typecheck.proofs.Returns.{passed}
-use Rattle.typecheck.proofs.Settling.{none-holds, test-fails, test-own, test-passes}
+-- `typecheck::verdicts::check_test` meets its contract: its expression is judged by whether it is Boolean. Assumes nothing.
 use borrow.Author.Needs.{needs}
+use Rattle.lingua.specs.Body.{boolean}
+use Rattle.lingua.specs.Typing.{checkTest}
+use Rattle.typecheck.proofs.Settling.{none-holds, judges-by}
 use Rattle.typecheck.proofs.verdicts.check_test.Statement.{statement}
 use Rattle.typecheck.proofs.verdicts.check_test.Tie as tie
 
@@ -14,39 +12,18 @@ simple-requires c κs = search needs
 check-requires : tie.Need-check-requires
 check-requires c κs = record { ready = c .before .before .before .before .before .pre .0; here = c .before .before .before .before .before .pre .1 .0; held = record { body = boolean; holds = none-holds _ (c .before .simple .ensures) }; room = c .before .before .before .before .before .pre .1 .1 }
 
-settled-requires : tie.Need-settled-requires
-settled-requires c κs = search needs
+is-boolean-requires : tie.Need-is-boolean-requires
+is-boolean-requires c κs = search needs
+
+judge-requires : tie.Need-judge-requires
+judge-requires c κs = search needs
 
 same-length : tie.Need-same-length
 same-length c = search needs
 
 returns : tie.Need-returns
-returns c = test-fails _ _ _ (c .before .before .before .before .before .check .result) (c .settled .result) _ _ _ _ (c .before .before .before .before .before .check .ensures boolean (none-holds _ (c .before .before .before .before .before .before .before .simple .ensures))) (c .before .if1 .taken) (c .settled .ensures)
-
-is-boolean-requires : tie.Need-is-boolean-requires
-is-boolean-requires c κs = search needs
-
-settled-requires-2 : tie.Need-settled-requires-2
-settled-requires-2 c κs = search needs
-
-same-length-2 : tie.Need-same-length-2
-same-length-2 c = search needs
-
-returns-2 : tie.Need-returns-2
-returns-2 c =
-    let q = passed _ _ _ _ (c .before .before .before .before .before .before .before .before .check .ensures boolean (none-holds _ (c .before .before .before .before .before .before .before .before .before .before .simple .ensures))) (c .before .before .before .before .if1 .left) in
-    test-own _ _ _ _ _ _ q (c .settled2 .result) _ _ (sym (c .before .before .is-boolean .ensures _ (q .passes .holds)) ∙ not-true _ (c .before .if2 .taken)) (c .settled2 .ensures)
-
-settled-requires-3 : tie.Need-settled-requires-3
-settled-requires-3 c κs = search needs
-
-same-length-3 : tie.Need-same-length-3
-same-length-3 c = search needs
-
-returns-3 : tie.Need-returns-3
-returns-3 c =
-    let q = passed _ _ _ _ (c .before .before .before .before .before .before .before .before .check .ensures boolean (none-holds _ (c .before .before .before .before .before .before .before .before .before .before .simple .ensures))) (c .before .before .before .before .if1 .left) in
-    test-passes _ _ _ _ _ _ q (c .settled3 .result) (sym (c .before .before .is-boolean .ensures _ (q .passes .holds)) ∙ not-false _ (c .before .if2 .left)) (c .settled3 .ensures)
+unfolding checkTest
+returns c = c .judge .ensures _ _ _ _ (judges-by _ _ _ _ _ _ _ _ (c .before .before .before .before .before .check .ensures boolean (none-holds _ (c .before .before .before .before .before .before .before .simple .ensures))) (λ t h. c .before .is-boolean .ensures _ h))
 
 pub check-test-spec : {M : Type 1} → statement M
 check-test-spec =
@@ -54,13 +31,7 @@ check-test-spec =
     (tie.spec
     simple-requires
     check-requires
-    settled-requires
-    same-length
-    returns
     is-boolean-requires
-    settled-requires-2
-    same-length-2
-    returns-2
-    settled-requires-3
-    same-length-3
-    returns-3)
+    judge-requires
+    same-length
+    returns)

@@ -4,14 +4,13 @@ use denote.Ref.{now}
 use borrow.Author.Needs.{needs}
 use Prim.Native.Nat.{_+_, _*_}
 use native.Mathlib.Omega.{arith}
-use mathlib.Core.Path.{_≡_, refl, sym, ap, _∙_}
-use lib.ListN.{length}
+use mathlib.Core.Path.{_≡_, refl, sym, _∙_}
 use borrow.Author.Tests.{not-true, not-false}
-use Rattle.lingua.specs.Operations.{unaryMeaning}
 use Rattle.profile.specs.Known.{row-known}
 use Rattle.profile.specs.Facts.{RowFacts, rowTree}
 use Rattle.typecheck.proofs.Rows.{facts-at, tree-at, asked-below, asked-room, asked-small}
-use Rattle.typecheck.proofs.Returns.{Passed, passed, result-held, half-held, half-small, constant-passes, variable-passes, current-passes, unary-operand, unary-own, unary-passes, binary-first, binary-second, binary-own, binary-passes, lazy-first, lazy-first-own, lazy-second, lazy-second-own, lazy-passes, choice-test, choice-test-own, choice-first, choice-second, choice-own, choice-passes, all-list-own, element-of, all-list-inner, all-list-result, all-list-passes}
+use Rattle.typecheck.proofs.Found.{passed}
+use Rattle.typecheck.proofs.Returns.{result-held, half-held, half-small, constant-passes, variable-passes, unary-operand, unary-own, unary-passes, two, left, right, left-held, right-held, binary-operands, binary-own, binary-passes, lazy-operands, lazy-first-own, lazy-second-own, lazy-passes, three, test, branches, choice-operands, choice-test-own, choice-own, choice-passes, listed-by, elements-held, inner, inner-held, all-list-operands, all-list-own, all-list-passes}
 use Prim.Native.Nat.{ℕ, _<_}
 use borrow.Fn.Kinds.{In}
 use borrow.Fn.PlainCycle.{Measures, is, falls, and}
@@ -37,9 +36,12 @@ use Rattle.body.proofs.parts.same.Reads as same-reads
 use Rattle.body.proofs.walk.measure_body.Reads as measure-body-reads
 use Rattle.profile.proofs.row.expression_row.Reads as expression-row-reads
 use Rattle.profile.proofs.constants.constant_body.Reads as constant-body-reads
-use Rattle.typecheck.proofs.leaves.fault.Reads as fault-reads
+use Rattle.typecheck.proofs.findings.fault.Reads as fault-reads
+use Rattle.typecheck.proofs.findings.together.Reads as together-reads
+use Rattle.typecheck.proofs.findings.elements.Reads as elements-reads
 use Rattle.body.proofs.unary.is_boolean.Reads as is-boolean-reads
 use Rattle.typecheck.proofs.leaves.note_row.Reads as note-row-reads
+use Rattle.typecheck.proofs.leaves.note_current.Reads as note-current-reads
 use Rattle.body.proofs.operation.binary_half.Reads as binary-half-reads
 use Rattle.body.proofs.operation.unary_half.Reads as unary-half-reads
 use Rattle.typecheck.proofs.leaves.variable_body.Reads as variable-body-reads
@@ -102,136 +104,123 @@ abbrev unary-below : ℕ → In 3 unary-kinds.ps
 unary-below t = and 3 unary-kinds.ps (falls 3 unary-kinds.ps _<_ μ-unary t) unary.Pre
 
 abbrev all-list-calls : ℕ → all-list-lts.Claims
-all-list-calls t = (unary-half-reads.Asked, unary-half-reads.Learnt, fault-reads.Asked, fault-reads.Learnt, check-below t, check.Post, is-boolean-reads.Asked, is-boolean-reads.Learnt, measure-body-reads.Asked, measure-body-reads.Learnt, note-row-reads.Asked, note-row-reads.Learnt)
+all-list-calls t = (elements-reads.Asked, elements-reads.Learnt, check-below t, check.Post, together-reads.Asked, together-reads.Learnt, is-boolean-reads.Asked, is-boolean-reads.Learnt, fault-reads.Asked, fault-reads.Learnt, measure-body-reads.Asked, measure-body-reads.Learnt, note-row-reads.Asked, note-row-reads.Learnt)
 
 abbrev binary-calls : ℕ → binary-lts.Claims
-binary-calls t = (check-below t, check.Post, binary-half-reads.Asked, binary-half-reads.Learnt, fault-reads.Asked, fault-reads.Learnt, note-row-reads.Asked, note-row-reads.Learnt)
+binary-calls t = (check-below t, check.Post, together-reads.Asked, together-reads.Learnt, binary-half-reads.Asked, binary-half-reads.Learnt, fault-reads.Asked, fault-reads.Learnt, note-row-reads.Asked, note-row-reads.Learnt)
 
 abbrev check-calls : ℕ → check-lts.Claims
-check-calls t = (expression-row-reads.Asked, expression-row-reads.Learnt, constant-body-reads.Asked, constant-body-reads.Learnt, note-row-reads.Asked, note-row-reads.Learnt, variable-body-reads.Asked, variable-body-reads.Learnt, unary-below t, unary.Post, binary-below t, binary.Post, lazy-below t, lazy.Post, choice-below t, choice.Post, all-list-below t, all-list.Post)
+check-calls t = (expression-row-reads.Asked, expression-row-reads.Learnt, constant-body-reads.Asked, constant-body-reads.Learnt, note-row-reads.Asked, note-row-reads.Learnt, variable-body-reads.Asked, variable-body-reads.Learnt, note-current-reads.Asked, note-current-reads.Learnt, unary-below t, unary.Post, binary-below t, binary.Post, lazy-below t, lazy.Post, choice-below t, choice.Post, all-list-below t, all-list.Post)
 
 abbrev choice-calls : ℕ → choice-lts.Claims
-choice-calls t = (check-below t, check.Post, is-boolean-reads.Asked, is-boolean-reads.Learnt, fault-reads.Asked, fault-reads.Learnt, same-reads.Asked, same-reads.Learnt, note-row-reads.Asked, note-row-reads.Learnt)
+choice-calls t = (check-below t, check.Post, together-reads.Asked, together-reads.Learnt, is-boolean-reads.Asked, is-boolean-reads.Learnt, fault-reads.Asked, fault-reads.Learnt, same-reads.Asked, same-reads.Learnt, note-row-reads.Asked, note-row-reads.Learnt)
 
 abbrev lazy-calls : ℕ → lazy-lts.Claims
-lazy-calls t = (check-below t, check.Post, is-boolean-reads.Asked, is-boolean-reads.Learnt, fault-reads.Asked, fault-reads.Learnt, note-row-reads.Asked, note-row-reads.Learnt)
+lazy-calls t = (check-below t, check.Post, together-reads.Asked, together-reads.Learnt, is-boolean-reads.Asked, is-boolean-reads.Learnt, fault-reads.Asked, fault-reads.Learnt, note-row-reads.Asked, note-row-reads.Learnt)
 
 abbrev unary-calls : ℕ → unary-lts.Claims
 unary-calls t = (check-below t, check.Post, unary-half-reads.Asked, unary-half-reads.Learnt, fault-reads.Asked, fault-reads.Learnt, note-row-reads.Asked, note-row-reads.Learnt)
 
-all-list-unary-half-requires : (t : ℕ) → all-list-lts.Need-unary-half-requires (all-list-calls t) (all-list-at t) all-list.Post
-all-list-unary-half-requires t c κs = c .before .before .before .pre .1 .0 .held
-
-all-list-fault-requires : (t : ℕ) → all-list-lts.Need-fault-requires (all-list-calls t) (all-list-at t) all-list.Post
-all-list-fault-requires t c κs = asked-small (c .before .before .before .before .before .before .pre .1 .0)
-
-all-list-returns : (t : ℕ) → all-list-lts.Need-returns (all-list-calls t) (all-list-at t) all-list.Post
-unfolding unaryMeaning
-all-list-returns t c = λ b h. all-list-own _ _ _ b (c .before .before .before .unary-half .result) (c .before .before .before .unary-half .ensures b h) (c .fault .result) _ _ (c .before .if1 .taken) (c .fault .ensures)
+all-list-elements-requires : (t : ℕ) → all-list-lts.Need-elements-requires (all-list-calls t) (all-list-at t) all-list.Post
+all-list-elements-requires t c κs = (c .before .before .before .pre .1 .0 .held, asked-small (c .before .before .before .pre .1 .0))
 
 all-list-check-requires : (t : ℕ) → all-list-lts.Need-check-requires (all-list-calls t) (all-list-at t) all-list.Post
-all-list-check-requires t c κs =
-    let k = c .before .before .before .before .unary-half .ensures _ (c .before .before .before .before .before .before .before .before .pre .1 .0 .held .holds) in
-    (omega (arith, c .before .before .before .before .before .before .before .before .pre .0, c .before .before .before .before .before .before .before .before .pre .1 .1), asked-below (c .before .before .before .before .before .before .before .before .pre .1 .0) _ (c .before .before .before .before .before .before .before .before .pre .1 .1) (half-held _ _ _ k (c .before .before .if1 .left)) refl)
+all-list-check-requires t c κs = (omega (arith, c .before .before .before .before .before .before .pre .0, c .before .before .before .before .before .before .pre .1 .1), asked-below (c .before .before .before .before .before .before .pre .1 .0) _ (c .before .before .before .before .before .before .pre .1 .1) (elements-held _ _ (c .before .before .elements .ensures _ (c .before .before .before .before .before .before .pre .1 .0 .held .holds))) refl)
+
+all-list-together-requires : (t : ℕ) → all-list-lts.Need-together-requires (all-list-calls t) (all-list-at t) all-list.Post
+all-list-together-requires t c κs = search needs
 
 all-list-same-length : (t : ℕ) → all-list-lts.Need-same-length (all-list-calls t) (all-list-at t) all-list.Post
 all-list-same-length t c = search needs
 
-all-list-returns-2 : (t : ℕ) → all-list-lts.Need-returns-2 (all-list-calls t) (all-list-at t) all-list.Post
-unfolding unaryMeaning
-all-list-returns-2 t c = λ b h.
-    let k = c .before .before .before .before .before .before .before .before .before .unary-half .ensures b h in
-    let w = element-of b _ k (c .before .before .before .before .before .before .before .if1 .left) in
-    all-list-inner _ _ _ b (c .before .before .before .before .before .before .before .before .before .unary-half .result) k (c .before .before .before .before .before .before .before .if1 .left) (c .before .before .before .before .check .result) _ _ _ _ (c .before .before .before .before .check .ensures _ (w .passes .holds)) (c .if2 .taken)
+all-list-returns : (t : ℕ) → all-list-lts.Need-returns (all-list-calls t) (all-list-at t) all-list.Post
+all-list-returns t c = λ b h.
+    let w = c .before .before .before .before .before .before .before .before .elements .ensures b h in
+    all-list-operands (listed-by _ _ _ _ _ _ _ _ _ w (c .before .before .before .before .before .check .ensures (w .element) (w .holds)) (c .before .before .together .ensures)) _ _ (not-true _ (c .if1 .taken))
 
 all-list-is-boolean-requires : (t : ℕ) → all-list-lts.Need-is-boolean-requires (all-list-calls t) (all-list-at t) all-list.Post
 all-list-is-boolean-requires t c κs = search needs
 
-all-list-fault-requires-2 : (t : ℕ) → all-list-lts.Need-fault-requires-2 (all-list-calls t) (all-list-at t) all-list.Post
-all-list-fault-requires-2 t c κs = asked-small (c .before .before .before .before .before .before .before .before .before .before .before .before .before .before .before .before .pre .1 .0)
+all-list-fault-requires : (t : ℕ) → all-list-lts.Need-fault-requires (all-list-calls t) (all-list-at t) all-list.Post
+all-list-fault-requires t c κs = asked-small (c .before .before .before .before .before .before .before .before .before .before .before .before .before .before .before .pre .1 .0)
 
 all-list-same-length-2 : (t : ℕ) → all-list-lts.Need-same-length-2 (all-list-calls t) (all-list-at t) all-list.Post
 all-list-same-length-2 t c = search needs
 
-all-list-returns-3 : (t : ℕ) → all-list-lts.Need-returns-3 (all-list-calls t) (all-list-at t) all-list.Post
-unfolding unaryMeaning
-all-list-returns-3 t c = λ b h.
-    let k = c .before .before .before .before .before .before .before .before .before .before .before .before .before .unary-half .ensures b h in
-    let w = element-of b _ k (c .before .before .before .before .before .before .before .before .before .before .before .if1 .left) in
-    let p = passed _ _ _ _ (c .before .before .before .before .before .before .before .before .check .ensures _ (w .passes .holds)) (c .before .before .before .before .if2 .left) in
-    all-list-result _ _ _ b (c .before .before .before .before .before .before .before .before .before .before .before .before .before .unary-half .result) k (c .before .before .before .before .before .before .before .before .before .before .before .if1 .left) _ _ _ p (c .fault2 .result) _ _ (sym (c .before .before .is-boolean .ensures _ (p .passes .holds)) ∙ not-true _ (c .before .if3 .taken)) (c .fault2 .ensures)
+all-list-returns-2 : (t : ℕ) → all-list-lts.Need-returns-2 (all-list-calls t) (all-list-at t) all-list.Post
+all-list-returns-2 t c = λ b h.
+    let w = c .before .before .before .before .before .before .before .before .before .before .before .before .elements .ensures b h in
+    let s = listed-by _ _ _ _ _ _ _ _ _ w (c .before .before .before .before .before .before .before .before .before .check .ensures (w .element) (w .holds)) (c .before .before .before .before .before .before .together .ensures) in
+    let z = not-false _ (c .before .before .before .before .if1 .left) in
+    all-list-own s z (c .fault .result) _ _ (sym (c .before .before .is-boolean .ensures _ (inner s z .passes .holds)) ∙ not-true _ (c .before .if2 .taken)) (c .fault .ensures)
 
 all-list-measure-body-requires : (t : ℕ) → all-list-lts.Need-measure-body-requires (all-list-calls t) (all-list-at t) all-list.Post
-all-list-measure-body-requires t c κs = half-held _ _ _ (c .before .before .before .before .before .before .before .before .before .before .before .before .unary-half .ensures _ (c .before .before .before .before .before .before .before .before .before .before .before .before .before .before .before .before .pre .1 .0 .held .holds)) (c .before .before .before .before .before .before .before .before .before .before .if1 .left)
+all-list-measure-body-requires t c κs = elements-held _ _ (c .before .before .before .before .before .before .before .before .before .before .before .elements .ensures _ (c .before .before .before .before .before .before .before .before .before .before .before .before .before .before .before .pre .1 .0 .held .holds))
 
 all-list-note-row-requires : (t : ℕ) → all-list-lts.Need-note-row-requires (all-list-calls t) (all-list-at t) all-list.Post
-unfolding unaryMeaning
 all-list-note-row-requires t c κs =
-    let k = c .before .before .before .before .before .before .before .before .before .before .before .before .before .before .unary-half .ensures _ (c .before .before .before .before .before .before .before .before .before .before .before .before .before .before .before .before .before .before .pre .1 .0 .held .holds) in
-    let w = element-of _ _ k (c .before .before .before .before .before .before .before .before .before .before .before .before .if1 .left) in
-    (result-held _ _ _ _ (c .before .before .before .before .before .before .before .before .before .check .ensures _ (w .passes .holds)) (c .before .before .before .before .before .if2 .left), (omega (arith, c .before .measure-body .ensures _ (w .passes .holds) .is-cells, w .passes .holds .few-cells), asked-room (c .before .before .before .before .before .before .before .before .before .before .before .before .before .before .before .before .before .before .pre .1 .0) (c .before .before .before .before .before .before .before .before .before .check .last .1 .1 .1 .1 .1 .0) (c .before .before .before .before .before .before .before .before .before .check .kept .1 .1 .1 .1 .1 .0)))
+    let w = c .before .before .before .before .before .before .before .before .before .before .before .before .before .elements .ensures _ (c .before .before .before .before .before .before .before .before .before .before .before .before .before .before .before .before .before .pre .1 .0 .held .holds) in
+    let s = listed-by _ _ _ _ _ _ _ _ _ w (c .before .before .before .before .before .before .before .before .before .before .check .ensures (w .element) (w .holds)) (c .before .before .before .before .before .before .before .together .ensures) in
+    (inner-held s (not-false _ (c .before .before .before .before .before .if1 .left)), (omega (arith, c .before .measure-body .ensures _ (w .holds) .is-cells, w .holds .few-cells), asked-room (c .before .before .before .before .before .before .before .before .before .before .before .before .before .before .before .before .before .pre .1 .0) (c .before .before .before .before .before .before .before .before .before .before .check .last .1 .1 .1 .1 .1 .1 .0) (c .before .before .before .before .before .before .before .before .before .before .check .kept .1 .1 .1 .1 .1 .1 .0)))
 
 all-list-same-length-3 : (t : ℕ) → all-list-lts.Need-same-length-3 (all-list-calls t) (all-list-at t) all-list.Post
 all-list-same-length-3 t c = search needs
 
-all-list-returns-4 : (t : ℕ) → all-list-lts.Need-returns-4 (all-list-calls t) (all-list-at t) all-list.Post
-unfolding unaryMeaning
-all-list-returns-4 t c = λ b h.
-    let k = c .before .before .before .before .before .before .before .before .before .before .before .before .before .before .before .before .before .unary-half .ensures b h in
-    let w = element-of b _ k (c .before .before .before .before .before .before .before .before .before .before .before .before .before .before .before .if1 .left) in
-    let p = passed _ _ _ _ (c .before .before .before .before .before .before .before .before .before .before .before .before .check .ensures _ (w .passes .holds)) (c .before .before .before .before .before .before .before .before .if2 .left) in
-    all-list-passes _ _ _ b (c .before .before .before .before .before .before .before .before .before .before .before .before .before .before .before .before .before .unary-half .result) k (c .before .before .before .before .before .before .before .before .before .before .before .before .before .before .before .if1 .left) _ _ _ p (c .before .before .note-row .result) _ _ (sym (c .before .before .before .before .before .before .is-boolean .ensures _ (p .passes .holds)) ∙ not-false _ (c .before .before .before .before .before .if3 .left)) (c .before .before .before .before .measure-body .ensures _ (w .passes .holds) .is-cells) (c .before .before .note-row .ensures)
+all-list-returns-3 : (t : ℕ) → all-list-lts.Need-returns-3 (all-list-calls t) (all-list-at t) all-list.Post
+all-list-returns-3 t c = λ b h.
+    let w = c .before .before .before .before .before .before .before .before .before .before .before .before .before .before .before .before .elements .ensures b h in
+    let s = listed-by _ _ _ _ _ _ _ _ _ w (c .before .before .before .before .before .before .before .before .before .before .before .before .before .check .ensures (w .element) (w .holds)) (c .before .before .before .before .before .before .before .before .before .before .together .ensures) in
+    let z = not-false _ (c .before .before .before .before .before .before .before .before .if1 .left) in
+    all-list-passes s z (c .before .before .note-row .result) _ _ (sym (c .before .before .before .before .before .before .is-boolean .ensures _ (inner s z .passes .holds)) ∙ not-false _ (c .before .before .before .before .before .if2 .left)) (c .before .before .before .before .measure-body .ensures _ (s .list .holds) .is-cells) (c .before .before .note-row .ensures)
 
 binary-check-requires : (t : ℕ) → binary-lts.Need-check-requires (binary-calls t) (binary-at t) binary.Post
 binary-check-requires t c κs = (omega (arith, c .before .before .before .before .pre .0, c .before .before .before .before .pre .1 .1 .0), asked-below (c .before .before .before .before .pre .1 .0) _ (c .before .before .before .before .pre .1 .1 .0) (c .before .before .before .before .pre .1 .0 .held) refl)
+
+binary-check-requires-2 : (t : ℕ) → binary-lts.Need-check-requires-2 (binary-calls t) (binary-at t) binary.Post
+binary-check-requires-2 t c κs = (omega (arith, c .before .before .before .before .before .before .before .before .pre .0, c .before .before .before .before .before .before .before .before .pre .1 .1 .1), asked-below (c .before .before .before .before .before .before .before .before .pre .1 .0) _ (c .before .before .before .before .before .before .before .before .pre .1 .1 .1) (c .before .before .before .before .before .before .before .before .pre .1 .0 .held) (c .before .before .before .check .kept .1 .1 .1 .1 .1 .1 .0))
+
+binary-together-requires : (t : ℕ) → binary-lts.Need-together-requires (binary-calls t) (binary-at t) binary.Post
+binary-together-requires t c κs = search needs
 
 binary-same-length : (t : ℕ) → binary-lts.Need-same-length (binary-calls t) (binary-at t) binary.Post
 binary-same-length t c = search needs
 
 binary-returns : (t : ℕ) → binary-lts.Need-returns (binary-calls t) (binary-at t) binary.Post
-binary-returns t c = λ d h. binary-first _ _ _ _ _ _ (c .before .before .before .before .check .result) _ _ _ _ (c .before .before .before .before .check .ensures d h) (c .if1 .taken)
+binary-returns t c = λ d h. binary-operands _ _ (two _ _ _ _ _ _ _ _ _ _ (c .before .before .before .before .before .before .before .before .before .check .ensures d h) (c .before .before .before .before .before .check2 .ensures d h) (c .before .before .together .ensures)) _ _ (not-true _ (c .if1 .taken))
 
-binary-check-requires-2 : (t : ℕ) → binary-lts.Need-check-requires-2 (binary-calls t) (binary-at t) binary.Post
-binary-check-requires-2 t c κs = (omega (arith, c .before .before .before .before .before .before .before .before .before .before .pre .0, c .before .before .before .before .before .before .before .before .before .before .pre .1 .1 .1), asked-below (c .before .before .before .before .before .before .before .before .before .before .pre .1 .0) _ (c .before .before .before .before .before .before .before .before .before .before .pre .1 .1 .1) (c .before .before .before .before .before .before .before .before .before .before .pre .1 .0 .held) (c .before .before .before .before .before .check .kept .1 .1 .1 .1 .1 .0))
+binary-binary-half-requires : (t : ℕ) → binary-lts.Need-binary-half-requires (binary-calls t) (binary-at t) binary.Post
+binary-binary-half-requires t c κs =
+    let w = two _ _ _ _ _ _ _ _ _ _ (c .before .before .before .before .before .before .before .before .before .before .before .check .ensures _ (c .before .before .before .before .before .before .before .before .before .before .before .before .before .before .before .before .pre .1 .0 .held .holds)) (c .before .before .before .before .before .before .before .check2 .ensures _ (c .before .before .before .before .before .before .before .before .before .before .before .before .before .before .before .before .pre .1 .0 .held .holds)) (c .before .before .before .before .together .ensures) in
+    let z = not-false _ (c .before .before .if1 .left) in
+    (left-held w z, right-held w z)
+
+binary-fault-requires : (t : ℕ) → binary-lts.Need-fault-requires (binary-calls t) (binary-at t) binary.Post
+binary-fault-requires t c κs = asked-small (c .before .before .before .before .before .before .before .before .before .before .before .before .before .before .before .before .before .before .before .pre .1 .0)
 
 binary-same-length-2 : (t : ℕ) → binary-lts.Need-same-length-2 (binary-calls t) (binary-at t) binary.Post
 binary-same-length-2 t c = search needs
 
 binary-returns-2 : (t : ℕ) → binary-lts.Need-returns-2 (binary-calls t) (binary-at t) binary.Post
 binary-returns-2 t c = λ d h.
-    let p = passed _ _ _ _ (c .before .before .before .before .before .before .before .before .before .before .check .ensures d h) (c .before .before .before .before .before .before .if1 .left) in
-    binary-second _ _ _ _ _ _ _ _ _ p (c .before .before .before .before .check2 .result) _ _ _ _ (c .before .before .before .before .check2 .ensures d h) (c .if2 .taken)
+    let w = two _ _ _ _ _ _ _ _ _ _ (c .before .before .before .before .before .before .before .before .before .before .before .before .before .before .before .check .ensures d h) (c .before .before .before .before .before .before .before .before .before .before .before .check2 .ensures d h) (c .before .before .before .before .before .before .before .before .together .ensures) in
+    let z = not-false _ (c .before .before .before .before .before .before .if1 .left) in
+    binary-own _ _ w z (c .before .before .before .binary-half .result) (c .before .before .before .binary-half .ensures _ _ (left w z .passes .holds) (right w z .passes .holds)) (c .fault .result) _ _ (c .before .if2 .taken) (c .fault .ensures)
 
-binary-binary-half-requires : (t : ℕ) → binary-lts.Need-binary-half-requires (binary-calls t) (binary-at t) binary.Post
-binary-binary-half-requires t c κs = (result-held _ _ _ _ (c .before .before .before .before .before .before .before .before .before .before .before .before .check .ensures _ (c .before .before .before .before .before .before .before .before .before .before .before .before .before .before .before .before .before .pre .1 .0 .held .holds)) (c .before .before .before .before .before .before .before .before .if1 .left), result-held _ _ _ _ (c .before .before .before .before .before .before .check2 .ensures _ (c .before .before .before .before .before .before .before .before .before .before .before .before .before .before .before .before .before .pre .1 .0 .held .holds)) (c .before .before .if2 .left))
-
-binary-fault-requires : (t : ℕ) → binary-lts.Need-fault-requires (binary-calls t) (binary-at t) binary.Post
-binary-fault-requires t c κs = asked-small (c .before .before .before .before .before .before .before .before .before .before .before .before .before .before .before .before .before .before .before .before .pre .1 .0)
+binary-note-row-requires : (t : ℕ) → binary-lts.Need-note-row-requires (binary-calls t) (binary-at t) binary.Post
+binary-note-row-requires t c κs =
+    let w = two _ _ _ _ _ _ _ _ _ _ (c .before .before .before .before .before .before .before .before .before .before .before .before .before .before .before .before .check .ensures _ (c .before .before .before .before .before .before .before .before .before .before .before .before .before .before .before .before .before .before .before .before .before .pre .1 .0 .held .holds)) (c .before .before .before .before .before .before .before .before .before .before .before .before .check2 .ensures _ (c .before .before .before .before .before .before .before .before .before .before .before .before .before .before .before .before .before .before .before .before .before .pre .1 .0 .held .holds)) (c .before .before .before .before .before .before .before .before .before .together .ensures) in
+    let z = not-false _ (c .before .before .before .before .before .before .before .if1 .left) in
+    let k = (c .before .before .before .before .binary-half .ensures _ _ (left w z .passes .holds) (right w z .passes .holds)) in
+    (half-held _ _ _ k (c .before .before .if2 .left), (half-small _ _ _ k (c .before .before .if2 .left), asked-room (c .before .before .before .before .before .before .before .before .before .before .before .before .before .before .before .before .before .before .before .before .before .pre .1 .0) (c .before .before .before .before .before .before .before .before .before .before .before .before .check2 .last .1 .1 .1 .1 .1 .1 .0) (c .before .before .before .before .before .before .before .before .before .before .before .before .check2 .kept .1 .1 .1 .1 .1 .1 .0 ∙ c .before .before .before .before .before .before .before .before .before .before .before .before .before .before .before .before .check .kept .1 .1 .1 .1 .1 .1 .0)))
 
 binary-same-length-3 : (t : ℕ) → binary-lts.Need-same-length-3 (binary-calls t) (binary-at t) binary.Post
 binary-same-length-3 t c = search needs
 
 binary-returns-3 : (t : ℕ) → binary-lts.Need-returns-3 (binary-calls t) (binary-at t) binary.Post
 binary-returns-3 t c = λ d h.
-    let p = passed _ _ _ _ (c .before .before .before .before .before .before .before .before .before .before .before .before .before .before .before .before .check .ensures d h) (c .before .before .before .before .before .before .before .before .before .before .before .before .if1 .left) in
-    let q = passed _ _ _ _ (c .before .before .before .before .before .before .before .before .before .before .check2 .ensures d h) (c .before .before .before .before .before .before .if2 .left) in
-    binary-own _ _ _ _ _ _ _ _ _ p _ _ q (c .before .before .before .binary-half .result) (c .before .before .before .binary-half .ensures _ _ (p .passes .holds) (q .passes .holds)) (c .fault .result) _ _ (c .before .if3 .taken) (c .fault .ensures)
-
-binary-note-row-requires : (t : ℕ) → binary-lts.Need-note-row-requires (binary-calls t) (binary-at t) binary.Post
-binary-note-row-requires t c κs =
-    let p = passed _ _ _ _ (c .before .before .before .before .before .before .before .before .before .before .before .before .before .before .before .before .before .check .ensures _ (c .before .before .before .before .before .before .before .before .before .before .before .before .before .before .before .before .before .before .before .before .before .before .pre .1 .0 .held .holds)) (c .before .before .before .before .before .before .before .before .before .before .before .before .before .if1 .left) in
-    let q = passed _ _ _ _ (c .before .before .before .before .before .before .before .before .before .before .before .check2 .ensures _ (c .before .before .before .before .before .before .before .before .before .before .before .before .before .before .before .before .before .before .before .before .before .before .pre .1 .0 .held .holds)) (c .before .before .before .before .before .before .before .if2 .left) in
-    let k = (c .before .before .before .before .binary-half .ensures _ _ (p .passes .holds) (q .passes .holds)) in
-    (half-held _ _ _ k (c .before .before .if3 .left), (half-small _ _ _ k (c .before .before .if3 .left), asked-room (c .before .before .before .before .before .before .before .before .before .before .before .before .before .before .before .before .before .before .before .before .before .before .pre .1 .0) (c .before .before .before .before .before .before .before .before .before .before .before .check2 .last .1 .1 .1 .1 .1 .0) (c .before .before .before .before .before .before .before .before .before .before .before .check2 .kept .1 .1 .1 .1 .1 .0 ∙ c .before .before .before .before .before .before .before .before .before .before .before .before .before .before .before .before .before .check .kept .1 .1 .1 .1 .1 .0)))
-
-binary-same-length-4 : (t : ℕ) → binary-lts.Need-same-length-4 (binary-calls t) (binary-at t) binary.Post
-binary-same-length-4 t c = search needs
-
-binary-returns-4 : (t : ℕ) → binary-lts.Need-returns-4 (binary-calls t) (binary-at t) binary.Post
-binary-returns-4 t c = λ d h.
-    let p = passed _ _ _ _ (c .before .before .before .before .before .before .before .before .before .before .before .before .before .before .before .before .before .before .before .before .check .ensures d h) (c .before .before .before .before .before .before .before .before .before .before .before .before .before .before .before .before .if1 .left) in
-    let q = passed _ _ _ _ (c .before .before .before .before .before .before .before .before .before .before .before .before .before .before .check2 .ensures d h) (c .before .before .before .before .before .before .before .before .before .before .if2 .left) in
-    binary-passes _ _ _ _ _ _ _ _ _ p _ _ q (c .before .before .before .before .before .before .before .binary-half .result) (c .before .before .before .before .before .before .before .binary-half .ensures _ _ (p .passes .holds) (q .passes .holds)) (c .before .before .note-row .result) _ (c .before .before .before .before .before .if3 .left) (c .before .before .note-row .ensures)
+    let w = two _ _ _ _ _ _ _ _ _ _ (c .before .before .before .before .before .before .before .before .before .before .before .before .before .before .before .before .before .before .before .check .ensures d h) (c .before .before .before .before .before .before .before .before .before .before .before .before .before .before .before .check2 .ensures d h) (c .before .before .before .before .before .before .before .before .before .before .before .before .together .ensures) in
+    let z = not-false _ (c .before .before .before .before .before .before .before .before .before .before .if1 .left) in
+    binary-passes _ _ w z (c .before .before .before .before .before .before .before .binary-half .result) (c .before .before .before .before .before .before .before .binary-half .ensures _ _ (left w z .passes .holds) (right w z .passes .holds)) (c .before .before .note-row .result) _ (c .before .before .before .before .before .if2 .left) (c .before .before .note-row .ensures)
 
 check-expression-row-requires : (t : ℕ) → check-lts.Need-expression-row-requires (check-calls t) (check-at t) check.Post
 check-expression-row-requires t c κs = (c .before .before .before .before .pre .1 .ready .tables .expressions, (omega (arith, c .before .before .before .before .pre .1 .here, c .before .before .before .before .pre .1 .ready .tables .expressions .count), row-known _ (c .before .before .before .before .pre .1 .ready .accepted) _ (c .before .before .before .before .pre .1 .here)))
@@ -258,8 +247,8 @@ check-note-row-requires-2 t c κs = (record { body = _; holds = c .before .varia
 check-enum-told-2 : (t : ℕ) → check-lts.Need-enum-told-2 (check-calls t) (check-at t) check.Post
 check-enum-told-2 t c = search needs
 
-check-note-row-requires-3 : (t : ℕ) → check-lts.Need-note-row-requires-3 (check-calls t) (check-at t) check.Post
-check-note-row-requires-3 t c κs = (c .before .before .before .before .before .before .before .before .pre .1 .held, (omega arith, asked-room (c .before .before .before .before .before .before .before .before .pre .1) (now (c .before .before .before .before .before .before .before .before .args .layout)) refl))
+check-note-current-requires : (t : ℕ) → check-lts.Need-note-current-requires (check-calls t) (check-at t) check.Post
+check-note-current-requires t c κs = (c .before .before .before .before .before .before .before .before .pre .1 .held, asked-room (c .before .before .before .before .before .before .before .before .pre .1) (now (c .before .before .before .before .before .before .before .before .args .layout)) refl)
 
 check-enum-known-e-2 : (t : ℕ) → check-lts.Need-enum-known-e-2 (check-calls t) (check-at t) check.Post
 check-enum-known-e-2 t c = search needs
@@ -307,21 +296,21 @@ check-same-length t c = search needs
 
 check-returns : (t : ℕ) → check-lts.Need-returns (check-calls t) (check-at t) check.Post
 unfolding rowTree
-check-returns t c = λ b h. rw (tree-at (now (c .before .before .before .before .before .before .before .before .before .before .before .before .args .rows)) (c .before .before .before .before .before .before .before .before .before .before .before .before .pre .1 .ready .accepted) (c .before .before .before .before .before .before .before .before .before .before .before .before .args .row) (c .before .before .before .before .before .before .before .before .before .before .before .before .pre .1 .here) _ _ (c .before .before .before .before .before .before .before .expression-row .ensures) (c .before .before .before .before .before .enum-told .given .1)) (constant-passes (c .before .before .note-row .result) _ _ _ _ (c .before .before .note-row .ensures) _ b _ (c .before .before .before .before .constant-body .ensures))
+check-returns t c = λ b h. rw (tree-at (now (c .before .before .before .before .before .before .before .before .before .before .before .before .args .rows)) (c .before .before .before .before .before .before .before .before .before .before .before .before .pre .1 .ready .accepted) (c .before .before .before .before .before .before .before .before .before .before .before .before .args .row) (c .before .before .before .before .before .before .before .before .before .before .before .before .pre .1 .here) _ _ (c .before .before .before .before .before .before .before .expression-row .ensures) (c .before .before .before .before .before .enum-told .given .1)) (constant-passes (c .before .before .note-row .result) _ _ _ _ (c .before .before .note-row .ensures) _ _ _ (c .before .before .before .before .constant-body .ensures))
 
 check-same-length-2 : (t : ℕ) → check-lts.Need-same-length-2 (check-calls t) (check-at t) check.Post
 check-same-length-2 t c = search needs
 
 check-returns-2 : (t : ℕ) → check-lts.Need-returns-2 (check-calls t) (check-at t) check.Post
 unfolding rowTree
-check-returns-2 t c = λ b h. rw (tree-at (now (c .before .before .before .before .before .before .before .before .before .before .before .before .before .args .rows)) (c .before .before .before .before .before .before .before .before .before .before .before .before .before .pre .1 .ready .accepted) (c .before .before .before .before .before .before .before .before .before .before .before .before .before .args .row) (c .before .before .before .before .before .before .before .before .before .before .before .before .before .pre .1 .here) _ _ (c .before .before .before .before .before .before .before .before .expression-row .ensures) (c .before .before .before .before .before .before .e .given .1)) (variable-passes (c .before .before .note-row2 .result) _ _ _ _ (c .before .before .note-row2 .ensures) _ b _ (c .before .before .before .before .variable-body .ensures))
+check-returns-2 t c = λ b h. rw (tree-at (now (c .before .before .before .before .before .before .before .before .before .before .before .before .before .args .rows)) (c .before .before .before .before .before .before .before .before .before .before .before .before .before .pre .1 .ready .accepted) (c .before .before .before .before .before .before .before .before .before .before .before .before .before .args .row) (c .before .before .before .before .before .before .before .before .before .before .before .before .before .pre .1 .here) _ _ (c .before .before .before .before .before .before .before .before .expression-row .ensures) (c .before .before .before .before .before .before .e .given .1)) (variable-passes (c .before .before .note-row2 .result) _ _ _ _ (c .before .before .note-row2 .ensures) _ _ _ (c .before .before .before .before .variable-body .ensures))
 
 check-same-length-3 : (t : ℕ) → check-lts.Need-same-length-3 (check-calls t) (check-at t) check.Post
 check-same-length-3 t c = search needs
 
 check-returns-3 : (t : ℕ) → check-lts.Need-returns-3 (check-calls t) (check-at t) check.Post
 unfolding rowTree
-check-returns-3 t c = λ b h. rw (tree-at (now (c .before .before .before .before .before .before .before .before .before .before .before .args .rows)) (c .before .before .before .before .before .before .before .before .before .before .before .pre .1 .ready .accepted) (c .before .before .before .before .before .before .before .before .before .before .before .args .row) (c .before .before .before .before .before .before .before .before .before .before .before .pre .1 .here) _ _ (c .before .before .before .before .before .before .expression-row .ensures) (c .before .before .before .before .enum-told2 .given .1)) (current-passes (c .before .before .note-row3 .result) _ _ _ _ (c .before .before .note-row3 .ensures) _ b h)
+check-returns-3 t c = λ b h. rw (tree-at (now (c .before .before .before .before .before .before .before .before .before .before .before .args .rows)) (c .before .before .before .before .before .before .before .before .before .before .before .pre .1 .ready .accepted) (c .before .before .before .before .before .before .before .before .before .before .before .args .row) (c .before .before .before .before .before .before .before .before .before .before .before .pre .1 .here) _ _ (c .before .before .before .before .before .before .expression-row .ensures) (c .before .before .before .before .enum-told2 .given .1)) (c .before .before .note-current .ensures _ b h)
 
 check-same-length-4 : (t : ℕ) → check-lts.Need-same-length-4 (check-calls t) (check-at t) check.Post
 check-same-length-4 t c = search needs
@@ -361,140 +350,127 @@ check-returns-8 t c = λ b h. rw (tree-at (now (c .before .before .before .befor
 choice-check-requires : (t : ℕ) → choice-lts.Need-check-requires (choice-calls t) (choice-at t) choice.Post
 choice-check-requires t c κs = (omega (arith, c .before .before .before .before .pre .0, c .before .before .before .before .pre .1 .1 .0), asked-below (c .before .before .before .before .pre .1 .0) _ (c .before .before .before .before .pre .1 .1 .0) (c .before .before .before .before .pre .1 .0 .held) refl)
 
+choice-check-requires-2 : (t : ℕ) → choice-lts.Need-check-requires-2 (choice-calls t) (choice-at t) choice.Post
+choice-check-requires-2 t c κs = (omega (arith, c .before .before .before .before .before .before .before .before .pre .0, c .before .before .before .before .before .before .before .before .pre .1 .1 .1 .0), asked-below (c .before .before .before .before .before .before .before .before .pre .1 .0) _ (c .before .before .before .before .before .before .before .before .pre .1 .1 .1 .0) (c .before .before .before .before .before .before .before .before .pre .1 .0 .held) (c .before .before .before .check .kept .1 .1 .1 .1 .1 .1 .0))
+
+choice-check-requires-3 : (t : ℕ) → choice-lts.Need-check-requires-3 (choice-calls t) (choice-at t) choice.Post
+choice-check-requires-3 t c κs = (omega (arith, c .before .before .before .before .before .before .before .before .before .before .before .before .pre .0, c .before .before .before .before .before .before .before .before .before .before .before .before .pre .1 .1 .1 .1), asked-below (c .before .before .before .before .before .before .before .before .before .before .before .before .pre .1 .0) _ (c .before .before .before .before .before .before .before .before .before .before .before .before .pre .1 .1 .1 .1) (c .before .before .before .before .before .before .before .before .before .before .before .before .pre .1 .0 .held) (c .before .before .before .check2 .kept .1 .1 .1 .1 .1 .1 .0 ∙ c .before .before .before .before .before .before .before .check .kept .1 .1 .1 .1 .1 .1 .0))
+
+choice-together-requires : (t : ℕ) → choice-lts.Need-together-requires (choice-calls t) (choice-at t) choice.Post
+choice-together-requires t c κs = search needs
+
+choice-together-requires-2 : (t : ℕ) → choice-lts.Need-together-requires-2 (choice-calls t) (choice-at t) choice.Post
+choice-together-requires-2 t c κs = search needs
+
 choice-same-length : (t : ℕ) → choice-lts.Need-same-length (choice-calls t) (choice-at t) choice.Post
-choice-same-length t c = search needs
+choice-same-length t c = c .before .before .before .before .before .before .check3 .kept .1 .1 .1 .1 .1 .1 .0 ∙ c .before .before .before .before .before .before .before .before .before .before .check2 .kept .1 .1 .1 .1 .1 .1 .0 ∙ c .before .before .before .before .before .before .before .before .before .before .before .before .before .before .check .kept .1 .1 .1 .1 .1 .1 .0
 
 choice-returns : (t : ℕ) → choice-lts.Need-returns (choice-calls t) (choice-at t) choice.Post
-choice-returns t c = λ d h. choice-test _ _ _ _ _ _ (c .before .before .before .before .check .result) _ _ _ _ (c .before .before .before .before .check .ensures d h) (c .if1 .taken)
+choice-returns t c = λ d h. choice-operands _ (three _ _ _ _ _ _ _ _ _ _ _ _ _ _ (c .before .before .before .before .before .before .before .before .before .before .before .before .before .before .check .ensures d h) (two _ _ _ _ _ _ _ _ _ _ (c .before .before .before .before .before .before .before .before .before .before .check2 .ensures d h) (c .before .before .before .before .before .before .check3 .ensures d h) (c .before .before .before .together .ensures)) (c .before .before .together2 .ensures)) _ _ (not-true _ (c .if1 .taken))
 
 choice-is-boolean-requires : (t : ℕ) → choice-lts.Need-is-boolean-requires (choice-calls t) (choice-at t) choice.Post
 choice-is-boolean-requires t c κs = search needs
 
 choice-fault-requires : (t : ℕ) → choice-lts.Need-fault-requires (choice-calls t) (choice-at t) choice.Post
-choice-fault-requires t c κs = asked-small (c .before .before .before .before .before .before .before .before .before .before .before .before .pre .1 .0)
+choice-fault-requires t c κs = asked-small (c .before .before .before .before .before .before .before .before .before .before .before .before .before .before .before .before .before .before .before .before .before .before .pre .1 .0)
 
 choice-same-length-2 : (t : ℕ) → choice-lts.Need-same-length-2 (choice-calls t) (choice-at t) choice.Post
-choice-same-length-2 t c = search needs
+choice-same-length-2 t c = c .before .before .before .before .before .before .before .before .before .before .check3 .kept .1 .1 .1 .1 .1 .1 .0 ∙ c .before .before .before .before .before .before .before .before .before .before .before .before .before .before .check2 .kept .1 .1 .1 .1 .1 .1 .0 ∙ c .before .before .before .before .before .before .before .before .before .before .before .before .before .before .before .before .before .before .check .kept .1 .1 .1 .1 .1 .1 .0
 
 choice-returns-2 : (t : ℕ) → choice-lts.Need-returns-2 (choice-calls t) (choice-at t) choice.Post
 choice-returns-2 t c = λ d h.
-    let p = passed _ _ _ _ (c .before .before .before .before .before .before .before .before .check .ensures d h) (c .before .before .before .before .if1 .left) in
-    choice-test-own _ _ _ _ _ _ _ _ _ p (c .fault .result) _ _ (sym (c .before .before .is-boolean .ensures _ (p .passes .holds)) ∙ not-true _ (c .before .if2 .taken)) (c .fault .ensures)
-
-choice-check-requires-2 : (t : ℕ) → choice-lts.Need-check-requires-2 (choice-calls t) (choice-at t) choice.Post
-choice-check-requires-2 t c κs = (omega (arith, c .before .before .before .before .before .before .before .before .before .before .before .before .before .pre .0, c .before .before .before .before .before .before .before .before .before .before .before .before .before .pre .1 .1 .1 .0), asked-below (c .before .before .before .before .before .before .before .before .before .before .before .before .before .pre .1 .0) _ (c .before .before .before .before .before .before .before .before .before .before .before .before .before .pre .1 .1 .1 .0) (c .before .before .before .before .before .before .before .before .before .before .before .before .before .pre .1 .0 .held) (c .before .before .before .before .before .before .before .before .check .kept .1 .1 .1 .1 .1 .0))
-
-choice-same-length-3 : (t : ℕ) → choice-lts.Need-same-length-3 (choice-calls t) (choice-at t) choice.Post
-choice-same-length-3 t c = search needs
-
-choice-returns-3 : (t : ℕ) → choice-lts.Need-returns-3 (choice-calls t) (choice-at t) choice.Post
-choice-returns-3 t c = λ d h.
-    let p = passed _ _ _ _ (c .before .before .before .before .before .before .before .before .before .before .before .before .before .check .ensures d h) (c .before .before .before .before .before .before .before .before .before .if1 .left) in
-    choice-first _ _ _ _ _ _ _ _ _ p (sym (c .before .before .before .before .before .before .before .is-boolean .ensures _ (p .passes .holds)) ∙ not-false _ (c .before .before .before .before .before .before .if2 .left)) (c .before .before .before .before .check2 .result) _ _ _ _ (c .before .before .before .before .check2 .ensures d h) (c .if3 .taken)
-
-choice-check-requires-3 : (t : ℕ) → choice-lts.Need-check-requires-3 (choice-calls t) (choice-at t) choice.Post
-choice-check-requires-3 t c κs = (omega (arith, c .before .before .before .before .before .before .before .before .before .before .before .before .before .before .before .before .before .before .before .pre .0, c .before .before .before .before .before .before .before .before .before .before .before .before .before .before .before .before .before .before .before .pre .1 .1 .1 .1), asked-below (c .before .before .before .before .before .before .before .before .before .before .before .before .before .before .before .before .before .before .before .pre .1 .0) _ (c .before .before .before .before .before .before .before .before .before .before .before .before .before .before .before .before .before .before .before .pre .1 .1 .1 .1) (c .before .before .before .before .before .before .before .before .before .before .before .before .before .before .before .before .before .before .before .pre .1 .0 .held) (c .before .before .before .before .before .check2 .kept .1 .1 .1 .1 .1 .0 ∙ c .before .before .before .before .before .before .before .before .before .before .before .before .before .before .check .kept .1 .1 .1 .1 .1 .0))
-
-choice-same-length-4 : (t : ℕ) → choice-lts.Need-same-length-4 (choice-calls t) (choice-at t) choice.Post
-choice-same-length-4 t c = search needs
-
-choice-returns-4 : (t : ℕ) → choice-lts.Need-returns-4 (choice-calls t) (choice-at t) choice.Post
-choice-returns-4 t c = λ d h.
-    let p = passed _ _ _ _ (c .before .before .before .before .before .before .before .before .before .before .before .before .before .before .before .before .before .before .before .check .ensures d h) (c .before .before .before .before .before .before .before .before .before .before .before .before .before .before .before .if1 .left) in
-    let q = passed _ _ _ _ (c .before .before .before .before .before .before .before .before .before .before .check2 .ensures d h) (c .before .before .before .before .before .before .if3 .left) in
-    choice-second _ _ _ _ _ _ _ _ _ p (sym (c .before .before .before .before .before .before .before .before .before .before .before .before .before .is-boolean .ensures _ (p .passes .holds)) ∙ not-false _ (c .before .before .before .before .before .before .before .before .before .before .before .before .if2 .left)) _ _ q (c .before .before .before .before .check3 .result) _ _ _ _ (c .before .before .before .before .check3 .ensures d h) (c .if4 .taken)
+    let w = three _ _ _ _ _ _ _ _ _ _ _ _ _ _ (c .before .before .before .before .before .before .before .before .before .before .before .before .before .before .before .before .before .before .check .ensures d h) (two _ _ _ _ _ _ _ _ _ _ (c .before .before .before .before .before .before .before .before .before .before .before .before .before .before .check2 .ensures d h) (c .before .before .before .before .before .before .before .before .before .before .check3 .ensures d h) (c .before .before .before .before .before .before .before .together .ensures)) (c .before .before .before .before .before .before .together2 .ensures) in
+    let z = not-false _ (c .before .before .before .before .if1 .left) in
+    choice-test-own _ w z (c .fault .result) _ _ (sym (c .before .before .is-boolean .ensures _ (test w z .passes .holds)) ∙ not-true _ (c .before .if2 .taken)) (c .fault .ensures)
 
 choice-same-requires : (t : ℕ) → choice-lts.Need-same-requires (choice-calls t) (choice-at t) choice.Post
 choice-same-requires t c κs = search needs
 
 choice-fault-requires-2 : (t : ℕ) → choice-lts.Need-fault-requires-2 (choice-calls t) (choice-at t) choice.Post
-choice-fault-requires-2 t c κs = asked-small (c .before .before .before .before .before .before .before .before .before .before .before .before .before .before .before .before .before .before .before .before .before .before .before .before .before .before .before .before .pre .1 .0)
+choice-fault-requires-2 t c κs = asked-small (c .before .before .before .before .before .before .before .before .before .before .before .before .before .before .before .before .before .before .before .before .before .before .before .before .before .before .pre .1 .0)
 
-choice-same-length-5 : (t : ℕ) → choice-lts.Need-same-length-5 (choice-calls t) (choice-at t) choice.Post
-choice-same-length-5 t c = c .before .before .before .before .before .before .before .before .before .check3 .kept .1 .1 .1 .1 .1 .0 ∙ c .before .before .before .before .before .before .before .before .before .before .before .before .before .before .before .check2 .kept .1 .1 .1 .1 .1 .0 ∙ c .before .before .before .before .before .before .before .before .before .before .before .before .before .before .before .before .before .before .before .before .before .before .before .before .check .kept .1 .1 .1 .1 .1 .0
+choice-same-length-3 : (t : ℕ) → choice-lts.Need-same-length-3 (choice-calls t) (choice-at t) choice.Post
+choice-same-length-3 t c = c .before .before .before .before .before .before .before .before .before .before .before .before .before .before .check3 .kept .1 .1 .1 .1 .1 .1 .0 ∙ c .before .before .before .before .before .before .before .before .before .before .before .before .before .before .before .before .before .before .check2 .kept .1 .1 .1 .1 .1 .1 .0 ∙ c .before .before .before .before .before .before .before .before .before .before .before .before .before .before .before .before .before .before .before .before .before .before .check .kept .1 .1 .1 .1 .1 .1 .0
 
-choice-returns-5 : (t : ℕ) → choice-lts.Need-returns-5 (choice-calls t) (choice-at t) choice.Post
-choice-returns-5 t c = λ d h.
-    let p = passed _ _ _ _ (c .before .before .before .before .before .before .before .before .before .before .before .before .before .before .before .before .before .before .before .before .before .before .before .before .check .ensures d h) (c .before .before .before .before .before .before .before .before .before .before .before .before .before .before .before .before .before .before .before .before .if1 .left) in
-    let q = passed _ _ _ _ (c .before .before .before .before .before .before .before .before .before .before .before .before .before .before .before .check2 .ensures d h) (c .before .before .before .before .before .before .before .before .before .before .before .if3 .left) in
-    let w = passed _ _ _ _ (c .before .before .before .before .before .before .before .before .before .check3 .ensures d h) (c .before .before .before .before .before .if4 .left) in
-    choice-own _ _ _ _ _ _ _ _ _ p (sym (c .before .before .before .before .before .before .before .before .before .before .before .before .before .before .before .before .before .before .is-boolean .ensures _ (p .passes .holds)) ∙ not-false _ (c .before .before .before .before .before .before .before .before .before .before .before .before .before .before .before .before .before .if2 .left)) _ _ q _ _ w (c .fault2 .result) _ _ (sym (c .before .before .same .ensures _ _ (q .passes .holds) (w .passes .holds)) ∙ not-true _ (c .before .if5 .taken)) (c .fault2 .ensures)
+choice-returns-3 : (t : ℕ) → choice-lts.Need-returns-3 (choice-calls t) (choice-at t) choice.Post
+choice-returns-3 t c = λ d h.
+    let w = three _ _ _ _ _ _ _ _ _ _ _ _ _ _ (c .before .before .before .before .before .before .before .before .before .before .before .before .before .before .before .before .before .before .before .before .before .before .check .ensures d h) (two _ _ _ _ _ _ _ _ _ _ (c .before .before .before .before .before .before .before .before .before .before .before .before .before .before .before .before .before .before .check2 .ensures d h) (c .before .before .before .before .before .before .before .before .before .before .before .before .before .before .check3 .ensures d h) (c .before .before .before .before .before .before .before .before .before .before .before .together .ensures)) (c .before .before .before .before .before .before .before .before .before .before .together2 .ensures) in
+    let z = not-false _ (c .before .before .before .before .before .before .before .before .if1 .left) in
+    choice-own _ w z (sym (c .before .before .before .before .before .before .is-boolean .ensures _ (test w z .passes .holds)) ∙ not-false _ (c .before .before .before .before .before .if2 .left)) (c .fault2 .result) _ _ (sym (c .before .before .same .ensures _ _ (left (w .others) (branches w z) .passes .holds) (right (w .others) (branches w z) .passes .holds)) ∙ not-true _ (c .before .if3 .taken)) (c .fault2 .ensures)
 
 choice-note-row-requires : (t : ℕ) → choice-lts.Need-note-row-requires (choice-calls t) (choice-at t) choice.Post
 choice-note-row-requires t c κs =
-    (result-held _ _ _ _ (c .before .before .before .before .before .before .before .before .before .before .before .before .before .before .before .check2 .ensures _ (c .before .before .before .before .before .before .before .before .before .before .before .before .before .before .before .before .before .before .before .before .before .before .before .before .before .before .before .before .before .pre .1 .0 .held .holds)) (c .before .before .before .before .before .before .before .before .before .before .before .if3 .left), (omega arith, asked-room (c .before .before .before .before .before .before .before .before .before .before .before .before .before .before .before .before .before .before .before .before .before .before .before .before .before .before .before .before .before .pre .1 .0) (c .before .before .before .before .before .before .before .before .before .check3 .last .1 .1 .1 .1 .1 .0) (c .before .before .before .before .before .before .before .before .before .check3 .kept .1 .1 .1 .1 .1 .0 ∙ c .before .before .before .before .before .before .before .before .before .before .before .before .before .before .before .check2 .kept .1 .1 .1 .1 .1 .0 ∙ c .before .before .before .before .before .before .before .before .before .before .before .before .before .before .before .before .before .before .before .before .before .before .before .before .check .kept .1 .1 .1 .1 .1 .0)))
+    let w = three _ _ _ _ _ _ _ _ _ _ _ _ _ _ (c .before .before .before .before .before .before .before .before .before .before .before .before .before .before .before .before .before .before .before .before .before .before .check .ensures _ (c .before .before .before .before .before .before .before .before .before .before .before .before .before .before .before .before .before .before .before .before .before .before .before .before .before .before .before .pre .1 .0 .held .holds)) (two _ _ _ _ _ _ _ _ _ _ (c .before .before .before .before .before .before .before .before .before .before .before .before .before .before .before .before .before .before .check2 .ensures _ (c .before .before .before .before .before .before .before .before .before .before .before .before .before .before .before .before .before .before .before .before .before .before .before .before .before .before .before .pre .1 .0 .held .holds)) (c .before .before .before .before .before .before .before .before .before .before .before .before .before .before .check3 .ensures _ (c .before .before .before .before .before .before .before .before .before .before .before .before .before .before .before .before .before .before .before .before .before .before .before .before .before .before .before .pre .1 .0 .held .holds)) (c .before .before .before .before .before .before .before .before .before .before .before .together .ensures)) (c .before .before .before .before .before .before .before .before .before .before .together2 .ensures) in
+    let z = not-false _ (c .before .before .before .before .before .before .before .before .if1 .left) in
+    (left-held (w .others) (branches w z), (omega arith, asked-room (c .before .before .before .before .before .before .before .before .before .before .before .before .before .before .before .before .before .before .before .before .before .before .before .before .before .before .before .pre .1 .0) (c .before .before .before .before .before .before .before .before .before .before .before .before .before .before .check3 .last .1 .1 .1 .1 .1 .1 .0) (c .before .before .before .before .before .before .before .before .before .before .before .before .before .before .check3 .kept .1 .1 .1 .1 .1 .1 .0 ∙ c .before .before .before .before .before .before .before .before .before .before .before .before .before .before .before .before .before .before .check2 .kept .1 .1 .1 .1 .1 .1 .0 ∙ c .before .before .before .before .before .before .before .before .before .before .before .before .before .before .before .before .before .before .before .before .before .before .check .kept .1 .1 .1 .1 .1 .1 .0)))
 
-choice-same-length-6 : (t : ℕ) → choice-lts.Need-same-length-6 (choice-calls t) (choice-at t) choice.Post
-choice-same-length-6 t c = c .before .before .note-row .kept .1 .1 .1 .0 ∙ c .before .before .before .before .before .before .before .before .before .before .before .before .check3 .kept .1 .1 .1 .1 .1 .0 ∙ c .before .before .before .before .before .before .before .before .before .before .before .before .before .before .before .before .before .before .check2 .kept .1 .1 .1 .1 .1 .0 ∙ c .before .before .before .before .before .before .before .before .before .before .before .before .before .before .before .before .before .before .before .before .before .before .before .before .before .before .before .check .kept .1 .1 .1 .1 .1 .0
+choice-same-length-4 : (t : ℕ) → choice-lts.Need-same-length-4 (choice-calls t) (choice-at t) choice.Post
+choice-same-length-4 t c = c .before .before .note-row .kept .1 .1 .1 .0 ∙ c .before .before .before .before .before .before .before .before .before .before .before .before .before .before .before .before .before .check3 .kept .1 .1 .1 .1 .1 .1 .0 ∙ c .before .before .before .before .before .before .before .before .before .before .before .before .before .before .before .before .before .before .before .before .before .check2 .kept .1 .1 .1 .1 .1 .1 .0 ∙ c .before .before .before .before .before .before .before .before .before .before .before .before .before .before .before .before .before .before .before .before .before .before .before .before .before .check .kept .1 .1 .1 .1 .1 .1 .0
 
-choice-returns-6 : (t : ℕ) → choice-lts.Need-returns-6 (choice-calls t) (choice-at t) choice.Post
-choice-returns-6 t c = λ d h.
-    let p = passed _ _ _ _ (c .before .before .before .before .before .before .before .before .before .before .before .before .before .before .before .before .before .before .before .before .before .before .before .before .before .before .before .check .ensures d h) (c .before .before .before .before .before .before .before .before .before .before .before .before .before .before .before .before .before .before .before .before .before .before .before .if1 .left) in
-    let q = passed _ _ _ _ (c .before .before .before .before .before .before .before .before .before .before .before .before .before .before .before .before .before .before .check2 .ensures d h) (c .before .before .before .before .before .before .before .before .before .before .before .before .before .before .if3 .left) in
-    let w = passed _ _ _ _ (c .before .before .before .before .before .before .before .before .before .before .before .before .check3 .ensures d h) (c .before .before .before .before .before .before .before .before .if4 .left) in
-    choice-passes _ _ _ _ _ _ _ _ _ p (sym (c .before .before .before .before .before .before .before .before .before .before .before .before .before .before .before .before .before .before .before .before .before .is-boolean .ensures _ (p .passes .holds)) ∙ not-false _ (c .before .before .before .before .before .before .before .before .before .before .before .before .before .before .before .before .before .before .before .before .if2 .left)) _ _ q _ _ w (c .before .before .note-row .result) _ (sym (c .before .before .before .before .before .same .ensures _ _ (q .passes .holds) (w .passes .holds)) ∙ not-false _ (c .before .before .before .before .if5 .left)) (c .before .before .note-row .ensures)
+choice-returns-4 : (t : ℕ) → choice-lts.Need-returns-4 (choice-calls t) (choice-at t) choice.Post
+choice-returns-4 t c = λ d h.
+    let w = three _ _ _ _ _ _ _ _ _ _ _ _ _ _ (c .before .before .before .before .before .before .before .before .before .before .before .before .before .before .before .before .before .before .before .before .before .before .before .before .before .check .ensures d h) (two _ _ _ _ _ _ _ _ _ _ (c .before .before .before .before .before .before .before .before .before .before .before .before .before .before .before .before .before .before .before .before .before .check2 .ensures d h) (c .before .before .before .before .before .before .before .before .before .before .before .before .before .before .before .before .before .check3 .ensures d h) (c .before .before .before .before .before .before .before .before .before .before .before .before .before .before .together .ensures)) (c .before .before .before .before .before .before .before .before .before .before .before .before .before .together2 .ensures) in
+    let z = not-false _ (c .before .before .before .before .before .before .before .before .before .before .before .if1 .left) in
+    choice-passes _ w z (sym (c .before .before .before .before .before .before .before .before .before .is-boolean .ensures _ (test w z .passes .holds)) ∙ not-false _ (c .before .before .before .before .before .before .before .before .if2 .left)) (c .before .before .note-row .result) _ (sym (c .before .before .before .before .before .same .ensures _ _ (left (w .others) (branches w z) .passes .holds) (right (w .others) (branches w z) .passes .holds)) ∙ not-false _ (c .before .before .before .before .if3 .left)) (c .before .before .note-row .ensures)
 
 lazy-check-requires : (t : ℕ) → lazy-lts.Need-check-requires (lazy-calls t) (lazy-at t) lazy.Post
 lazy-check-requires t c κs = (omega (arith, c .before .before .before .before .pre .0, c .before .before .before .before .pre .1 .1 .0), asked-below (c .before .before .before .before .pre .1 .0) _ (c .before .before .before .before .pre .1 .1 .0) (c .before .before .before .before .pre .1 .0 .held) refl)
+
+lazy-check-requires-2 : (t : ℕ) → lazy-lts.Need-check-requires-2 (lazy-calls t) (lazy-at t) lazy.Post
+lazy-check-requires-2 t c κs = (omega (arith, c .before .before .before .before .before .before .before .before .pre .0, c .before .before .before .before .before .before .before .before .pre .1 .1 .1), asked-below (c .before .before .before .before .before .before .before .before .pre .1 .0) _ (c .before .before .before .before .before .before .before .before .pre .1 .1 .1) (c .before .before .before .before .before .before .before .before .pre .1 .0 .held) (c .before .before .before .check .kept .1 .1 .1 .1 .1 .1 .0))
+
+lazy-together-requires : (t : ℕ) → lazy-lts.Need-together-requires (lazy-calls t) (lazy-at t) lazy.Post
+lazy-together-requires t c κs = search needs
 
 lazy-same-length : (t : ℕ) → lazy-lts.Need-same-length (lazy-calls t) (lazy-at t) lazy.Post
 lazy-same-length t c = search needs
 
 lazy-returns : (t : ℕ) → lazy-lts.Need-returns (lazy-calls t) (lazy-at t) lazy.Post
-lazy-returns t c = λ k d h. lazy-first _ _ _ _ _ _ (c .before .before .before .before .check .result) _ _ _ _ (c .before .before .before .before .check .ensures d h) (c .if1 .taken)
+lazy-returns t c = λ k d h. lazy-operands _ k (two _ _ _ _ _ _ _ _ _ _ (c .before .before .before .before .before .before .before .before .before .check .ensures d h) (c .before .before .before .before .before .check2 .ensures d h) (c .before .before .together .ensures)) _ _ (not-true _ (c .if1 .taken))
 
 lazy-is-boolean-requires : (t : ℕ) → lazy-lts.Need-is-boolean-requires (lazy-calls t) (lazy-at t) lazy.Post
 lazy-is-boolean-requires t c κs = search needs
 
 lazy-fault-requires : (t : ℕ) → lazy-lts.Need-fault-requires (lazy-calls t) (lazy-at t) lazy.Post
-lazy-fault-requires t c κs = asked-small (c .before .before .before .before .before .before .before .before .before .before .before .before .pre .1 .0)
+lazy-fault-requires t c κs = asked-small (c .before .before .before .before .before .before .before .before .before .before .before .before .before .before .before .before .before .pre .1 .0)
 
 lazy-same-length-2 : (t : ℕ) → lazy-lts.Need-same-length-2 (lazy-calls t) (lazy-at t) lazy.Post
 lazy-same-length-2 t c = search needs
 
 lazy-returns-2 : (t : ℕ) → lazy-lts.Need-returns-2 (lazy-calls t) (lazy-at t) lazy.Post
 lazy-returns-2 t c = λ k d h.
-    let p = passed _ _ _ _ (c .before .before .before .before .before .before .before .before .check .ensures d h) (c .before .before .before .before .if1 .left) in
-    lazy-first-own _ _ _ _ _ _ _ _ _ p (c .fault .result) _ _ (sym (c .before .before .is-boolean .ensures _ (p .passes .holds)) ∙ not-true _ (c .before .if2 .taken)) (c .fault .ensures)
+    let w = two _ _ _ _ _ _ _ _ _ _ (c .before .before .before .before .before .before .before .before .before .before .before .before .before .check .ensures d h) (c .before .before .before .before .before .before .before .before .before .check2 .ensures d h) (c .before .before .before .before .before .before .together .ensures) in
+    let z = not-false _ (c .before .before .before .before .if1 .left) in
+    lazy-first-own _ k w z (c .fault .result) _ _ (sym (c .before .before .is-boolean .ensures _ (left w z .passes .holds)) ∙ not-true _ (c .before .if2 .taken)) (c .fault .ensures)
 
-lazy-check-requires-2 : (t : ℕ) → lazy-lts.Need-check-requires-2 (lazy-calls t) (lazy-at t) lazy.Post
-lazy-check-requires-2 t c κs = (omega (arith, c .before .before .before .before .before .before .before .before .before .before .before .before .before .pre .0, c .before .before .before .before .before .before .before .before .before .before .before .before .before .pre .1 .1 .1), asked-below (c .before .before .before .before .before .before .before .before .before .before .before .before .before .pre .1 .0) _ (c .before .before .before .before .before .before .before .before .before .before .before .before .before .pre .1 .1 .1) (c .before .before .before .before .before .before .before .before .before .before .before .before .before .pre .1 .0 .held) (c .before .before .before .before .before .before .before .before .check .kept .1 .1 .1 .1 .1 .0))
+lazy-is-boolean-requires-2 : (t : ℕ) → lazy-lts.Need-is-boolean-requires-2 (lazy-calls t) (lazy-at t) lazy.Post
+lazy-is-boolean-requires-2 t c κs = search needs
+
+lazy-fault-requires-2 : (t : ℕ) → lazy-lts.Need-fault-requires-2 (lazy-calls t) (lazy-at t) lazy.Post
+lazy-fault-requires-2 t c κs = asked-small (c .before .before .before .before .before .before .before .before .before .before .before .before .before .before .before .before .before .before .before .before .pre .1 .0)
 
 lazy-same-length-3 : (t : ℕ) → lazy-lts.Need-same-length-3 (lazy-calls t) (lazy-at t) lazy.Post
 lazy-same-length-3 t c = search needs
 
 lazy-returns-3 : (t : ℕ) → lazy-lts.Need-returns-3 (lazy-calls t) (lazy-at t) lazy.Post
 lazy-returns-3 t c = λ k d h.
-    let p = passed _ _ _ _ (c .before .before .before .before .before .before .before .before .before .before .before .before .before .check .ensures d h) (c .before .before .before .before .before .before .before .before .before .if1 .left) in
-    lazy-second _ _ _ _ _ _ _ _ _ p (sym (c .before .before .before .before .before .before .before .is-boolean .ensures _ (p .passes .holds)) ∙ not-false _ (c .before .before .before .before .before .before .if2 .left)) (c .before .before .before .before .check2 .result) _ _ _ _ (c .before .before .before .before .check2 .ensures d h) (c .if3 .taken)
+    let w = two _ _ _ _ _ _ _ _ _ _ (c .before .before .before .before .before .before .before .before .before .before .before .before .before .before .before .before .check .ensures d h) (c .before .before .before .before .before .before .before .before .before .before .before .before .check2 .ensures d h) (c .before .before .before .before .before .before .before .before .before .together .ensures) in
+    let z = not-false _ (c .before .before .before .before .before .before .before .if1 .left) in
+    lazy-second-own _ k w z (sym (c .before .before .before .before .before .is-boolean .ensures _ (left w z .passes .holds)) ∙ not-false _ (c .before .before .before .before .if2 .left)) (c .fault2 .result) _ _ (sym (c .before .before .is-boolean2 .ensures _ (right w z .passes .holds)) ∙ not-true _ (c .before .if3 .taken)) (c .fault2 .ensures)
 
-lazy-is-boolean-requires-2 : (t : ℕ) → lazy-lts.Need-is-boolean-requires-2 (lazy-calls t) (lazy-at t) lazy.Post
-lazy-is-boolean-requires-2 t c κs = search needs
-
-lazy-fault-requires-2 : (t : ℕ) → lazy-lts.Need-fault-requires-2 (lazy-calls t) (lazy-at t) lazy.Post
-lazy-fault-requires-2 t c κs = asked-small (c .before .before .before .before .before .before .before .before .before .before .before .before .before .before .before .before .before .before .before .before .before .pre .1 .0)
+lazy-note-row-requires : (t : ℕ) → lazy-lts.Need-note-row-requires (lazy-calls t) (lazy-at t) lazy.Post
+lazy-note-row-requires t c κs =
+    let w = two _ _ _ _ _ _ _ _ _ _ (c .before .before .before .before .before .before .before .before .before .before .before .before .before .before .before .before .check .ensures _ (c .before .before .before .before .before .before .before .before .before .before .before .before .before .before .before .before .before .before .before .before .before .pre .1 .0 .held .holds)) (c .before .before .before .before .before .before .before .before .before .before .before .before .check2 .ensures _ (c .before .before .before .before .before .before .before .before .before .before .before .before .before .before .before .before .before .before .before .before .before .pre .1 .0 .held .holds)) (c .before .before .before .before .before .before .before .before .before .together .ensures) in
+    (right-held w (not-false _ (c .before .before .before .before .before .before .before .if1 .left)), (omega arith, asked-room (c .before .before .before .before .before .before .before .before .before .before .before .before .before .before .before .before .before .before .before .before .before .pre .1 .0) (c .before .before .before .before .before .before .before .before .before .before .before .before .check2 .last .1 .1 .1 .1 .1 .1 .0) (c .before .before .before .before .before .before .before .before .before .before .before .before .check2 .kept .1 .1 .1 .1 .1 .1 .0 ∙ c .before .before .before .before .before .before .before .before .before .before .before .before .before .before .before .before .check .kept .1 .1 .1 .1 .1 .1 .0)))
 
 lazy-same-length-4 : (t : ℕ) → lazy-lts.Need-same-length-4 (lazy-calls t) (lazy-at t) lazy.Post
 lazy-same-length-4 t c = search needs
 
 lazy-returns-4 : (t : ℕ) → lazy-lts.Need-returns-4 (lazy-calls t) (lazy-at t) lazy.Post
 lazy-returns-4 t c = λ k d h.
-    let p = passed _ _ _ _ (c .before .before .before .before .before .before .before .before .before .before .before .before .before .before .before .before .before .check .ensures d h) (c .before .before .before .before .before .before .before .before .before .before .before .before .before .if1 .left) in
-    let q = passed _ _ _ _ (c .before .before .before .before .before .before .before .before .check2 .ensures d h) (c .before .before .before .before .if3 .left) in
-    lazy-second-own _ _ _ _ _ _ _ _ _ p (sym (c .before .before .before .before .before .before .before .before .before .before .before .is-boolean .ensures _ (p .passes .holds)) ∙ not-false _ (c .before .before .before .before .before .before .before .before .before .before .if2 .left)) _ _ q (c .fault2 .result) _ _ (sym (c .before .before .is-boolean2 .ensures _ (q .passes .holds)) ∙ not-true _ (c .before .if4 .taken)) (c .fault2 .ensures)
-
-lazy-note-row-requires : (t : ℕ) → lazy-lts.Need-note-row-requires (lazy-calls t) (lazy-at t) lazy.Post
-lazy-note-row-requires t c κs =
-    (result-held _ _ _ _ (c .before .before .before .before .before .before .before .before .check2 .ensures _ (c .before .before .before .before .before .before .before .before .before .before .before .before .before .before .before .before .before .before .before .before .before .before .pre .1 .0 .held .holds)) (c .before .before .before .before .if3 .left), (omega arith, asked-room (c .before .before .before .before .before .before .before .before .before .before .before .before .before .before .before .before .before .before .before .before .before .before .pre .1 .0) (c .before .before .before .before .before .before .before .before .check2 .last .1 .1 .1 .1 .1 .0) (c .before .before .before .before .before .before .before .before .check2 .kept .1 .1 .1 .1 .1 .0 ∙ c .before .before .before .before .before .before .before .before .before .before .before .before .before .before .before .before .before .check .kept .1 .1 .1 .1 .1 .0)))
-
-lazy-same-length-5 : (t : ℕ) → lazy-lts.Need-same-length-5 (lazy-calls t) (lazy-at t) lazy.Post
-lazy-same-length-5 t c = search needs
-
-lazy-returns-5 : (t : ℕ) → lazy-lts.Need-returns-5 (lazy-calls t) (lazy-at t) lazy.Post
-lazy-returns-5 t c = λ k d h.
-    let p = passed _ _ _ _ (c .before .before .before .before .before .before .before .before .before .before .before .before .before .before .before .before .before .before .before .before .check .ensures d h) (c .before .before .before .before .before .before .before .before .before .before .before .before .before .before .before .before .if1 .left) in
-    let q = passed _ _ _ _ (c .before .before .before .before .before .before .before .before .before .before .before .check2 .ensures d h) (c .before .before .before .before .before .before .before .if3 .left) in
-    lazy-passes _ _ _ _ _ _ _ _ _ p (sym (c .before .before .before .before .before .before .before .before .before .before .before .before .before .before .is-boolean .ensures _ (p .passes .holds)) ∙ not-false _ (c .before .before .before .before .before .before .before .before .before .before .before .before .before .if2 .left)) _ _ q (c .before .before .note-row .result) _ (sym (c .before .before .before .before .before .is-boolean2 .ensures _ (q .passes .holds)) ∙ not-false _ (c .before .before .before .before .if4 .left)) (c .before .before .note-row .ensures)
+    let w = two _ _ _ _ _ _ _ _ _ _ (c .before .before .before .before .before .before .before .before .before .before .before .before .before .before .before .before .before .before .before .check .ensures d h) (c .before .before .before .before .before .before .before .before .before .before .before .before .before .before .before .check2 .ensures d h) (c .before .before .before .before .before .before .before .before .before .before .before .before .together .ensures) in
+    let z = not-false _ (c .before .before .before .before .before .before .before .before .before .before .if1 .left) in
+    lazy-passes _ k w z (sym (c .before .before .before .before .before .before .before .before .is-boolean .ensures _ (left w z .passes .holds)) ∙ not-false _ (c .before .before .before .before .before .before .before .if2 .left)) (c .before .before .note-row .result) _ (sym (c .before .before .before .before .before .is-boolean2 .ensures _ (right w z .passes .holds)) ∙ not-false _ (c .before .before .before .before .if3 .left)) (c .before .before .note-row .ensures)
 
 unary-check-requires : (t : ℕ) → unary-lts.Need-check-requires (unary-calls t) (unary-at t) unary.Post
 unary-check-requires t c κs = (omega (arith, c .before .before .before .before .pre .0, c .before .before .before .before .pre .1 .1), asked-below (c .before .before .before .before .pre .1 .0) _ (c .before .before .before .before .pre .1 .1) (c .before .before .before .before .pre .1 .0 .held) refl)
@@ -503,10 +479,10 @@ unary-same-length : (t : ℕ) → unary-lts.Need-same-length (unary-calls t) (un
 unary-same-length t c = search needs
 
 unary-returns : (t : ℕ) → unary-lts.Need-returns (unary-calls t) (unary-at t) unary.Post
-unary-returns t c = λ b h. unary-operand _ _ _ _ _ (c .before .before .before .before .check .result) _ _ _ _ (c .before .before .before .before .check .ensures b h) (c .if1 .taken)
+unary-returns t c = λ b h. unary-operand _ _ _ _ _ (c .before .before .before .before .check .result) _ _ _ _ (c .before .before .before .before .check .ensures b h) (not-true _ (c .if1 .taken))
 
 unary-unary-half-requires : (t : ℕ) → unary-lts.Need-unary-half-requires (unary-calls t) (unary-at t) unary.Post
-unary-unary-half-requires t c κs = result-held _ _ _ _ (c .before .before .before .before .before .check .ensures _ (c .before .before .before .before .before .before .before .before .before .before .pre .1 .0 .held .holds)) (c .before .if1 .left)
+unary-unary-half-requires t c κs = result-held _ _ _ _ (c .before .before .before .before .before .check .ensures _ (c .before .before .before .before .before .before .before .before .before .before .pre .1 .0 .held .holds)) (not-false _ (c .before .if1 .left))
 
 unary-fault-requires : (t : ℕ) → unary-lts.Need-fault-requires (unary-calls t) (unary-at t) unary.Post
 unary-fault-requires t c κs = asked-small (c .before .before .before .before .before .before .before .before .before .before .before .before .before .pre .1 .0)
@@ -516,56 +492,54 @@ unary-same-length-2 t c = search needs
 
 unary-returns-2 : (t : ℕ) → unary-lts.Need-returns-2 (unary-calls t) (unary-at t) unary.Post
 unary-returns-2 t c = λ b h.
-    let p = passed _ _ _ _ (c .before .before .before .before .before .before .before .before .before .check .ensures b h) (c .before .before .before .before .before .if1 .left) in
+    let p = passed _ _ _ _ (c .before .before .before .before .before .before .before .before .before .check .ensures b h) (not-false _ (c .before .before .before .before .before .if1 .left)) in
     unary-own _ _ _ _ _ (c .before .before .before .before .before .before .before .before .before .check .result) _ _ _ _ (c .before .before .before .unary-half .result) (c .fault .result) p (c .before .before .before .unary-half .ensures _ (p .passes .holds)) (c .before .if2 .taken) (c .fault .ensures)
 
 unary-note-row-requires : (t : ℕ) → unary-lts.Need-note-row-requires (unary-calls t) (unary-at t) unary.Post
 unary-note-row-requires t c κs =
-    let p = passed _ _ _ _ (c .before .before .before .before .before .before .before .before .before .before .check .ensures _ (c .before .before .before .before .before .before .before .before .before .before .before .before .before .before .before .pre .1 .0 .held .holds)) (c .before .before .before .before .before .before .if1 .left) in
+    let p = passed _ _ _ _ (c .before .before .before .before .before .before .before .before .before .before .check .ensures _ (c .before .before .before .before .before .before .before .before .before .before .before .before .before .before .before .pre .1 .0 .held .holds)) (not-false _ (c .before .before .before .before .before .before .if1 .left)) in
     let k = c .before .before .before .before .unary-half .ensures _ (p .passes .holds) in
-    (half-held _ _ _ k (c .before .before .if2 .left), (half-small _ _ _ k (c .before .before .if2 .left), asked-room (c .before .before .before .before .before .before .before .before .before .before .before .before .before .before .before .pre .1 .0) (c .before .before .before .before .before .before .before .before .before .before .check .last .1 .1 .1 .1 .1 .0) (c .before .before .before .before .before .before .before .before .before .before .check .kept .1 .1 .1 .1 .1 .0)))
+    (half-held _ _ _ k (c .before .before .if2 .left), (half-small _ _ _ k (c .before .before .if2 .left), asked-room (c .before .before .before .before .before .before .before .before .before .before .before .before .before .before .before .pre .1 .0) (c .before .before .before .before .before .before .before .before .before .before .check .last .1 .1 .1 .1 .1 .1 .0) (c .before .before .before .before .before .before .before .before .before .before .check .kept .1 .1 .1 .1 .1 .1 .0)))
 
 unary-same-length-3 : (t : ℕ) → unary-lts.Need-same-length-3 (unary-calls t) (unary-at t) unary.Post
 unary-same-length-3 t c = search needs
 
 unary-returns-3 : (t : ℕ) → unary-lts.Need-returns-3 (unary-calls t) (unary-at t) unary.Post
 unary-returns-3 t c = λ b h.
-    let p = passed _ _ _ _ (c .before .before .before .before .before .before .before .before .before .before .before .before .before .check .ensures b h) (c .before .before .before .before .before .before .before .before .before .if1 .left) in
+    let p = passed _ _ _ _ (c .before .before .before .before .before .before .before .before .before .before .before .before .before .check .ensures b h) (not-false _ (c .before .before .before .before .before .before .before .before .before .if1 .left)) in
     unary-passes _ _ _ _ _ (c .before .before .before .before .before .before .before .before .before .before .before .before .before .check .result) _ _ _ (c .before .before .before .before .before .before .before .unary-half .result) (c .before .before .note-row .result) p (c .before .before .before .before .before .before .before .unary-half .ensures _ (p .passes .holds)) (c .before .before .before .before .before .if2 .left) (c .before .before .note-row .ensures)
 
 pub +all-list+binary+check+choice+lazy+unary-spec : {M : Type 1} → statement M
 +all-list+binary+check+choice+lazy+unary-spec =
     close μ-all-list μ-binary μ-check μ-choice μ-lazy μ-unary (λ t. all-list-lts.spec (all-list-calls t) (all-list-at t)
     all-list.Post
-    (all-list-unary-half-requires t)
-    (all-list-fault-requires t)
-    (all-list-returns t)
+    (all-list-elements-requires t)
     (all-list-check-requires t)
+    (all-list-together-requires t)
     (all-list-same-length t)
-    (all-list-returns-2 t)
+    (all-list-returns t)
     (all-list-is-boolean-requires t)
-    (all-list-fault-requires-2 t)
+    (all-list-fault-requires t)
     (all-list-same-length-2 t)
-    (all-list-returns-3 t)
+    (all-list-returns-2 t)
     (all-list-measure-body-requires t)
     (all-list-note-row-requires t)
     (all-list-same-length-3 t)
-    (all-list-returns-4 t))
+    (all-list-returns-3 t))
     (λ t. binary-lts.spec (binary-calls t) (binary-at t)
     binary.Post
     (binary-check-requires t)
+    (binary-check-requires-2 t)
+    (binary-together-requires t)
     (binary-same-length t)
     (binary-returns t)
-    (binary-check-requires-2 t)
-    (binary-same-length-2 t)
-    (binary-returns-2 t)
     (binary-binary-half-requires t)
     (binary-fault-requires t)
-    (binary-same-length-3 t)
-    (binary-returns-3 t)
+    (binary-same-length-2 t)
+    (binary-returns-2 t)
     (binary-note-row-requires t)
-    (binary-same-length-4 t)
-    (binary-returns-4 t))
+    (binary-same-length-3 t)
+    (binary-returns-3 t))
     (λ t. check-lts.spec (check-calls t) (check-at t)
     check.Post
     (check-expression-row-requires t)
@@ -576,7 +550,7 @@ pub +all-list+binary+check+choice+lazy+unary-spec : {M : Type 1} → statement M
     (check-variable-body-requires t)
     (check-note-row-requires-2 t)
     (check-enum-told-2 t)
-    (check-note-row-requires-3 t)
+    (check-note-current-requires t)
     (check-enum-known-e-2 t)
     (check-unary-requires t)
     (check-enum-known-e-3 t)
@@ -606,44 +580,41 @@ pub +all-list+binary+check+choice+lazy+unary-spec : {M : Type 1} → statement M
     (λ t. choice-lts.spec (choice-calls t) (choice-at t)
     choice.Post
     (choice-check-requires t)
+    (choice-check-requires-2 t)
+    (choice-check-requires-3 t)
+    (choice-together-requires t)
+    (choice-together-requires-2 t)
     (choice-same-length t)
     (choice-returns t)
     (choice-is-boolean-requires t)
     (choice-fault-requires t)
     (choice-same-length-2 t)
     (choice-returns-2 t)
-    (choice-check-requires-2 t)
-    (choice-same-length-3 t)
-    (choice-returns-3 t)
-    (choice-check-requires-3 t)
-    (choice-same-length-4 t)
-    (choice-returns-4 t)
     (choice-same-requires t)
     (choice-fault-requires-2 t)
-    (choice-same-length-5 t)
-    (choice-returns-5 t)
+    (choice-same-length-3 t)
+    (choice-returns-3 t)
     (choice-note-row-requires t)
-    (choice-same-length-6 t)
-    (choice-returns-6 t))
+    (choice-same-length-4 t)
+    (choice-returns-4 t))
     (λ t. lazy-lts.spec (lazy-calls t) (lazy-at t)
     lazy.Post
     (lazy-check-requires t)
+    (lazy-check-requires-2 t)
+    (lazy-together-requires t)
     (lazy-same-length t)
     (lazy-returns t)
     (lazy-is-boolean-requires t)
     (lazy-fault-requires t)
     (lazy-same-length-2 t)
     (lazy-returns-2 t)
-    (lazy-check-requires-2 t)
-    (lazy-same-length-3 t)
-    (lazy-returns-3 t)
     (lazy-is-boolean-requires-2 t)
     (lazy-fault-requires-2 t)
-    (lazy-same-length-4 t)
-    (lazy-returns-4 t)
+    (lazy-same-length-3 t)
+    (lazy-returns-3 t)
     (lazy-note-row-requires t)
-    (lazy-same-length-5 t)
-    (lazy-returns-5 t))
+    (lazy-same-length-4 t)
+    (lazy-returns-4 t))
     λ t. unary-lts.spec (unary-calls t) (unary-at t)
     unary.Post
     (unary-check-requires t)

@@ -9,7 +9,6 @@ use Rattle.lingua.specs.Numbers.{declaration-section}
 use Rattle.lingua.specs.Rows.{pairCount}
 use Rattle.rules.specs.Accepted.{counts}
 use Rattle.typecheck.specs.Verdicts.{declarationCheck}
-use Rattle.typecheck.proofs.Returns.{passed}
 use Rattle.typecheck.proofs.Settling.{Done, done-none, done-more, done-fails, done-all}
 use Rattle.typecheck.proofs.whole.check_declarations.Statement.{statement}
 use Rattle.typecheck.proofs.whole.check_declarations.Tie as tie

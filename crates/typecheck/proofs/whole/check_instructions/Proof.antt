@@ -9,7 +9,6 @@ use Rattle.lingua.specs.Numbers.{instruction-section}
 use Rattle.lingua.specs.Rows.{tableCount}
 use Rattle.rules.specs.Accepted.{counts}
 use Rattle.typecheck.specs.Verdicts.{instructionCheck}
-use Rattle.typecheck.proofs.Returns.{passed}
 use Rattle.typecheck.proofs.Settling.{Done, done-none, done-more, done-fails, done-all}
 use Rattle.typecheck.proofs.whole.check_instructions.Statement.{statement}
 use Rattle.typecheck.proofs.whole.check_instructions.Tie as tie
