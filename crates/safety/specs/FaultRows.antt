@@ -1,6 +1,6 @@
--- Every fault of an expression is at a row of its tree (`faults-in-tree`). So what is named of a declaration or an instruction is the lowest of
--- its expression's rows at fault, or, where the expression has a body that does not suit, the declaration or instruction itself
--- (`which-fault`). Assumes nothing.
+-- Every fault of an expression is at a row of its tree (`faults-in-tree`). So what is named of a declaration or an instruction is the
+-- lowest of its expression's rows at fault, or, where the expression has a body that does not suit, the declaration or instruction
+-- itself (`which-fault`). Assumes nothing.
 use mathlib.Core.Path.{_≡_, refl, sym, subst}
 use mathlib.Core.Bool.{Bool, true, false}
 use mathlib.Core.List.{List, [], _∷_, _++_, List·Memᴰ, List·Memᴰ·head, Memᴰ·append-left, Memᴰ·append-right}

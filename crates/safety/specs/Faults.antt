@@ -1,6 +1,6 @@
 -- The faults of an expression, and which of them is named. An expression whose current value has a body has a body itself or a fault
--- (`some-fault`), so an instruction's or a declaration's own fault is named only where its expression has a body. The named one is one of the faults, and none is
--- lower (`lowest-is`); over two lists it is the lower of theirs (`lowest-fault-append`). Assumes nothing.
+-- (`some-fault`), so an instruction's or a declaration's own fault is named only where its expression has a body. The named one is one of
+-- the faults, and none is lower (`lowest-is`); over two lists it is the lower of theirs (`lowest-fault-append`). Assumes nothing.
 use mathlib.Core.Path.{_≡_, refl, sym, ap, _∙_, subst}
 use mathlib.Core.Bool.{Bool, true, false}
 use mathlib.Core.List.{List, [], _∷_, _++_, List·Memᴰ, List·Memᴰ·head, List·Memᴰ·tail}

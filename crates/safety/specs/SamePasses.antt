@@ -1,5 +1,5 @@
--- Which profiles pass does not depend on the fault that is named: the type check passes what the check in order of evaluation passes, with the
--- same entries (`same-passes`), so over all pairs of files the same calls pass, with the same layout table, number by number
+-- Which profiles pass does not depend on the fault that is named: the type check passes what the check in order of evaluation passes,
+-- with the same entries (`same-passes`), so over all pairs of files the same calls pass, with the same layout table, number by number
 -- (`same-layout`, `same-passed`). Assumes nothing.
 use mathlib.Core.Path.{_≡_, refl}
 use mathlib.Core.Bool.{Bool, true, false}
