@@ -10,12 +10,5 @@ pub mod Inserting
 pub mod Removing
 pub mod Tags
 pub mod Answers
-pub mod Halves
-pub mod Bounds
 pub mod Selecting
 pub mod Lacking
-pub mod Expanding
-pub mod Results
-pub mod Offsets
-pub mod Simple
-pub mod HalfEnds

@@ -2,4 +2,3 @@ pub mod Encode
 pub mod Walk
 pub mod Find
 pub mod Typed
-pub mod Half

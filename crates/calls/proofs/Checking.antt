@@ -21,7 +21,7 @@ use Rattle.laws.specs.Refusals.{lowest-skip, lowest-first, allAbove}
 use Rattle.pair.specs.Pair.{PairIs}
 use Rattle.pair.specs.declared.Pair.{Pair}
 use Rattle.pair.proofs.Given.{rows-accepted, tables-there, bodies-held}
-use Rattle.typecheck.specs.Check.{Ready}
+use Rattle.typing.specs.Check.{Ready}
 use Rattle.typecheck.specs.declared.verdicts.Verdict.{Verdict}
 use Rattle.typecheck.specs.Verdicts.{Concludes}
 use Rattle.typecheck.proofs.Answering.{verdict-passed, verdict-failed}

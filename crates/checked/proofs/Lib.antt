@@ -1,9 +1,2 @@
-pub mod Giving
-pub mod Operating
-pub mod Seeing
-pub mod Storing
-pub mod Stacking
 pub mod Walking
-pub mod Cycle
-pub mod Simple
 pub mod Yokes

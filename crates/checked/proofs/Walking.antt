@@ -16,8 +16,8 @@ use Rattle.body.specs.Encode.{Holds, Held}
 use Rattle.body.proofs.Tags as tags
 use Rattle.cells.specs.Stack.{Lies}
 use Rattle.cells.proofs.Walking.{Walked, some-cell, walks, elementAt, element-lies, gathered-more, gathered-all}
-use Rattle.checked.specs.declared.tally.Tally.{Tally}
-use Rattle.checked.specs.Meaning.{Current, HasCurrent, Sees}
+use Rattle.checked_row.specs.declared.tally.Tally.{Tally}
+use Rattle.checked_row.specs.Meaning.{Current, HasCurrent, Sees}
 
 -- ---- a current value that is no list
 pub no-list : {current : List ℤ} {body : List ℕ} {x : Composite} (row : ℕ) (e : Expression) (vars : Variables) → Current current body x → (getD body 0 0 ≡ 4 → ⊥) → eval (all-list row e) vars x ≡ fail list-expected

@@ -13,8 +13,8 @@ use Rattle.lingua.specs.Evaluation.{Variables, booleanOf, no-current, eval, eva
 use Rattle.lingua.specs.Trees.{expressionTree, yokeTree}
 use Rattle.profile.specs.Yokes.{always-is, yoke-is}
 use Rattle.body.specs.Encode.{Holds}
-use Rattle.checked.specs.Meaning.{Current}
-use Rattle.checked.proofs.Giving.{boolean-held}
+use Rattle.checked_row.specs.Meaning.{Current}
+use Rattle.checked_row.proofs.Giving.{boolean-held}
 
 pub always-true : (rows : List ℕ) (y : ℕ) (vars : Variables) (x : Composite) → y ≡ 0 → ok (booleanOf true) ≡ evalYoke (yokeTree rows y) vars x
 unfolding evalYoke

@@ -1,22 +1,22 @@
 // Evaluation descends the expression tree, the row number falling at each call. A value's cells lie at the stack's front;
 // the second operand of two is evaluated 64 cells further up.
-use crate::answer::Evaluated;
-use crate::answer::failed;
-use crate::answer::simple_value;
-use crate::answer::truth_of;
-use crate::leaves::constant;
-use crate::leaves::copied;
-use crate::leaves::fetch;
-use crate::operate::binary;
-use crate::operate::unary;
-use crate::quick::Quick;
-use crate::quick::pair;
-use crate::tally::Tally;
-use crate::tally::concluded;
-use crate::tally::tallied;
 use body::make::element;
 use body::walk::LIST;
 use body::walk::measure_body;
+use checked_row::answer::Evaluated;
+use checked_row::answer::failed;
+use checked_row::answer::simple_value;
+use checked_row::answer::truth_of;
+use checked_row::leaves::constant;
+use checked_row::leaves::copied;
+use checked_row::leaves::fetch;
+use checked_row::operate::binary;
+use checked_row::operate::unary;
+use checked_row::quick::Quick;
+use checked_row::quick::pair;
+use checked_row::tally::Tally;
+use checked_row::tally::concluded;
+use checked_row::tally::tallied;
 use decoder::decode::ExpressionRow;
 use decoder::tables::Table;
 use lingua::errors::BOOLEAN_EXPECTED;
@@ -33,7 +33,7 @@ ghost use Rattle.lingua.specs.Trees.{expressionTree};
 ghost use Rattle.lingua.specs.Evaluation.{eval as meaning};
 ghost use Rattle.lingua.specs.Expression.{lazy as lazyTree, choice as choiceTree, all-list};
 ghost use Rattle.decoder.specs.Decoded.{connective};
-ghost use Rattle.checked.specs.Meaning.{World, Current, Asked, Gives};
+ghost use Rattle.checked_row.specs.Meaning.{World, Current, Asked, Gives};
 
 // What the expression of a row gives, for a current value of a body.
 pub fn eval(

@@ -1,10 +1,10 @@
 // Yokes, and expressions outside yokes.
-use crate::answer::Evaluated;
-use crate::answer::boolean;
-use crate::answer::truth_of;
 use crate::eval::eval;
 use body::make::simple;
 use body::walk::BOOLEAN;
+use checked_row::answer::Evaluated;
+use checked_row::answer::boolean;
+use checked_row::answer::truth_of;
 use decoder::tables::Table;
 use lingua::errors::BOOLEAN_EXPECTED;
 use lingua::sizes::BODY_BYTES;
@@ -18,7 +18,7 @@ ghost use Rattle.lingua.specs.Store.{Variable, contents};
 ghost use Rattle.lingua.specs.Trees.{expressionTree, yokeTree};
 ghost use Rattle.lingua.specs.Evaluation.{eval as meaning, evalYoke, evalTest, no-current};
 ghost use Rattle.run.specs.Reached.{Tells};
-ghost use Rattle.checked.specs.Meaning.{World, HasWorld, Current, Ready, Gives};
+ghost use Rattle.checked_row.specs.Meaning.{World, HasWorld, Current, Ready, Gives};
 
 // What yoke y gives on a value: 0 is the yoke that is always true, another is the expression of row y - 1.
 pub fn eval_yoke(

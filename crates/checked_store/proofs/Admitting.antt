@@ -23,15 +23,15 @@ use Rattle.body.proofs.Tags as tags
 use Rattle.cells.specs.Stack.{Lies}
 use Rattle.cells.proofs.Operands.{lies-long}
 use Rattle.cells.proofs.Singles.{number-cell}
-use Rattle.checked.specs.declared.answer.Evaluated.{Evaluated}
+use Rattle.checked_row.specs.declared.answer.Evaluated.{Evaluated}
 use Rattle.run.specs.declared.steps.Truth.{Truth}
 use Rattle.run.specs.Reached.{lent, Tells}
 use Rattle.run.specs.Memory.{Admits}
 use Rattle.run.proofs.Parts
 use Rattle.run.proofs.Admitting.{admits-error}
-use Rattle.checked.specs.Meaning.{Current, Gives}
+use Rattle.checked_row.specs.Meaning.{Current, Gives}
 use Rattle.checked_store.specs.Meaning.{Bounds, Running}
-use Rattle.checked.proofs.Storing.{memory-of}
+use Rattle.checked_row.proofs.Storing.{memory-of}
 
 -- ---- a number's cell
 pub number-room : {value : List ℤ} {body : List ℕ} {x : Composite} → Current value body x → getD body 0 0 ≡ 2 → 0 < length value

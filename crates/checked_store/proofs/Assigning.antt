@@ -11,15 +11,15 @@ use Rattle.lingua.specs.Value.{Composite}
 use Rattle.lingua.specs.Store.{Variable, variableAt, withContent, admitted, assigned}
 use Rattle.safety.specs.Stored.{admitted-shows}
 use Rattle.decoder.specs.declared.tables.Table.{Table}
-use Rattle.checked.specs.declared.answer.Evaluated.{Evaluated}
+use Rattle.checked_row.specs.declared.answer.Evaluated.{Evaluated}
 use Rattle.run.specs.Reached.{Lent, lent}
 use Rattle.run.specs.Memory.{Admits}
 use Rattle.cells.proofs.Operands.{lies-long}
 use Rattle.run.proofs.Copying.{copied-lies}
 use Rattle.run.proofs.Settling.{stores-as}
-use Rattle.checked.specs.Meaning.{Current, Answers, Gives}
+use Rattle.checked_row.specs.Meaning.{Current, Answers, Gives}
 use Rattle.checked_store.specs.Meaning.{Bounds, Running, Assigns, StoresValue}
-use Rattle.checked.proofs.Storing.{present-held}
+use Rattle.checked_row.proofs.Storing.{present-held}
 
 -- the value, where it lies and by itself, is a current value
 pub here-current : {x : Evaluated} {s : List ℤ} {o : Result Composite} (a : Answers x s o) → Current s (x .body) (a .value)

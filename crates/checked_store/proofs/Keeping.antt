@@ -15,7 +15,7 @@ use Rattle.decoder.specs.declared.tables.Table.{Table}
 use Rattle.profile.specs.Yokes.{YokeOf}
 use Rattle.run.specs.Reached.{Lent}
 use Rattle.run.proofs.Storing.{limits-kept, yokes-kept}
-use Rattle.checked.specs.Meaning.{Holdable}
+use Rattle.checked_row.specs.Meaning.{Holdable}
 use Rattle.checked_store.specs.Meaning.{Running}
 
 -- memory that holds a store

@@ -14,10 +14,10 @@ use Rattle.lingua.specs.Value.{whole, pad, composite}
 use Rattle.lingua.specs.Encode.{bytes, encoded}
 use Rattle.body.specs.Encode.{Holds}
 use Rattle.cells.proofs.Singles.{put-number}
-use Rattle.checked.specs.declared.answer.Evaluated.{Evaluated}
+use Rattle.checked_row.specs.declared.answer.Evaluated.{Evaluated}
 use Rattle.run.proofs.Readings.{in-range}
-use Rattle.checked.specs.Meaning.{Gives}
-use Rattle.checked.proofs.Giving.{gives-answer}
+use Rattle.checked_row.specs.Meaning.{Gives}
+use Rattle.checked_row.proofs.Giving.{gives-answer}
 
 number-held : Holds (pad body-bytes 0 (2 ∷ [])) number
 unfolding encoded bytes size nodes

@@ -22,8 +22,8 @@ use Rattle.decoder.specs.declared.tables.Table.{Table}
 use Rattle.run.specs.Reached.{Lent, lent}
 use Rattle.run.proofs.Parts.{contents-small}
 use Rattle.run.proofs.Storing.{cells-stored, states-stored}
-use Rattle.checked.specs.Meaning.{Current}
-use Rattle.checked.proofs.Storing.{memory-of, all-compact}
+use Rattle.checked_row.specs.Meaning.{Current}
+use Rattle.checked_row.proofs.Storing.{memory-of, all-compact}
 use Rattle.checked_store.specs.Meaning.{Running}
 use Rattle.checked_store.proofs.Keeping.{content-running}
 

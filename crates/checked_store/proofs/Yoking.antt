@@ -19,8 +19,8 @@ use Rattle.run.specs.Reached.{Tells}
 use Rattle.run.specs.Memory.{Admits}
 use Rattle.run.proofs.Parts.{unfilled-is, filled-is, part-lies}
 use Rattle.run.proofs.Admitting.{admits-error}
-use Rattle.checked.specs.Meaning.{Stored, Current}
-use Rattle.checked.proofs.Storing.{memory-of, value-held}
+use Rattle.checked_row.specs.Meaning.{Stored, Current}
+use Rattle.checked_row.proofs.Storing.{memory-of, value-held}
 
 -- ---- the variable's cells
 pub record Fetched (variables : List ℕ) (cells : List ℤ) (body : List ℕ) (vs : List Variable) (n : ℕ) (value : List ℤ) : Type 0 where

@@ -15,8 +15,8 @@ use Rattle.profile.specs.Yokes.{YokeOf}
 use Rattle.decoder.specs.declared.tables.Table.{Table}
 use Rattle.body.specs.Encode.{Holds, Held}
 use Rattle.run.specs.Reached.{Lent, Settles}
-use Rattle.checked.specs.declared.answer.Evaluated.{Evaluated}
-use Rattle.checked.specs.Meaning.{World, Current, HasCurrent, Given}
+use Rattle.checked_row.specs.declared.answer.Evaluated.{Evaluated}
+use Rattle.checked_row.specs.Meaning.{World, Current, HasCurrent, Given}
 
 -- ---- what assignments ask
 -- a store of a run, with the limits of its variables

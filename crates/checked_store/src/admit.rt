@@ -2,9 +2,9 @@
 // the limits.
 use body::coherence::coherent;
 use body::walk::NUMBER;
-use checked::answer::truth_of;
-use checked::leaves::present;
 use checked::yoke::eval_yoke;
+use checked_row::answer::truth_of;
+use checked_row::leaves::present;
 use decoder::tables::Table;
 use lingua::errors::NO_COHERENCE;
 use lingua::errors::NO_ERROR;
@@ -23,7 +23,7 @@ ghost use Rattle.lingua.specs.Expression.{always};
 ghost use Rattle.lingua.specs.Store.{Variable, variableAt, admitted as checks};
 ghost use Rattle.run.specs.Reached.{lent};
 ghost use Rattle.run.specs.Memory.{Admits};
-ghost use Rattle.checked.specs.Meaning.{Current, HasCurrent};
+ghost use Rattle.checked_row.specs.Meaning.{Current, HasCurrent};
 ghost use Rattle.checked_store.specs.Meaning.{Bounds, HasBounds, Running, Checkable};
 
 // A number's cell; for a value of another body 0 stands.

@@ -2,7 +2,7 @@
 use crate::admit::admitted;
 use crate::admit::unyoked;
 use crate::keep::keep;
-use checked::answer::Evaluated;
+use checked_row::answer::Evaluated;
 use decoder::tables::Table;
 use lingua::errors::NO_ERROR;
 use lingua::sizes::BODY_CELLS;
@@ -16,7 +16,7 @@ ghost use Rattle.lingua.specs.Outcome.{Result, _>>=_ as bind};
 ghost use Rattle.lingua.specs.Value.{Composite};
 ghost use Rattle.lingua.specs.Store.{Variable, assigned};
 ghost use Rattle.run.specs.Reached.{lent};
-ghost use Rattle.checked.specs.Meaning.{Gives};
+ghost use Rattle.checked_row.specs.Meaning.{Gives};
 ghost use Rattle.checked_store.specs.Meaning.{Running, Assignable, Assigns};
 
 // Variable n takes an evaluated value, which lies on the stack, once it is admitted; an error leaves the store as it was. Only a yoke that is

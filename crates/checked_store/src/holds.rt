@@ -1,7 +1,7 @@
 // Whether a variable's value satisfies a new yoke; one that is not filled takes any.
-use checked::answer::truth_of;
-use checked::leaves::present;
 use checked::yoke::eval_yoke;
+use checked_row::answer::truth_of;
+use checked_row::leaves::present;
 use decoder::tables::Table;
 use lingua::errors::NO_ERROR;
 use lingua::errors::YOKE_EXPECTED;
@@ -16,7 +16,7 @@ ghost use Rattle.lingua.specs.Rows.{pairCount};
 ghost use Rattle.lingua.specs.Store.{Variable, variableAt, yokeHolds};
 ghost use Rattle.lingua.specs.Trees.{yokeTree};
 ghost use Rattle.run.specs.Memory.{Admits};
-ghost use Rattle.checked.specs.Meaning.{World, HasWorld};
+ghost use Rattle.checked_row.specs.Meaning.{World, HasWorld};
 
 // The variable's own cells are the current value, where they lie.
 pub fn yoke_holds(

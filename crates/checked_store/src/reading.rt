@@ -2,7 +2,7 @@
 use crate::assign::assign;
 use body::make::simple;
 use body::walk::NUMBER;
-use checked::answer::Evaluated;
+use checked_row::answer::Evaluated;
 use decoder::tables::Table;
 use lingua::errors::NO_ERROR;
 use lingua::errors::OVERFLOW;

@@ -1,11 +1,3 @@
-pub mod Leaving
-pub mod Telling
-pub mod Storing
-pub mod OneCell
-pub mod Operating
-pub mod Passing
-pub mod Stacking
-pub mod Cycle
 pub mod Walking
 pub mod Yokes
 pub mod Testing

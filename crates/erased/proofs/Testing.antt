@@ -20,8 +20,8 @@ use Rattle.decoder.specs.declared.tables.Table.{Table}
 use Rattle.cells.specs.Stack.{Leaves}
 use Rattle.run.specs.declared.steps.Truth.{Truth}
 use Rattle.run.specs.Reached.{lent, Tells}
-use Rattle.erased.specs.Meaning.{Passed, ReadyPlain, EvaluatesPlain, Running, Tests, TestRow}
-use Rattle.erased.proofs.Telling.{told}
+use Rattle.erased_row.specs.Meaning.{Passed, ReadyPlain, EvaluatesPlain, Running, Tests, TestRow}
+use Rattle.erased_row.proofs.Telling.{told}
 
 -- ---- what the type check found
 tested : {layout : List ℕ} {vars : Bodies} (i : Instruction) (e : Expression) → Tests i e → DerivedRow (HoldsIn layout) vars i → Derived (HoldsIn layout) vars e no-current-body boolean

@@ -21,9 +21,9 @@ use Rattle.cells.proofs.Operands.{leaves-as}
 use Rattle.cells.proofs.Walking.{counted, Walked, counted-elements, some-cell, walks, elementAt, element-lies, gathered-more, gathered-all}
 use Rattle.run.specs.declared.steps.Truth.{Truth}
 use Rattle.run.specs.Reached.{Tells}
-use Rattle.erased.specs.Meaning.{World, Current, Passed, Ready, Evaluates, allTold}
-use Rattle.erased.proofs.Leaving.{leaves-from}
-use Rattle.erased.proofs.Passing.{all-passed}
+use Rattle.erased_row.specs.Meaning.{World, Current, Passed, Ready, Evaluates, allTold}
+use Rattle.erased_row.proofs.Leaving.{leaves-from}
+use Rattle.erased_row.proofs.Passing.{all-passed}
 
 -- ---- a list, with the size of its elements and the inner yoke that the type check passed on them
 pub record Listed (rows : List ℕ) (t : Table) (layout : List ℕ) (cells : List ℤ) (states : List ℕ) (now : List ℤ) (e : Expression) (width : ℕ) (ds : List Declaration) (vs : List Variable) (c : Body) (x : Value) : Type 0 where

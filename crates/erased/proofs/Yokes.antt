@@ -14,8 +14,8 @@ use Rattle.safety.specs.Derivation.{DerivedYoke}
 use Rattle.lingua.specs.Erased.{yokeErased}
 use Rattle.decoder.specs.declared.tables.Table.{Table}
 use Rattle.cells.specs.Stack.{Lies}
-use Rattle.erased.specs.Meaning.{Current, Ready, ReadyYoke, ReadyPlain, Evaluates, EvaluatesYoke, EvaluatesPlain}
-use Rattle.erased.proofs.Leaving.{leaves-ok}
+use Rattle.erased_row.specs.Meaning.{Current, Ready, ReadyYoke, ReadyPlain, Evaluates, EvaluatesYoke, EvaluatesPlain}
+use Rattle.erased_row.proofs.Leaving.{leaves-ok}
 
 module _ {rows : List ℕ} {t : Table} {layout : List ℕ} {cells : List ℤ} {states : List ℕ} {now : List ℤ} {y : Yoke} where
   -- the yoke that is always true

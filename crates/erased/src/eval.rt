@@ -1,19 +1,19 @@
 // Evaluation descends the expression tree, the row number falling at each call. A value's cells lie at the stack's front;
 // the second operand of two is evaluated 64 cells further up, or put there at once if it is a leaf of one cell. How many cells a
 // value takes is read from the layout table.
-use crate::answer::truth_of;
-use crate::layout::second_at;
-use crate::leaves::constant;
-use crate::leaves::copied;
-use crate::leaves::fetch;
-use crate::operate::binary;
-use crate::operate::unary;
-use crate::quick::NO_LEAF;
-use crate::quick::leaf;
-use crate::tally::concluded;
-use crate::tally::tallied;
 use decoder::decode::ExpressionRow;
 use decoder::tables::Table;
+use erased_row::answer::truth_of;
+use erased_row::layout::second_at;
+use erased_row::leaves::constant;
+use erased_row::leaves::copied;
+use erased_row::leaves::fetch;
+use erased_row::operate::binary;
+use erased_row::operate::unary;
+use erased_row::quick::NO_LEAF;
+use erased_row::quick::leaf;
+use erased_row::tally::concluded;
+use erased_row::tally::tallied;
 use lingua::errors::NO_ERROR;
 use lingua::sizes::BODY_CELLS;
 use profile::row::expression_row;
@@ -24,7 +24,7 @@ ghost use Rattle.lingua.specs.Numbers.{body-cells};
 ghost use Rattle.lingua.specs.Trees.{expressionTree};
 ghost use Rattle.lingua.specs.Expression.{lazy as lazyTree, choice as choiceTree, all-list};
 ghost use Rattle.decoder.specs.Decoded.{connective};
-ghost use Rattle.erased.specs.Meaning.{Ready, Evaluates};
+ghost use Rattle.erased_row.specs.Meaning.{Ready, Evaluates};
 
 // What the expression of a row gives on a current value: 0 and a value at the stack's front, or its error.
 pub fn eval(

@@ -1,10 +1,4 @@
-// Evaluation in the erased run (document 01: chair run): bare numbers, the layout table, and no body.
-pub mod answer; // answer.rt: Booleans on the stack
+// Evaluation in the erased run (document 01: chair run), down the trees: bare numbers, the layout table, and no body.
 pub mod eval; // eval.rt: expressions on the operand stack
-pub mod layout; // layout.rt: a row's two numbers
-pub mod leaves; // leaves.rt: constants, variables and the current value
-pub mod operate; // operate.rt: an operation on evaluated operands
-mod quick; // quick.rt: a leaf of one cell, at once
-pub mod tally; // tally.rt: the results of an all-list yoke
 pub mod test; // test.rt: a test's value
 pub mod yoke; // yoke.rt: yokes, and expressions outside them

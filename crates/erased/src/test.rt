@@ -1,7 +1,7 @@
 // A test's value: an expression outside yokes, of which the type check found a Boolean.
-use crate::answer::truth_of;
 use crate::yoke::eval_plain;
 use decoder::tables::Table;
+use erased_row::answer::truth_of;
 use run::steps::Truth;
 ghost use mathlib.Core.List.{List, []};
 ghost use Prim.Native.Nat.{_+_, _*_, _<_, _≤_};
@@ -12,7 +12,7 @@ ghost use Rattle.lingua.specs.Store.{Variable, contents};
 ghost use Rattle.lingua.specs.Evaluation.{evalTest};
 ghost use Rattle.lingua.specs.Trees.{expressionTree};
 ghost use Rattle.run.specs.Reached.{lent, Tells};
-ghost use Rattle.erased.specs.Meaning.{Running, HasStore, TestRow};
+ghost use Rattle.erased_row.specs.Meaning.{Running, HasStore, TestRow};
 
 pub fn test(
     rows: &[u8],

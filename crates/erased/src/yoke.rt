@@ -1,13 +1,13 @@
 // Yokes, and expressions outside yokes.
-use crate::answer::put_truth;
 use crate::eval::eval;
 use decoder::tables::Table;
+use erased_row::answer::put_truth;
 use lingua::errors::NO_ERROR;
 ghost use Prim.Native.Nat.{_+_, _*_, _<_, _≤_};
 ghost use lib.ListN.{length};
 ghost use Rattle.lingua.specs.Numbers.{body-cells};
 ghost use Rattle.lingua.specs.Trees.{expressionTree, yokeTree};
-ghost use Rattle.erased.specs.Meaning.{ReadyYoke, EvaluatesYoke, ReadyPlain, EvaluatesPlain};
+ghost use Rattle.erased_row.specs.Meaning.{ReadyYoke, EvaluatesYoke, ReadyPlain, EvaluatesPlain};
 
 // What yoke y gives on a value: 0 is the yoke that is always true, another is the expression of row y - 1.
 pub fn eval_yoke(

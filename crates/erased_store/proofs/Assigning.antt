@@ -34,9 +34,9 @@ use Rattle.run.proofs.Copying.{copied-lies}
 use Rattle.run.proofs.Parts
 use Rattle.run.proofs.Settling.{keeps, stores-as}
 use Rattle.run.proofs.Storing.{cells-stored, states-stored}
-use Rattle.erased.specs.Meaning.{Current, ReadyYoke, Running}
+use Rattle.erased_row.specs.Meaning.{Current, ReadyYoke, Running}
 use Rattle.erased_store.specs.Meaning.{ValueFor, StoreRoom, Satisfies, AdmitsValue}
-use Rattle.erased.proofs.Cycle.{memory-of}
+use Rattle.erased_row.proofs.Cycle.{memory-of}
 use Rattle.erased_store.proofs.Keeping.{content-running}
 
 -- ---- the yoke, then the limit

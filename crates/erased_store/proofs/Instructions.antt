@@ -34,10 +34,10 @@ use Rattle.run.specs.Memory.{Admits}
 use Rattle.run.proofs.Readings.{in-range}
 use Rattle.run.proofs.Settling.{keeps, stores-as, settles-as}
 use Rattle.run.proofs.Storing.{cells-kept, words-changed}
-use Rattle.erased.specs.Meaning.{Passed, PassedYoke, ReadyPlain, EvaluatesPlain, Running}
+use Rattle.erased_row.specs.Meaning.{Passed, PassedYoke, ReadyPlain, EvaluatesPlain, Running}
 use Rattle.erased_store.specs.Meaning.{AssignRow, YokeRow, HasChange, AdmitsYoke, ValueFor}
 use Rattle.erased_store.proofs.Keeping.{yoke-running}
-use Rattle.erased.proofs.Passing.{sizes}
+use Rattle.erased_row.proofs.Passing.{sizes}
 use Rattle.erased.proofs.Yokes.{none-current}
 
 -- ---- what the type check found

@@ -23,7 +23,7 @@ use Rattle.profile.specs.Yokes.{YokeOf}
 use Rattle.decoder.specs.declared.tables.Table.{Table}
 use Rattle.run.specs.Reached.{lent}
 use Rattle.run.proofs.Storing.{limits-kept, yokes-kept}
-use Rattle.erased.specs.Meaning.{Running}
+use Rattle.erased_row.specs.Meaning.{Running}
 
 module _ {rows : List ℕ} {t : Table} {layout : List ℕ} {limits cells : List ℤ} {states : List ℕ} {vs : List Variable} (h : Running rows t layout limits (lent cells states []) vs) (n : ℕ) (lt : n < length vs) where
   -- another variable n with the same limit, and every filled variable of its declared body

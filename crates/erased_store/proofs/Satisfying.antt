@@ -25,10 +25,10 @@ use Rattle.run.specs.Reached.{Tells}
 use Rattle.run.specs.Memory.{Admits}
 use Rattle.run.proofs.Admitting.{admits-error, admits-ok}
 use Rattle.run.proofs.Parts.{unfilled-is, filled-is, filled, part-lies}
-use Rattle.erased.specs.Meaning.{World, Current, ReadyYoke, EvaluatesYoke}
+use Rattle.erased_row.specs.Meaning.{World, Current, ReadyYoke, EvaluatesYoke}
 use Rattle.erased_store.specs.Meaning.{AdmitsValue, HasChange, AdmitsYoke}
-use Rattle.erased.proofs.Cycle.{memory-of}
-use Rattle.erased.proofs.Telling.{told}
+use Rattle.erased_row.proofs.Cycle.{memory-of}
+use Rattle.erased_row.proofs.Telling.{told}
 
 -- ---- what the yoke was told
 truth-asked : (o : Result Value) → (o >>= λ t. require (asTruth t) yoke-not-satisfied) ≡ (told o >>= λ b. require b yoke-not-satisfied)

@@ -21,7 +21,7 @@ use Rattle.decoder.specs.declared.tables.Table.{Table}
 use Rattle.cells.specs.Stack.{Lies, first-place}
 use Rattle.run.specs.Memory.{Admits}
 use Rattle.run.specs.Reached.{Lent}
-use Rattle.erased.specs.Meaning.{World, Current, PassedYoke, Running}
+use Rattle.erased_row.specs.Meaning.{World, Current, PassedYoke, Running}
 
 -- ---- what an instruction row says, for whichever row it is
 -- an assignment of expression row e to variable n

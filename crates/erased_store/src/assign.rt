@@ -1,8 +1,8 @@
 // Assignment: the expression's value on the stack, of as many cells as the layout table says, is stored.
 use crate::store::store;
 use decoder::tables::Table;
-use erased::layout::size_at;
 use erased::yoke::eval_plain;
+use erased_row::layout::size_at;
 use lingua::errors::NO_ERROR;
 ghost use mathlib.Core.List.{List, []};
 ghost use Prim.Native.Nat.{_+_, _*_, _<_, _≤_};
@@ -14,7 +14,7 @@ ghost use Rattle.lingua.specs.Evaluation.{eval as meaning, no-current};
 ghost use Rattle.lingua.specs.Store.{Variable, contents, assigned};
 ghost use Rattle.lingua.specs.Trees.{expressionTree};
 ghost use Rattle.run.specs.Reached.{lent, Settles};
-ghost use Rattle.erased.specs.Meaning.{Running, HasRunning};
+ghost use Rattle.erased_row.specs.Meaning.{Running, HasRunning};
 ghost use Rattle.erased_store.specs.Meaning.{AssignRow};
 
 pub fn assign(

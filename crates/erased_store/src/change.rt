@@ -11,7 +11,7 @@ ghost use Rattle.lingua.specs.Rows.{pairCount};
 ghost use Rattle.lingua.specs.Store.{Variable, yokeChanged};
 ghost use Rattle.lingua.specs.Trees.{yokeTree};
 ghost use Rattle.run.specs.Reached.{lent, Settles};
-ghost use Rattle.erased.specs.Meaning.{Running, HasRunning};
+ghost use Rattle.erased_row.specs.Meaning.{Running, HasRunning};
 ghost use Rattle.erased_store.specs.Meaning.{YokeRow};
 
 pub fn change_yoke(

@@ -1,7 +1,7 @@
 // Whether a value satisfies a yoke, which is evaluated on the stack; and whether a variable takes a new one.
 use decoder::tables::Table;
-use erased::answer::truth_of;
 use erased::yoke::eval_yoke;
+use erased_row::answer::truth_of;
 use lingua::errors::NO_ERROR;
 use lingua::errors::YOKE_NOT_SATISFIED;
 use lingua::sizes::BODY_CELLS;
@@ -10,7 +10,7 @@ ghost use Prim.Native.Nat.{_+_, _*_, _≤_};
 ghost use lib.ListN.{length};
 ghost use Rattle.lingua.specs.Numbers.{body-cells};
 ghost use Rattle.lingua.specs.Trees.{yokeTree};
-ghost use Rattle.erased.specs.Meaning.{ReadyYoke};
+ghost use Rattle.erased_row.specs.Meaning.{ReadyYoke};
 ghost use Rattle.erased_store.specs.Meaning.{AdmitsValue, HasChange, AdmitsYoke};
 
 // The yoke's error, or that it is not satisfied.

@@ -16,7 +16,7 @@ ghost use Rattle.lingua.specs.Refusal.{isNumberVariable};
 ghost use Rattle.lingua.specs.Store.{Variable, readingTaken};
 ghost use Rattle.run.specs.Reached.{lent, Settles};
 ghost use Rattle.run.specs.Memory.{reading};
-ghost use Rattle.erased.specs.Meaning.{Running, HasRunning};
+ghost use Rattle.erased_row.specs.Meaning.{Running, HasRunning};
 
 pub fn take_reading(
     rows: &[u8],

@@ -16,7 +16,7 @@ ghost use Rattle.lingua.specs.Value.{Composite};
 ghost use Rattle.lingua.specs.Store.{Variable, assigned};
 ghost use Rattle.decoder.specs.declared.tables.Table.{Table};
 ghost use Rattle.run.specs.Reached.{lent, Settles};
-ghost use Rattle.erased.specs.Meaning.{Running};
+ghost use Rattle.erased_row.specs.Meaning.{Running};
 ghost use Rattle.erased_store.specs.Meaning.{ValueFor, Storable, StoreRoom, Satisfies};
 
 // A value that satisfies its yoke. Only numbers have limits, so its first cell is asked.

@@ -1,7 +1,7 @@
 // The one search for a variable by its name.
 use decoder::fields::bytes_at;
 use decoder::tables::Table;
-use rules::names::same_bytes;
+use row_rules::names::same_bytes;
 ghost use mathlib.Core.Path.{_≡_};
 ghost use lib.ListN.{length};
 ghost use Rattle.lingua.specs.Numbers.{declaration-section};

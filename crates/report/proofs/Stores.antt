@@ -26,7 +26,7 @@ use Rattle.safety.specs.Accepted.{accepted-pair, accepted-invariant}
 use Rattle.safety.specs.Memory.{states-at, run-length, present-formed}
 use Rattle.rules.specs.Accepted.{counts}
 use Rattle.run.proofs.Parts.{content-at}
-use Rattle.checked.proofs.Storing.{memory-of}
+use Rattle.checked_row.proofs.Storing.{memory-of}
 use Rattle.text.specs.Line.{contentOf, variableLine}
 use Rattle.report.specs.Memory.{Left, bodyCells, memoryLine, memoryLines}
 

@@ -11,7 +11,7 @@ use Rattle.lingua.specs.Rows.{pairCount}
 use Rattle.lingua.specs.Trees.{nameAt}
 use Rattle.lingua.specs.Format.{rowsOf}
 use Rattle.lingua.specs.Refusal.{lowest, pairRules}
-use Rattle.checked.specs.Meaning.{Stored}
+use Rattle.checked_row.specs.Meaning.{Stored}
 use Rattle.text.specs.Line.{variableLine}
 
 -- memory that a run left: it holds a store of the declared variables, with their present bodies

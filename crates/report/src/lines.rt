@@ -1,6 +1,6 @@
 // The variables' lines, from the memory that a run leaves.
 use body::walk::measure_body;
-use checked::leaves::present;
+use checked_row::leaves::present;
 use decoder::fields::bytes_at;
 use decoder::tables::Table;
 use lingua::sizes::BODY_CELLS;
@@ -16,7 +16,7 @@ ghost use Rattle.lingua.specs.Body.{size};
 ghost use Rattle.lingua.specs.Rows.{pairCount};
 ghost use Rattle.lingua.specs.Store.{Variable, variableAt, presentBody};
 ghost use Rattle.decoder.specs.Tables.{IsTable};
-ghost use Rattle.checked.specs.Meaning.{Stored, HasStored};
+ghost use Rattle.checked_row.specs.Meaning.{Stored, HasStored};
 ghost use Rattle.text.specs.Appended.{Appended};
 ghost use Rattle.report.specs.Memory.{Left, HasLeft, memoryLine, memoryLines};
 

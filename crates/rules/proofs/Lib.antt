@@ -1,5 +1,3 @@
-pub mod Every
-pub mod Forms
 pub mod Refers
 pub mod Usage
 pub mod Reading

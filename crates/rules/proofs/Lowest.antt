@@ -19,8 +19,8 @@ use Rattle.lingua.specs.Refusal.{Rule, rule, lower-of, lowest, rowRules}
 use Rattle.decoder.specs.Tables.{AreTables, Sized}
 use Rattle.rules.specs.Refusals.{linkRules, Linked, Judged}
 use Rattle.decoder.specs.declared.tables.Tables.{Tables}
-use Rattle.rules.proofs.Every.{and-left, and-right}
-use Rattle.rules.proofs.Forms.{counts-profile}
+use Rattle.row_rules.proofs.Every.{and-left, and-right}
+use Rattle.row_rules.proofs.Forms.{counts-profile}
 
 -- every rule of the list has a higher number
 abbrev pub above : ℕ → List Rule → Bool

@@ -21,7 +21,7 @@ use Rattle.lingua.specs.Format.{everyBelow}
 use Rattle.lingua.specs.References.{allBelow, typeParts, instructionVariables, expressionRefers, readsVariable, readsCurrent, declaredYoke, declarationRefers, instructionRefers, referenceWrong, yokeRoots, plainRoots, placeWrong}
 use Rattle.decoder.specs.Reads.{reads, readsRow, Marked}
 use Rattle.decoder.proofs.Counting.{order}
-use Rattle.rules.proofs.Every.{every-at, and-left, and-right, first-true, last-true}
+use Rattle.row_rules.proofs.Every.{every-at, and-left, and-right, first-true, last-true}
 use Rattle.decoder.proofs.Short.{all-ext, all-append}
 use Rattle.rules.proofs.Usage.{joined-snoc}
 

@@ -31,7 +31,7 @@ use Rattle.body.specs.Encode.{Holds, Held}
 use Rattle.body.specs.Typed.{Types}
 use Rattle.body.specs.declared.typed.Typed.{Typed}
 use Rattle.laws.specs.Encoded.{length-encoded}
-use Rattle.body.proofs.Results.{Gives, gives, fails}
+use Rattle.body_half.proofs.Results.{Gives, gives, fails}
 use Rattle.rules.specs.Types.{bodyAt, HeldAt, LooksUp, Answers, TypesReady, BodiesBelow}
 use Rattle.rules.specs.Unrolled.{lower-is, type-unrolled}
 use Rattle.rules.proofs.TypePlaces.{kept-other, kept-own}

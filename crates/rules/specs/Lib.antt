@@ -1,4 +1,3 @@
-pub mod Form
 pub mod Uses
 pub mod Unrolled
 pub mod Accepted

@@ -1,9 +1,5 @@
-// Rules 6 to 13 of what refuses a file, asked of rows that lie flat in a byte slice. Each rule is a function that says just what its
-// test says; refusal.rt asks them in order.
-pub mod constants; // constants.rt: rule 9
-pub mod counts; // counts.rt: rule 7
-pub mod form; // form.rt: rule 6
-pub mod names; // names.rt: rule 8
+// Rules 10 to 13 of what refuses a file: how its rows refer to each other. Each rule is a function that says just what its test says;
+// refusal.rt asks rules 6 to 13 in order.
 pub mod places; // places.rt: rule 12
 pub mod references; // references.rt: rule 10
 pub mod refusal; // refusal.rt: the lowest rule that applies

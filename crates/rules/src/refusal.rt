@@ -1,8 +1,4 @@
 // The lowest of rules 6 to 13 that applies to a file's rows. Rules are asked in order, so that each may rely on those below.
-use crate::constants::constant_wrong;
-use crate::counts::count_wrong;
-use crate::form::form_wrong;
-use crate::names::name_wrong;
 use crate::places::place_wrong;
 use crate::references::reference_wrong;
 use crate::types::type_wrong;
@@ -18,6 +14,10 @@ use lingua::errors::BAD_TYPE;
 use lingua::errors::BAD_USE;
 use lingua::errors::MISPLACED;
 use lingua::errors::NO_ERROR;
+use row_rules::constants::constant_wrong;
+use row_rules::counts::count_wrong;
+use row_rules::form::form_wrong;
+use row_rules::names::name_wrong;
 ghost use mathlib.Core.Path.{_≡_};
 ghost use lib.ListN.{length};
 ghost use Rattle.lingua.specs.Numbers.{type-bodies-length};

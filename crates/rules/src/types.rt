@@ -1,12 +1,12 @@
 // Rule 13 and the bodies of type rows, in a flat array that has BODY_BYTES for each.
-use body::binary::expand;
 use body::typed::Typed;
 use body::typed::scalar;
-use body::unary::make_list;
-use body::unary::make_record;
 use body::walk::BOOLEAN;
 use body::walk::NUMBER;
 use body::walk::WORD;
+use body_half::binary::expand;
+use body_half::unary::make_list;
+use body_half::unary::make_record;
 use decoder::decode::DecodedType;
 use decoder::decode::Simple;
 use decoder::decode::TypeRow;

@@ -33,9 +33,9 @@ use Rattle.run.specs.Kept.{BodiesKept}
 use Rattle.run.proofs.Keeping.{start-bodies}
 use Rattle.run.proofs.Unfilled.{start-at}
 use Rattle.run.specs.Reached.{lent}
-use Rattle.checked.specs.Meaning.{Holdable}
+use Rattle.checked_row.specs.Meaning.{Holdable}
 use Rattle.checked_store.specs.Meaning.{Running as CheckedRunning}
-use Rattle.erased.specs.Meaning.{Running as ErasedRunning}
+use Rattle.erased_row.specs.Meaning.{Running as ErasedRunning}
 use Rattle.walk.specs.declared.way.Way.the-variants as way
 use Rattle.walk.specs.Meaning.{HoldsBy, Holds, context}
 use Rattle.taken.specs.Ways.{NumbersLimited, PassedRows}

@@ -32,7 +32,8 @@ use Rattle.typecheck.specs.Verdicts.{Concludes}
 use Rattle.decoder.specs.declared.tables.Table.{Table}
 use Rattle.run.specs.Reached.{Lent}
 use Rattle.walk.specs.declared.way.Way.the-variants as way
-use Rattle.walk.specs.Meaning.{context, HoldsBy, Holds, Readable, Runs}
+use Rattle.walk.specs.Meaning.{context, HoldsBy, Holds}
+use Rattle.whole_run.specs.Meaning.{Readable, Runs}
 use Rattle.taken.specs.Taken.{RunTaken, RunIs}
 use Rattle.taken.specs.Ways.{Startable, checkedEnd, NumbersLimited, PassedRows, erasedVerdict, erasedRows}
 use Rattle.taken.proofs.Refusing.{short-present, short-layout, run-refuses, type-error-refuses, none-refuses}

@@ -10,7 +10,7 @@ use Rattle.lingua.specs.Inputs.{Inputs, Buffers}
 use Rattle.lingua.specs.Refusal.{lowest, pairRules, runRefusal}
 use Rattle.pair.specs.Pair.{TakenPair, PairIs}
 use Rattle.pair.specs.declared.Pair.{Pair}
-use Rattle.walk.specs.Meaning.{Readable}
+use Rattle.whole_run.specs.Meaning.{Readable}
 
 -- a pair that some two files gave
 pub record PairOf (t : Pair) (areas others bodies : List ℕ) : Type 0 where

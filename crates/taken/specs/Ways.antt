@@ -19,7 +19,7 @@ use Rattle.lingua.specs.Inputs.{Buffers}
 use Rattle.lingua.specs.Calls.{CheckedCall, ErasedCall, readingsOf, ran, withBodies, withLayout}
 use Rattle.safety.specs.Accepted.{AcceptedRows}
 use Rattle.rules.specs.Types.{BodiesBelow}
-use Rattle.walk.specs.Meaning.{Readable}
+use Rattle.whole_run.specs.Meaning.{Readable}
 
 -- what a run of accepted rows asks: lent memory of the listed lengths, and readings for number variables
 pub record Startable (rows who : List ℕ) (numbers : List ℤ) (b : Buffers) : Type 0 where

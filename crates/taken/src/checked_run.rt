@@ -11,7 +11,7 @@ use pair::Pair;
 use run::bodies::keep_bodies;
 use run::start::start;
 use walk::way::Way;
-use walk::whole::run;
+use whole_run::whole::run;
 ghost use mathlib.Core.Path.{_≡_};
 ghost use mathlib.Core.List.{List};
 ghost use Prim.Native.Nat.{ℕ};

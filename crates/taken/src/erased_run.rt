@@ -13,7 +13,7 @@ use pair::Pair;
 use run::start::start;
 use typecheck::whole::check_profile;
 use walk::way::Way;
-use walk::whole::run;
+use whole_run::whole::run;
 ghost use mathlib.Core.Path.{_≡_};
 ghost use mathlib.Core.List.{List};
 ghost use Prim.Native.Nat.{ℕ};

@@ -17,12 +17,12 @@ use Rattle.lingua.specs.Typing.{TypeError, typeError, Entry, Typed, Finding, Bo
 use Rattle.laws.specs.Outcomes.{none-is-some}
 use Rattle.safety.specs.Faults.{some-fault}
 use Rattle.body.specs.Encode.{Holds}
-use Rattle.typecheck.specs.declared.findings.Checked.{Checked}
+use Rattle.typing.specs.declared.findings.Checked.{Checked}
 use Rattle.typecheck.specs.declared.verdicts.Verdict.{Verdict}
-use Rattle.typecheck.specs.Check.{faultAt, Gives}
+use Rattle.typing.specs.Check.{faultAt, Gives}
 use Rattle.typecheck.specs.Verdicts.{Judges, Settles-failed, Settles, inOrder}
-use Rattle.typecheck.proofs.Found.{Passed, fault-named}
-use Rattle.typecheck.proofs.Returns.{placed-append}
+use Rattle.typing.proofs.Found.{Passed, fault-named}
+use Rattle.typing.proofs.Returns.{placed-append}
 
 -- the body that stands for no current value
 pub none-holds : (x : List ℕ) → x ≡ pad body-bytes 0 (1 ∷ []) → Holds x boolean

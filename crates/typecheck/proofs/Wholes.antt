@@ -14,9 +14,9 @@ use Rattle.lingua.specs.Trees.{tabulateFrom, tabulate, instructionTree, declara
 use Rattle.lingua.specs.References.{declaredYoke}
 use Rattle.lingua.specs.Typing.{TypeError, Entry, Bodies, checkInstruction, checkDeclarations, checkProfile, bodiesOf, joined, placed, layoutOf}
 use Rattle.typecheck.specs.declared.verdicts.Verdict.{Verdict}
-use Rattle.typecheck.specs.Check.{variableBodies}
+use Rattle.typing.specs.Check.{variableBodies}
 use Rattle.typecheck.specs.Verdicts.{Settles, inOrder, declarationCheck, instructionCheck, Concludes}
-use Rattle.typecheck.proofs.Returns.{placed-append}
+use Rattle.typing.proofs.Returns.{placed-append}
 use Rattle.typecheck.proofs.Settling.{Settled, settled}
 
 -- ---- the definition by rows

@@ -1,21 +1,40 @@
--- What the check of declarations and instructions gives. Assumes nothing: these are definitions.
+-- What the check of declarations and instructions asks and gives. Assumes nothing: these are definitions.
 use mathlib.Core.Path.{_≡_}
 use mathlib.Core.Bool.{Bool}
 use mathlib.Core.List.{List}
 use mathlib.Core.Option.{none}
-use Prim.Native.Nat.{ℕ, _+_, _≤_}
-use lib.ListN.{replicate}
-use Rattle.lingua.specs.Numbers.{layout-length, declaration-place}
+use Prim.Native.Nat.{ℕ, _+_, _≤_, _<_}
+use lib.ListN.{length, replicate}
+use Rattle.lingua.specs.Numbers.{layout-length, declaration-section, expression-section, declaration-place}
 use Rattle.lingua.specs.Outcome.{Outcome, ok, fail, allAnswers, _>>=_}
 use Rattle.lingua.specs.Body.{Body}
 use Rattle.lingua.specs.Typing.{TypeError, Entry, Typed, Finding, lowestFault, checkYoke, checkInstruction, joined, placed, layoutOf}
+use Rattle.lingua.specs.Rows.{tableCount, pairCount}
 use Rattle.lingua.specs.Trees.{tabulate, yokeTree, instructionTree, bodyOr, declaredBody}
 use Rattle.lingua.specs.References.{declaredYoke}
+use Rattle.decoder.specs.declared.tables.Tables.{Tables}
+use Rattle.body.specs.Encode.{Holds, Held}
+use Rattle.typing.specs.declared.findings.Checked.{Checked}
+use Rattle.typing.specs.Check.{Ready, Gives, variableBodies}
 use Rattle.typecheck.specs.declared.verdicts.Verdict.{Verdict}
-use Rattle.body.specs.Encode.{Holds}
-use Rattle.typecheck.specs.declared.findings.Checked.{Checked}
-use Rattle.typecheck.specs.Check.{Gives, variableBodies}
 
+-- ---- what is asked
+-- what the check of a yoke asks, where the current value has a body
+pub record YokeAsked (rows : List ℕ) (t : Tables) (bodies : List ℕ) (yoke : ℕ) (current layout : List ℕ) : Type 0 where
+  pub ready : Ready rows t bodies
+  pub here : yoke ≤ tableCount rows expression-section
+  pub held : Held current
+  pub room : length layout ≡ layout-length
+
+-- what the check of an assignment of expression e to variable n asks, in an instruction row
+pub record Assigned (rows : List ℕ) (t : Tables) (bodies : List ℕ) (row n e : ℕ) (layout : List ℕ) : Type 0 where
+  pub ready : Ready rows t bodies
+  pub few : row < 256
+  pub declared : n < pairCount rows declaration-section
+  pub here : e < tableCount rows expression-section
+  pub room : length layout ≡ layout-length
+
+-- ---- what is given
 -- what was found of a declaration's or an instruction's expression: without a body it has a fault, with one it is told whether that
 -- is what is asked
 pub record Judges (c : Checked) (suits : Bool) (o : Finding Typed) (asks : Body → Bool) (entry exit : List ℕ) : Type 0 where

@@ -1,11 +1,8 @@
 // The check of tests, yokes, assignments and instructions: each its expression, and then what it asks of the body.
-use crate::findings::Checked;
-use crate::leaves::variable_body;
-use crate::walk::check;
 use body::make::simple;
 use body::parts::same;
-use body::unary::is_boolean;
 use body::walk::BOOLEAN;
+use body_half::unary::is_boolean;
 use decoder::decode::InstructionRow as Row;
 use decoder::tables::Tables;
 use lingua::errors::BOOLEAN_EXPECTED;
@@ -14,6 +11,9 @@ use lingua::errors::YOKE_EXPECTED;
 use lingua::sizes::BODY_BYTES;
 use lingua::sizes::INSTRUCTION_PLACE;
 use profile::row::instruction_row;
+use typing::findings::Checked;
+use typing::leaves::variable_body;
+use typing::walk::check;
 ghost use mathlib.Core.Path.{_≡_};
 ghost use mathlib.Core.Bool.{Bool};
 ghost use mathlib.Core.List.{List};
@@ -26,8 +26,8 @@ ghost use Rattle.lingua.specs.Rows.{tableCount};
 ghost use Rattle.lingua.specs.Typing.{typeError, Typed, Finding, judged, checkYoke, checkTest, checkInstruction};
 ghost use Rattle.lingua.specs.Trees.{expressionTree, yokeTree, instructionTree};
 ghost use Rattle.body.specs.Encode.{Holds};
-ghost use Rattle.typecheck.specs.Check.{Ready, Assigned, YokeAsked, variableBodies};
-ghost use Rattle.typecheck.specs.Verdicts.{Judges, Settles};
+ghost use Rattle.typing.specs.Check.{Ready, variableBodies};
+ghost use Rattle.typecheck.specs.Verdicts.{YokeAsked, Assigned, Judges, Settles};
 
 // The type error that is named and its place, or error 0.
 pub struct Verdict {

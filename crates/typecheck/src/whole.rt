@@ -1,5 +1,4 @@
 // The whole type check: declared yokes first, then instructions by rising row; the earliest that has a fault gives the answer.
-use crate::leaves::variable_body;
 use crate::verdicts::Verdict;
 use crate::verdicts::check_instruction;
 use crate::verdicts::check_yoke;
@@ -8,6 +7,7 @@ use decoder::fields::b_at;
 use decoder::tables::Tables;
 use lingua::sizes::DECLARATION_PLACE;
 use lingua::sizes::LAYOUT_LENGTH;
+use typing::leaves::variable_body;
 ghost use mathlib.Core.Path.{_≡_};
 ghost use mathlib.Core.List.{List};
 ghost use Prim.Native.Nat.{ℕ, _<_};
@@ -16,7 +16,7 @@ ghost use Rattle.lingua.specs.Numbers.{layout-length, declaration-section, inst
 ghost use Rattle.lingua.specs.Rows.{tableCount, pairCount};
 ghost use Rattle.lingua.specs.Typing.{checkProfile};
 ghost use Rattle.lingua.specs.Trees.{profileOf};
-ghost use Rattle.typecheck.specs.Check.{Ready};
+ghost use Rattle.typing.specs.Check.{Ready};
 ghost use Rattle.typecheck.specs.Verdicts.{Settles, inOrder, declarationCheck, instructionCheck, Concludes};
 
 // A declared yoke, on its variable's own body.

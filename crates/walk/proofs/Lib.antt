@@ -1,4 +1,2 @@
 pub mod Ways
 pub mod Rows
-pub mod Taking
-pub mod Ending

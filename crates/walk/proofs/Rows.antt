@@ -27,7 +27,7 @@ use Rattle.run.specs.declared.steps.Status.{Status}
 use Rattle.run.specs.Statuses.{stateOf}
 use Rattle.run.specs.Reached.{Lent, Going, Reached}
 use Rattle.run.specs.Acting.{reaches-as}
-use Rattle.erased.specs.Meaning.{Tests, TestRow}
+use Rattle.erased_row.specs.Meaning.{Tests, TestRow}
 use Rattle.erased_store.specs.Meaning.{AssignRow, YokeRow}
 use Rattle.walk.specs.declared.way.Way.{Way}
 use Rattle.walk.specs.declared.way.Way.the-variants as way

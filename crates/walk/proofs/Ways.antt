@@ -11,7 +11,7 @@ use Rattle.run.specs.declared.steps.Truth.{Truth}
 use Rattle.run.specs.Reached.{Lent, lent, Holding, Settles, Tells}
 use Rattle.run.specs.Memory.{reading}
 use Rattle.checked_store.specs.Meaning.{Running as CheckedRunning}
-use Rattle.erased.specs.Meaning.{Running as ErasedRunning, HasRunning as ErasedHas, HasStore}
+use Rattle.erased_row.specs.Meaning.{Running as ErasedRunning, HasRunning as ErasedHas, HasStore}
 use Rattle.walk.specs.declared.way.Way.{Way}
 use Rattle.walk.specs.declared.way.Way.the-variants as way
 use Rattle.walk.specs.Meaning.{Context, CheckedIn, ErasedIn, HoldsBy, Holds, Standing, Stores, TellsTest}

@@ -1,21 +1,15 @@
 -- What the one walk of instructions asks of its memory and gives, in each of the two ways to run. Assumes nothing: these are definitions.
 use mathlib.Core.Path.{_≡_}
-use mathlib.Core.Bool.{false}
 use mathlib.Core.List.{List, []}
 use Prim.Native.Nat.{ℕ, _+_, _*_, _≤_, _<_}
 use lib.IntN.{ℤ}
-use lib.ListN.{length}
 use Rattle.lingua.specs.Numbers.{body-cells, instruction-section}
 use Rattle.lingua.specs.Outcome.{Result}
 use Rattle.lingua.specs.Rows.{instructionRow}
-use Rattle.lingua.specs.Store.{Reading, Variable, contents, readingTaken}
+use Rattle.lingua.specs.Store.{Variable, contents}
 use Rattle.lingua.specs.Evaluation.{evalTest}
-use Rattle.lingua.specs.Run.{exec, going, lastState, settled, takeReadings, run}
-use Rattle.lingua.specs.Trees.{expressionTree, instructionTree, profileOf}
-use Rattle.lingua.specs.Refusal.{readingWrong}
-use Rattle.lingua.specs.declared.RunAnswer.{RunAnswer}
-use Rattle.lingua.specs.Calls.{ran, runResult}
-use Rattle.safety.specs.Invariant.{declaredStore}
+use Rattle.lingua.specs.Run.{exec}
+use Rattle.lingua.specs.Trees.{expressionTree, instructionTree}
 use Rattle.decoder.specs.Tables.{IsTable}
 use Rattle.decoder.specs.declared.tables.Table.{Table}
 use Rattle.decoder.specs.declared.decode.InstructionRow.{InstructionRow}
@@ -26,7 +20,7 @@ use Rattle.run.specs.declared.steps.Truth.{Truth}
 use Rattle.run.specs.Statuses.{stateOf}
 use Rattle.run.specs.Reached.{Lent, Holding, Going, Reached, Settles, Tells}
 use Rattle.checked_store.specs.Meaning.{Running as CheckedRunning}
-use Rattle.erased.specs.Meaning.{Running as ErasedRunning}
+use Rattle.erased_row.specs.Meaning.{Running as ErasedRunning}
 use Rattle.walk.specs.declared.way.Way.{Way}
 use Rattle.walk.specs.declared.way.Way.the-variants as way
 
@@ -109,30 +103,3 @@ pub record Stores (w : Way) (c : Context) (l after : Lent) (r : ℕ) (f : List V
 -- a test's answer
 pub record TellsTest (w : Way) (c : Context) (l : Lent) (e : ℕ) (r : Truth) : Type 0 where
   pub tells : (vs : List Variable) → Holds w c l vs → Tells r (evalTest (expressionTree (c .rows) e) (contents vs))
-
--- ---- readings
--- two slices of one length, each of whose variables is a number variable (document 01: rule 16)
-pub record Readable (rows who : List ℕ) (numbers : List ℤ) : Type 0 where
-  pub same-length : length who ≡ length numbers
-  pub right : readingWrong rows who ≡ false
-
--- one reading: taken, or its error recorded with its place
-pub record Takes (w : Way) (c : Context) (l after : Lent) (m r : Status) (place n : ℕ) (z : ℤ) : Type 0 where
-  pub goes : Going r
-  pub reaches : (vs : List Variable) → Holds w c l vs → Reached (Holds w c) after r (going (settled (stateOf m vs) place (readingTaken vs (record { variable = n; number = z }))))
-
--- all of them, in order
-pub record TakesAll (w : Way) (c : Context) (l after : Lent) (m r : Status) (rs : List Reading) : Type 0 where
-  pub goes : Going r
-  pub reaches : (vs : List Variable) → Holds w c l vs → Reached (Holds w c) after r (going (takeReadings 0 rs (stateOf m vs)))
-
--- ---- a whole run
--- memory as it is at a run's start, under the limits of some file
-pub record Begins (w : Way) (c : Context) (l : Lent) : Type 0 where
-  pub limits : List ℕ
-  pub holds : Holds w c l (declaredStore (profileOf (c .rows) limits))
-
--- the answer, and the memory where the run ended, are the definition's, and that memory holds the definition's last store
-pub record Runs (w : Way) (c : Context) (l after : Lent) (rs : List Reading) (budget : ℕ) (r : RunAnswer) : Type 0 where
-  pub is : (limits : List ℕ) → Holds w c l (declaredStore (profileOf (c .rows) limits)) → runResult r (after .cells) (after .states) ≡ ran budget (run (profileOf (c .rows) limits) rs budget)
-  pub left : (limits : List ℕ) → Holds w c l (declaredStore (profileOf (c .rows) limits)) → Holds w c after (lastState (run (profileOf (c .rows) limits) rs budget) .store)

@@ -17,7 +17,7 @@ ghost use Rattle.lingua.specs.Store.{contents, assigned, yokeChanged, readingTa
 ghost use Rattle.lingua.specs.Trees.{expressionTree, yokeTree};
 ghost use Rattle.run.specs.Reached.{lent};
 ghost use Rattle.run.specs.Memory.{reading};
-ghost use Rattle.erased.specs.Meaning.{TestRow};
+ghost use Rattle.erased_row.specs.Meaning.{TestRow};
 ghost use Rattle.erased_store.specs.Meaning.{AssignRow, YokeRow};
 ghost use Rattle.walk.specs.Meaning.{context, Standing, StandsUnder, Stores, TellsTest};
 

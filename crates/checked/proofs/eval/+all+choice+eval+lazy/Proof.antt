@@ -15,16 +15,16 @@ use Rattle.body.specs.Encode.{Holds}
 use Rattle.cells.specs.Stack.{Lies}
 use Rattle.profile.specs.Facts.{RowFacts, rowTree}
 use Rattle.profile.specs.Known.{row-known}
-use Rattle.checked.specs.Meaning.{World, Sees}
-use Rattle.checked.proofs.Giving.{gives-error, gives-as}
+use Rattle.checked_row.specs.Meaning.{World, Sees}
+use Rattle.checked_row.proofs.Giving.{gives-error, gives-as}
 use Rattle.profile.specs.Facts.{says-as}
 use Rattle.cells.proofs.Operands.{both-long}
 use Rattle.cells.proofs.Walking.{counted-elements, turn-room, next-place, elementAt}
-use Rattle.checked.proofs.Stacking.{first-stays, second-lies}
-use Rattle.checked.proofs.Seeing.{sees-none}
+use Rattle.checked_row.proofs.Stacking.{first-stays, second-lies}
+use Rattle.checked_row.proofs.Seeing.{sees-none}
 use Rattle.checked.proofs.Walking.{no-list, current-list, element-held, list-cell, list-walks, element-current, sees-more, sees-all, all-is}
-use Rattle.checked.proofs.Simple.{quick-simple, quick-failed}
-use Rattle.checked.proofs.Cycle.{in-table, facts, by-row, lazy-error, lazy-settled, lazy-second-error, lazy-second-told, choice-error, choice-yes, choice-no}
+use Rattle.checked_row.proofs.Simple.{quick-simple, quick-failed}
+use Rattle.checked_row.proofs.Cycle.{in-table, facts, by-row, lazy-error, lazy-settled, lazy-second-error, lazy-second-told, choice-error, choice-yes, choice-no}
 use Prim.Native.Nat.{ℕ, _<_}
 use borrow.Fn.Kinds.{In}
 use borrow.Fn.PlainCycle.{Measures, is, falls, and}
@@ -42,17 +42,17 @@ use Rattle.checked.proofs.eval.lazy.Kinds as lazy-kinds
 use Rattle.checked.proofs.eval.+all+choice+eval+lazy.Lts-lazy as lazy-lts
 use Rattle.body.proofs.make.element.Reads as element-reads
 use Rattle.body.proofs.walk.measure_body.Reads as measure-body-reads
-use Rattle.checked.proofs.answer.failed.Reads as failed-reads
-use Rattle.checked.proofs.answer.simple_value.Reads as simple-value-reads
-use Rattle.checked.proofs.answer.truth_of.Reads as truth-of-reads
-use Rattle.checked.proofs.leaves.constant.Reads as constant-reads
-use Rattle.checked.proofs.leaves.copied.Reads as copied-reads
-use Rattle.checked.proofs.leaves.fetch.Reads as fetch-reads
-use Rattle.checked.proofs.operate.binary.Reads as binary-reads
-use Rattle.checked.proofs.operate.unary.Reads as unary-reads
-use Rattle.checked.proofs.quick.pair.Reads as pair-reads
-use Rattle.checked.proofs.tally.concluded.Reads as concluded-reads
-use Rattle.checked.proofs.tally.tallied.Reads as tallied-reads
+use Rattle.checked_row.proofs.answer.failed.Reads as failed-reads
+use Rattle.checked_row.proofs.answer.simple_value.Reads as simple-value-reads
+use Rattle.checked_row.proofs.answer.truth_of.Reads as truth-of-reads
+use Rattle.checked_row.proofs.leaves.constant.Reads as constant-reads
+use Rattle.checked_row.proofs.leaves.copied.Reads as copied-reads
+use Rattle.checked_row.proofs.leaves.fetch.Reads as fetch-reads
+use Rattle.checked_row.proofs.operate.binary.Reads as binary-reads
+use Rattle.checked_row.proofs.operate.unary.Reads as unary-reads
+use Rattle.checked_row.proofs.quick.pair.Reads as pair-reads
+use Rattle.checked_row.proofs.tally.concluded.Reads as concluded-reads
+use Rattle.checked_row.proofs.tally.tallied.Reads as tallied-reads
 use Rattle.profile.proofs.row.expression_row.Reads as expression-row-reads
 use Rattle.checked.proofs.eval.+all+choice+eval+lazy.{statement}
 use Rattle.checked.proofs.eval.+all+choice+eval+lazy.Tie.{close}

@@ -1,7 +1,7 @@
 -- `eval_yoke` meets its contract, by `always-true` and `yoke-row`. Assumes nothing.
 use native.Mathlib.Omega.{arith}
 use Rattle.lingua.specs.Store.{contents}
-use Rattle.checked.proofs.Giving.{gives-as}
+use Rattle.checked_row.proofs.Giving.{gives-as}
 use Rattle.checked.proofs.Yokes.{always-true, yoke-row}
 use borrow.Author.Needs.{needs}
 use Rattle.checked.proofs.yoke.eval_yoke.Statement.{statement}

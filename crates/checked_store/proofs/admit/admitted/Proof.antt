@@ -5,9 +5,9 @@ use lib.IntN.{ℤ}
 use borrow.Author.Tests.{not-true, not-false}
 use Rattle.cells.proofs.Moves.{cell-back}
 use Rattle.lingua.specs.Store.{variableAt, within}
-use Rattle.checked.proofs.Giving.{gives-as}
+use Rattle.checked_row.proofs.Giving.{gives-as}
 use Rattle.run.proofs.Parts.{word-room}
-use Rattle.checked.proofs.Storing.{memory-of, body-room, present-held}
+use Rattle.checked_row.proofs.Storing.{memory-of, body-room, present-held}
 use Rattle.checked_store.proofs.Admitting.{yoke-there, own-yoke, yoke-error, other-body, no-truth, not-satisfied, out-of-limits, passes}
 use borrow.Author.Needs.{needs}
 use Rattle.checked_store.proofs.admit.admitted.Statement.{statement}

@@ -5,7 +5,7 @@ use Rattle.cells.proofs.Operands.{lies-long}
 use Rattle.run.proofs.Parts.{word-room, states-room, cells-room}
 use Rattle.run.proofs.Settling.{keeps}
 use Rattle.checked_store.proofs.Admitting.{no-yoke}
-use Rattle.checked.proofs.Storing.{memory-of, body-room, present-held}
+use Rattle.checked_row.proofs.Storing.{memory-of, body-room, present-held}
 use Rattle.checked_store.proofs.Assigning.{here-current, copied-current, bounds-of, operand-error, not-admitted, stores}
 use borrow.Author.Needs.{needs}
 use Rattle.checked_store.proofs.assign.assign.Statement.{statement}

@@ -1,7 +1,7 @@
 -- `change_yoke` meets its contract, by `not-changed` and `changed`. Assumes nothing.
 use native.Mathlib.Omega.{arith}
 use Rattle.run.proofs.Parts.{word-room}
-use Rattle.checked.proofs.Storing.{memory-of}
+use Rattle.checked_row.proofs.Storing.{memory-of}
 use Rattle.checked_store.proofs.Changing.{not-changed, changed}
 use borrow.Author.Needs.{needs}
 use Rattle.checked_store.proofs.change.change_yoke.Statement.{statement}

@@ -3,7 +3,7 @@ use mathlib.Core.Path.{sym, _∙_}
 use native.Mathlib.Omega.{arith}
 use borrow.Author.Tests.{not-true, not-false}
 use Rattle.run.proofs.Parts.{states-room, cells-room}
-use Rattle.checked.proofs.Storing.{memory-of, body-room}
+use Rattle.checked_row.proofs.Storing.{memory-of, body-room}
 use Rattle.checked_store.proofs.Yoking.{fetched, none-holds, holds-error, holds-not, holds-true}
 use borrow.Author.Needs.{needs}
 use Rattle.checked_store.proofs.holds.yoke_holds.Statement.{statement}

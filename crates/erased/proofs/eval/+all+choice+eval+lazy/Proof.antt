@@ -14,14 +14,14 @@ use Rattle.lingua.specs.Trees.{expressionTree}
 use Rattle.profile.specs.Facts.{RowFacts, rowTree}
 use Rattle.profile.specs.Known.{row-known}
 use Rattle.run.specs.Reached.{Tells}
-use Rattle.erased.specs.Meaning.{allTold}
-use Rattle.erased.proofs.Telling.{sees-none}
-use Rattle.erased.proofs.Passing.{table-of, layout-room}
+use Rattle.erased_row.specs.Meaning.{allTold}
+use Rattle.erased_row.proofs.Telling.{sees-none}
+use Rattle.erased_row.proofs.Passing.{table-of, layout-room}
 use Rattle.profile.specs.Facts.{says-as}
 use Rattle.cells.proofs.Operands.{both-long}
 use Rattle.cells.proofs.Walking.{turn-room, next-place}
 use Rattle.erased.proofs.Walking.{Listed, ready-listed, list-cell, list-walks, element-ready, firstResults, sees-more, all-evaluates}
-use Rattle.erased.proofs.Cycle.{facts, tree-is, ready-as, evaluates-as, constant-evaluates, has-variable, variable-evaluates, has-current, current-evaluates, unary-ready, has-unary, unary-evaluates, binary-first, binary-second, first-under, has-binary, binary-evaluates, lazy-first, lazy-next, lazy-error, lazy-settled, lazy-second, choice-test, choice-first, choice-other, choice-error, choice-yes, choice-no}
+use Rattle.erased_row.proofs.Cycle.{facts, tree-is, ready-as, evaluates-as, constant-evaluates, has-variable, variable-evaluates, has-current, current-evaluates, unary-ready, has-unary, unary-evaluates, binary-first, binary-second, first-under, has-binary, binary-evaluates, lazy-first, lazy-next, lazy-error, lazy-settled, lazy-second, choice-test, choice-first, choice-other, choice-error, choice-yes, choice-no}
 use Prim.Native.Nat.{ℕ, _<_}
 use borrow.Fn.Kinds.{In}
 use borrow.Fn.PlainCycle.{Measures, is, falls, and}
@@ -37,16 +37,16 @@ use Rattle.erased.proofs.eval.+all+choice+eval+lazy.Lts-eval as eval-lt
 use Rattle.erased.proofs.eval.lazy.Reads as lazy
 use Rattle.erased.proofs.eval.lazy.Kinds as lazy-kinds
 use Rattle.erased.proofs.eval.+all+choice+eval+lazy.Lts-lazy as lazy-lts
-use Rattle.erased.proofs.answer.truth_of.Reads as truth-of-reads
-use Rattle.erased.proofs.layout.second_at.Reads as second-at-reads
-use Rattle.erased.proofs.leaves.constant.Reads as constant-reads
-use Rattle.erased.proofs.leaves.copied.Reads as copied-reads
-use Rattle.erased.proofs.leaves.fetch.Reads as fetch-reads
-use Rattle.erased.proofs.operate.binary.Reads as binary-reads
-use Rattle.erased.proofs.operate.unary.Reads as unary-reads
-use Rattle.erased.proofs.quick.leaf.Reads as leaf-reads
-use Rattle.erased.proofs.tally.concluded.Reads as concluded-reads
-use Rattle.erased.proofs.tally.tallied.Reads as tallied-reads
+use Rattle.erased_row.proofs.answer.truth_of.Reads as truth-of-reads
+use Rattle.erased_row.proofs.layout.second_at.Reads as second-at-reads
+use Rattle.erased_row.proofs.leaves.constant.Reads as constant-reads
+use Rattle.erased_row.proofs.leaves.copied.Reads as copied-reads
+use Rattle.erased_row.proofs.leaves.fetch.Reads as fetch-reads
+use Rattle.erased_row.proofs.operate.binary.Reads as binary-reads
+use Rattle.erased_row.proofs.operate.unary.Reads as unary-reads
+use Rattle.erased_row.proofs.quick.leaf.Reads as leaf-reads
+use Rattle.erased_row.proofs.tally.concluded.Reads as concluded-reads
+use Rattle.erased_row.proofs.tally.tallied.Reads as tallied-reads
 use Rattle.profile.proofs.row.expression_row.Reads as expression-row-reads
 use Rattle.erased.proofs.eval.+all+choice+eval+lazy.{statement}
 use Rattle.erased.proofs.eval.+all+choice+eval+lazy.Tie.{close}

@@ -1,6 +1,6 @@
 -- `assign` meets its contract, by those of `eval_plain` and `store`. Assumes nothing.
 use native.Mathlib.Omega.{arith}
-use Rattle.erased.proofs.Passing.{layout-room}
+use Rattle.erased_row.proofs.Passing.{layout-room}
 use Rattle.erased_store.proofs.Instructions.{assign-ready, not-assigned, given, given-value, assigned-settles}
 use borrow.Author.Needs.{needs}
 use Rattle.erased_store.proofs.assign.assign.Statement.{statement}

@@ -1,7 +1,7 @@
 -- `change_yoke` meets its contract, by `not-changed` and `changed`. Assumes nothing.
 use native.Mathlib.Omega.{arith}
 use Rattle.run.proofs.Parts.{word-room}
-use Rattle.erased.proofs.Cycle.{memory-of}
+use Rattle.erased_row.proofs.Cycle.{memory-of}
 use Rattle.erased_store.proofs.Instructions.{change-ready, not-changed, changed}
 use borrow.Author.Needs.{needs}
 use Rattle.erased_store.proofs.change.change_yoke.Statement.{statement}

@@ -2,7 +2,7 @@
 use mathlib.Core.Path.{sym, _∙_}
 use borrow.Author.Tests.{not-true, not-false}
 use Rattle.run.proofs.Parts.{states-room, cells-room}
-use Rattle.erased.proofs.Cycle.{memory-of}
+use Rattle.erased_row.proofs.Cycle.{memory-of}
 use Rattle.erased_store.proofs.Satisfying.{none-admits, part-ready, part-admits}
 use borrow.Author.Needs.{needs}
 use Rattle.erased_store.proofs.holds.yoke_holds.Statement.{statement}

@@ -2,7 +2,7 @@
 use native.Mathlib.Omega.{arith}
 use Rattle.run.proofs.Parts.{word-room}
 use Rattle.run.proofs.Settling.{keeps}
-use Rattle.erased.proofs.Cycle.{memory-of}
+use Rattle.erased_row.proofs.Cycle.{memory-of}
 use Rattle.erased_store.proofs.Assigning.{yoke-there, always-satisfied, value-narrow, value-ready, value-copied, own-admits, yoke-fails, room}
 use borrow.Author.Needs.{needs}
 use Rattle.erased_store.proofs.store.store.Statement.{statement}

@@ -1,5 +1,5 @@
 -- `report::lines::present_cells` meets its contract: what is measured is the present body. Assumes nothing.
-use Rattle.checked.proofs.Storing.{body-room, present-held}
+use Rattle.checked_row.proofs.Storing.{body-room, present-held}
 use Rattle.report.proofs.lines.present_cells.Statement.{statement}
 use Rattle.report.proofs.lines.present_cells.Tie as tie
 

@@ -3,7 +3,7 @@ use native.Mathlib.Omega.{arith}
 use borrow.Author.Needs.{needs}
 use denote.Ref.{now}
 use Rattle.run.proofs.Parts.{states-room, cells-room}
-use Rattle.checked.proofs.Storing.{memory-of}
+use Rattle.checked_row.proofs.Storing.{memory-of}
 use Rattle.report.proofs.Putting.{there, line-put}
 use Rattle.report.proofs.lines.put_line.Statement.{statement}
 use Rattle.report.proofs.lines.put_line.Tie as tie

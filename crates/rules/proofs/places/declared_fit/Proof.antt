@@ -12,7 +12,7 @@ use Rattle.lingua.specs.Trees.{expressionTree}
 use Rattle.lingua.specs.Format.{everyBelow}
 use Rattle.lingua.specs.References.{declaredYoke}
 use Rattle.decoder.specs.Reads.{reads}
-use Rattle.rules.proofs.Every.{every-none, every-more, every-fails, every-all}
+use Rattle.row_rules.proofs.Every.{every-none, every-more, every-fails, every-all}
 use Rattle.rules.proofs.Refers.{yoke-in}
 use Rattle.rules.proofs.Reading.{roots-to, declared-below}
 use Rattle.rules.proofs.places.declared_fit.Statement.{statement}

@@ -9,7 +9,7 @@ use Rattle.lingua.specs.Trees.{expressionTree}
 use Rattle.lingua.specs.Format.{everyBelow}
 use Rattle.lingua.specs.References.{declaredYoke}
 use Rattle.decoder.specs.Reads.{reads}
-use Rattle.rules.proofs.Every.{third-1, third-2, third-3}
+use Rattle.row_rules.proofs.Every.{third-1, third-2, third-3}
 use Rattle.rules.proofs.Reading.{places-are}
 use borrow.Author.Needs.{needs}
 use Rattle.rules.proofs.places.place_wrong.Statement.{statement}

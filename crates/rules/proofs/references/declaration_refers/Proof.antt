@@ -4,7 +4,7 @@ use Prim.Native.Nat.{_+_, _*_}
 use borrow.Author.Tests.{lt-ltb, le-ltb}
 use native.Mathlib.Omega.{arith}
 use Rattle.lingua.specs.Rows.{aAt, yokeRoot}
-use Rattle.rules.proofs.Every.{both-left, both-right}
+use Rattle.row_rules.proofs.Every.{both-left, both-right}
 use Rattle.decoder.proofs.Short.{within-below}
 use Rattle.rules.proofs.Refers.{declaration-is}
 use borrow.Author.Needs.{needs}

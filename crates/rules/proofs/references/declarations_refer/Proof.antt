@@ -8,7 +8,7 @@ use Rattle.lingua.specs.Numbers.{declaration-section}
 use Rattle.lingua.specs.Rows.{pairCount}
 use Rattle.lingua.specs.Format.{everyBelow}
 use Rattle.lingua.specs.References.{declarationRefers}
-use Rattle.rules.proofs.Every.{every-none, every-more, every-fails, every-all}
+use Rattle.row_rules.proofs.Every.{every-none, every-more, every-fails, every-all}
 use Rattle.rules.proofs.references.declarations_refer.Statement.{statement}
 use Rattle.rules.proofs.references.declarations_refer.Tie as tie
 

@@ -8,7 +8,7 @@ use Rattle.lingua.specs.Numbers.{expression-section}
 use Rattle.lingua.specs.Rows.{tableCount}
 use Rattle.lingua.specs.Format.{everyBelow}
 use Rattle.lingua.specs.References.{expressionRefers}
-use Rattle.rules.proofs.Every.{every-none, every-more, every-fails, every-all}
+use Rattle.row_rules.proofs.Every.{every-none, every-more, every-fails, every-all}
 use Rattle.rules.proofs.references.expressions_refer.Statement.{statement}
 use Rattle.rules.proofs.references.expressions_refer.Tie as tie
 

@@ -8,7 +8,7 @@ use Rattle.lingua.specs.Numbers.{instruction-section}
 use Rattle.lingua.specs.Rows.{tableCount}
 use Rattle.lingua.specs.Format.{everyBelow}
 use Rattle.lingua.specs.References.{instructionRefers}
-use Rattle.rules.proofs.Every.{every-none, every-more, every-fails, every-all}
+use Rattle.row_rules.proofs.Every.{every-none, every-more, every-fails, every-all}
 use Rattle.rules.proofs.references.instructions_refer.Statement.{statement}
 use Rattle.rules.proofs.references.instructions_refer.Tie as tie
 

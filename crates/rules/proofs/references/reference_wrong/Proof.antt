@@ -6,7 +6,7 @@ use Rattle.lingua.specs.Numbers.{declaration-section, type-section, expression-
 use Rattle.lingua.specs.Rows.{tableCount, pairCount, typeRow}
 use Rattle.lingua.specs.Format.{everyBelow}
 use Rattle.lingua.specs.References.{allBelow, typeParts, declarationRefers, expressionRefers, instructionRefers, referenceWrong}
-use Rattle.rules.proofs.Every.{fourth-1, fourth-2, fourth-3, fourth-4}
+use Rattle.row_rules.proofs.Every.{fourth-1, fourth-2, fourth-3, fourth-4}
 use borrow.Author.Needs.{needs}
 use Rattle.rules.proofs.references.reference_wrong.Statement.{statement}
 use Rattle.rules.proofs.references.reference_wrong.Tie as tie

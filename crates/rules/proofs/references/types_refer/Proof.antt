@@ -9,7 +9,7 @@ use Rattle.lingua.specs.Numbers.{type-section}
 use Rattle.lingua.specs.Rows.{tableCount, typeRow}
 use Rattle.lingua.specs.Format.{everyBelow}
 use Rattle.lingua.specs.References.{allBelow, typeParts}
-use Rattle.rules.proofs.Every.{every-none, every-more, every-fails, every-all}
+use Rattle.row_rules.proofs.Every.{every-none, every-more, every-fails, every-all}
 use Rattle.decoder.proofs.Short.{within-below}
 use Rattle.rules.proofs.references.types_refer.Statement.{statement}
 use Rattle.rules.proofs.references.types_refer.Tie as tie

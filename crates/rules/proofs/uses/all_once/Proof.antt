@@ -7,7 +7,7 @@ use borrow.Author.Tests.{eq-eqb, ne-eqb}
 use lib.Dec.{eqb}
 use lib.ListN.{getD}
 use Rattle.lingua.specs.Format.{everyBelow}
-use Rattle.rules.proofs.Every.{every-none, every-more, every-fails, every-all}
+use Rattle.row_rules.proofs.Every.{every-none, every-more, every-fails, every-all}
 use Rattle.rules.proofs.Usage.{once-is}
 use Rattle.rules.proofs.uses.all_once.Statement.{statement}
 use Rattle.rules.proofs.uses.all_once.Tie as tie

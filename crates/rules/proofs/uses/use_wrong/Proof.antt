@@ -3,7 +3,7 @@ use mathlib.Core.Path.{sym, ap, _∙_}
 use mathlib.Core.Bool.{not}
 use borrow.Author.Tests.{not-true, not-false}
 use Rattle.lingua.specs.References.{useWrong}
-use Rattle.rules.proofs.Every.{both-left, both-right}
+use Rattle.row_rules.proofs.Every.{both-left, both-right}
 use borrow.Author.Needs.{needs}
 use Rattle.rules.proofs.uses.use_wrong.Statement.{statement}
 use Rattle.rules.proofs.uses.use_wrong.Tie as tie

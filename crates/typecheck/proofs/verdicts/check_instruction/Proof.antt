@@ -14,8 +14,8 @@ use Rattle.decoder.specs.declared.decode.InstructionRow.the-variants as row
 use Rattle.decoder.proofs.decode.InstructionRow.{the-type}
 use Rattle.profile.specs.Known.{instruction-row-known}
 use Rattle.profile.specs.Facts.{InstructionFacts, instructionRowTree}
-use Rattle.typecheck.specs.Check.{variableBodies}
-use Rattle.typecheck.proofs.Rows.{instruction-at, instruction-tree-at}
+use Rattle.typing.specs.Check.{variableBodies}
+use Rattle.typing.proofs.Rows.{instruction-at, instruction-tree-at}
 use Rattle.profile.specs.Yokes.{every-yoke}
 use Rattle.typecheck.proofs.Settling.{nothing-settles}
 use borrow.Author.Needs.{needs}

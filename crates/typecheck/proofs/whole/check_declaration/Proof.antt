@@ -11,7 +11,7 @@ use Rattle.body.specs.Encode.{Holds}
 use Rattle.rules.specs.Accepted.{counts}
 use Rattle.typecheck.specs.Verdicts.{declarationCheck}
 use Rattle.profile.specs.Yokes.{all-yoke}
-use Rattle.typecheck.proofs.Parts.{variable-is, declared-yoke, detail-is, detail-within}
+use Rattle.typing.proofs.Parts.{variable-is, declared-yoke, detail-is, detail-within}
 use borrow.Author.Needs.{needs}
 use Rattle.typecheck.proofs.whole.check_declaration.Statement.{statement}
 use Rattle.typecheck.proofs.whole.check_declaration.Tie as tie

@@ -1,0 +1,7 @@
+pub mod Halves
+pub mod Bounds
+pub mod Expanding
+pub mod Results
+pub mod Offsets
+pub mod Simple
+pub mod HalfEnds
