@@ -7,13 +7,13 @@ use lib.IntN.{ℤ}
 use Rattle.lingua.specs.Numbers.{rows-length, layout-length}
 use Rattle.lingua.specs.Outcome.{Outcome, ok, fail}
 use Rattle.lingua.specs.Value.{pad}
-use Rattle.lingua.specs.Store.{Reading, cellsIn, statesIn, bodiesIn}
-use Rattle.lingua.specs.Run.{Progress, run, lastState, endOf, stepsOf}
+use Rattle.lingua.specs.Store.{Reading, cellsIn, statesIn, openCellsIn, openStatesIn, presentIn}
+use Rattle.lingua.specs.Run.{Progress, run, lastState, openCalls, endOf, stepsOf}
 use Rattle.lingua.specs.Typing.{TypeError, Entry, checkProfile, layoutOf}
 use Rattle.lingua.specs.Rows.{rowCount}
 use Rattle.lingua.specs.Trees.{profileOf}
 use Rattle.lingua.specs.Format.{File, modelOf, rowsOf, fileOf}
-use Rattle.lingua.specs.Inputs.{Inputs, Buffers}
+use Rattle.lingua.specs.Inputs.{Inputs, Buffers, buffers}
 use Rattle.lingua.specs.Refusal.{readRefusal, writeRefusal, typeCheckRefusal, checkedRefusal, erasedRefusal}
 use Rattle.lingua.specs.Answers.{Answer, refused, answered, Ending, ending, endNumber, Verdict, passed, faulted, RowsRead, runMeaning, typeCheckMeaning, readMeaning, writeMeaning}
 use Rattle.lingua.specs.declared.RunAnswer.{RunAnswer}
@@ -65,8 +65,7 @@ typeCheckCall prof lims layout = typeCheckUnless (typeCheckRefusal prof lims lay
 -- ---- what both runs give
 pub record RunCall : Type 0 where
   pub answer : Answer Ending
-  pub cells : List ℤ
-  pub states : List ℕ
+  pub registers : Buffers
 
 -- the two slices of equal length, place by place
 unfoldable pub readingsOf : List ℕ → List ℤ → List Reading
@@ -77,9 +76,13 @@ readingsOf (v ∷ vs) (z ∷ zs) = record { variable = v; number = z } ∷ readi
 unfoldable pub endingOf : ℕ → Progress → Ending
 endingOf budget p = ending (endNumber (endOf p)) (lastState p .error) (lastState p .place) (stepsOf budget p)
 
+-- the caller's buffers as a run leaves them
+unfoldable pub registersOf : Progress → Buffers
+registersOf p =
+    buffers (cellsIn (lastState p .store)) (statesIn (lastState p .store)) (openCellsIn (openCalls p)) (openStatesIn (openCalls p))
+
 unfoldable pub ran : ℕ → Progress → RunCall
-ran budget p =
-    record { answer = answered (endingOf budget p); cells = cellsIn (lastState p .store); states = statesIn (lastState p .store) }
+ran budget p = record { answer = answered (endingOf budget p); registers = registersOf p }
 
 -- the run of both files' profile
 unfoldable pub runOf : Inputs → ℕ → Progress
@@ -88,16 +91,15 @@ runOf i budget = run (profileOf (rowsOf (i .profile)) (rowsOf (i .limits))) (rea
 -- ---- the checked run (document 01: desk run): it hands the present bodies out
 pub record CheckedCall : Type 0 where
   pub answer : Answer Ending
-  pub cells : List ℤ
-  pub states : List ℕ
+  pub registers : Buffers
   pub bodies : List ℕ
 
 abbrev pub withBodies : RunCall → List ℕ → CheckedCall
-withBodies c bodies = record { answer = c .answer; cells = c .cells; states = c .states; bodies = bodies }
+withBodies c bodies = record { answer = c .answer; registers = c .registers; bodies = bodies }
 
 unfoldable pub checkedUnless : ℕ → Inputs → ℕ → Buffers → List ℕ → CheckedCall
-checkedUnless zero i budget b bodies = withBodies (ran budget (runOf i budget)) (bodiesIn (lastState (runOf i budget) .store))
-checkedUnless (suc n) i budget b bodies = record { answer = refused (suc n); cells = b .cells; states = b .states; bodies = bodies }
+checkedUnless zero i budget b bodies = withBodies (ran budget (runOf i budget)) (presentIn (lastState (runOf i budget) .store) (openCalls (runOf i budget)))
+checkedUnless (suc n) i budget b bodies = record { answer = refused (suc n); registers = b; bodies = bodies }
 
 unfoldable pub checkedCall : Inputs → ℕ → Buffers → List ℕ → CheckedCall
 checkedCall i budget b bodies = checkedUnless (checkedRefusal i b bodies) i budget b bodies
@@ -105,17 +107,16 @@ checkedCall i budget b bodies = checkedUnless (checkedRefusal i b bodies) i budg
 -- ---- the erased run (document 01: chair run): the checked run's meaning, with rule 17, and the layout table that it fills
 pub record ErasedCall : Type 0 where
   pub answer : Answer Ending
-  pub cells : List ℤ
-  pub states : List ℕ
+  pub registers : Buffers
   pub layout : List ℕ
 
 abbrev pub withLayout : RunCall → List ℕ → ErasedCall
-withLayout c layout = record { answer = c .answer; cells = c .cells; states = c .states; layout = layout }
+withLayout c layout = record { answer = c .answer; registers = c .registers; layout = layout }
 
 unfoldable pub erasedUnless : ℕ → Inputs → ℕ → Buffers → List ℕ → ErasedCall
 erasedUnless zero i budget b layout =
     withLayout (ran budget (runOf i budget)) (typeCheckCall (i .profile) (i .limits) layout .layout)
-erasedUnless (suc n) i budget b layout = record { answer = refused (suc n); cells = b .cells; states = b .states; layout = layout }
+erasedUnless (suc n) i budget b layout = record { answer = refused (suc n); registers = b; layout = layout }
 
 unfoldable pub erasedCall : Inputs → ℕ → Buffers → List ℕ → ErasedCall
 erasedCall i budget b layout = erasedUnless (erasedRefusal i b layout) i budget b layout
@@ -130,11 +131,11 @@ writeResult r buffer = record { answer = writeMeaning r; buffer = buffer }
 unfoldable pub typeCheckResult : CheckAnswer → List ℕ → TypeCheckCall
 typeCheckResult r layout = record { answer = typeCheckMeaning r; layout = layout }
 
-unfoldable pub runResult : RunAnswer → List ℤ → List ℕ → RunCall
-runResult r cells states = record { answer = runMeaning r; cells = cells; states = states }
+unfoldable pub runResult : RunAnswer → Buffers → RunCall
+runResult r b = record { answer = runMeaning r; registers = b }
 
-unfoldable pub checkedResult : RunAnswer → List ℤ → List ℕ → List ℕ → CheckedCall
-checkedResult r cells states bodies = record { answer = runMeaning r; cells = cells; states = states; bodies = bodies }
+unfoldable pub checkedResult : RunAnswer → Buffers → List ℕ → CheckedCall
+checkedResult r b bodies = record { answer = runMeaning r; registers = b; bodies = bodies }
 
-unfoldable pub erasedResult : RunAnswer → List ℤ → List ℕ → List ℕ → ErasedCall
-erasedResult r cells states layout = record { answer = runMeaning r; cells = cells; states = states; layout = layout }
+unfoldable pub erasedResult : RunAnswer → Buffers → List ℕ → ErasedCall
+erasedResult r b layout = record { answer = runMeaning r; registers = b; layout = layout }

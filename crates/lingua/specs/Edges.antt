@@ -68,7 +68,7 @@ abbrev pub speed : Yoke → Option Limit → Declaration
 speed y l = record { name = 83 ∷ 80 ∷ 69 ∷ 69 ∷ 68 ∷ 0 ∷ 0 ∷ 0 ∷ []; body = number; declared = y; limit = l }
 
 abbrev pub program : Declaration → Instruction → Profile
-program d i = record { declarations = d ∷ []; instructions = []; program = i }
+program d i = record { declarations = d ∷ []; procedures = []; instructions = []; program = i }
 
 abbrev pub up-to-600 : Option Limit
 up-to-600 = some (record { low = pos 0; high = pos 600 })

@@ -6,15 +6,15 @@ use mathlib.Core.Option.{Option, some, none}
 use Prim.Native.Nat.{ℕ, suc, _+_}
 use lib.Dec.{eqb}
 use lib.ListN.{set}
-use Rattle.lingua.specs.Numbers.{reading-place}
+use Rattle.lingua.specs.Numbers.{reading-place, most-calls}
 use Rattle.lingua.specs.Errors.{no-error, overflow, yoke-not-satisfied, not-filled}
 use Rattle.lingua.specs.Outcome.{ok, Result, _>>=_, _>>_, require, orFail, if_then_else_, allAnswers}
 use Rattle.lingua.specs.Value.{Value, truth, whole, inRange, asTruth, asWhole, asItems, valueList, allOf, Composite, composite}
 use Rattle.lingua.specs.Compute.{unaryValue, binaryValue}
-use Rattle.lingua.specs.Expression.{settledBy, Expression, constant, variable, current, unary, binary, lazy, choice, all-list, Yoke, always, yoke, Instruction, skip, assign, set-yoke, sequence, branch, loop, handle}
+use Rattle.lingua.specs.Expression.{settledBy, Expression, constant, variable, current, unary, binary, lazy, choice, all-list, Yoke, always, yoke, Instruction, skip, assign, set-yoke, sequence, branch, loop, handle, call}
 use Rattle.lingua.specs.Evaluation.{Variables}
 use Rattle.lingua.specs.Store.{Limit, Variable, variableAt, contents, withContent, withYoke, within, Reading}
-use Rattle.lingua.specs.Run.{State, Progress, going, settled, proceed, step, act, decided, handled, repeat, Profile, started}
+use Rattle.lingua.specs.Run.{State, Progress, going, settled, proceed, step, act, decided, handled, repeat, Calling, called, Profile, started}
 
 -- ---- evaluation
 -- each variable's value, none where it is not filled
@@ -87,15 +87,20 @@ changedErased vs n y = do
   yokeHoldsErased y (valuesOf (contents vs)) (valuesOf (contents vs) n)
   ok (set vs n (withYoke (variableAt vs n) y))
 
-unfoldable pub execErased : Instruction → State → Progress
-execErased (skip r) s = act s (λ t. going t)
-execErased (assign r n e) s =
+-- a copy keeps the value alone
+unfoldable pub copyErased : List Variable → ℕ → Composite → Result (List Variable)
+copyErased vs n x = assignedErased vs n (x .value)
+
+unfoldable pub execErased : Calling → Instruction → State → Progress
+execErased calls (skip r) s = act s (λ t. going t)
+execErased calls (assign r n e) s =
     act s (λ t. going (settled t r (evalErased e (valuesOf (contents (t .store))) (truth false) >>= λ v. assignedErased (t .store) n v)))
-execErased (set-yoke r n y) s = act s (λ t. going (settled t r (changedErased (t .store) n y)))
-execErased (sequence r i j) s = proceed (execErased i s) (λ t. execErased j t)
-execErased (branch r e i j) s = act s (λ t. decided (testErased e (valuesOf (contents (t .store)))) r t (λ u. execErased i u) (λ u. execErased j u))
-execErased (loop r e i) s = repeat (suc (s .left)) (λ t. testErased e (valuesOf (contents (t .store)))) r (λ t. execErased i t) s
-execErased (handle r n i) s = step s (λ t. handled (eqb (t .error) n) t (λ u. execErased i u))
+execErased calls (set-yoke r n y) s = act s (λ t. going (settled t r (changedErased (t .store) n y)))
+execErased calls (sequence r i j) s = proceed (execErased calls i s) (λ t. execErased calls j t)
+execErased calls (branch r e i j) s = act s (λ t. decided (testErased e (valuesOf (contents (t .store)))) r t (λ u. execErased calls i u) (λ u. execErased calls j u))
+execErased calls (loop r e i) s = repeat (suc (s .left)) (λ t. testErased e (valuesOf (contents (t .store)))) r (λ t. execErased calls i t) s
+execErased calls (handle r n i) s = step s (λ t. handled (eqb (t .error) n) t (λ u. execErased calls i u))
+execErased calls (call r k vs rs) s = act s (λ t. calls r k vs rs t)
 
 unfoldable pub readingErased : List Variable → Reading → Result (List Variable)
 readingErased vs r = do
@@ -111,4 +116,5 @@ readingsErased i [] s = s
 readingsErased i (r ∷ rs) s = readingsErased (suc i) rs (takenErased (eqb (s .error) no-error) s i r)
 
 unfoldable pub runErased : Profile → List Reading → ℕ → Progress
-runErased p readings budget = execErased (p .program) (readingsErased 0 readings (started p budget))
+runErased p readings budget =
+    execErased (called copyErased execErased (p .procedures) most-calls) (p .program) (readingsErased 0 readings (started p budget))

@@ -67,9 +67,13 @@ body-too-large = 18
 abbrev pub last-attribute : ℕ
 last-attribute = 19
 
+-- ---- a run error again: one call more than may be open
+abbrev pub too-deep : ℕ
+too-deep = 20
+
 -- ---- the two classes: whatever speaks of a class asks one of these tests
 abbrev pub run-errors : List ℕ
-run-errors = overflow ∷ division-by-zero ∷ yoke-not-satisfied ∷ list-empty ∷ list-full ∷ word-too-long ∷ not-filled ∷ []
+run-errors = overflow ∷ division-by-zero ∷ yoke-not-satisfied ∷ list-empty ∷ list-full ∷ word-too-long ∷ not-filled ∷ too-deep ∷ []
 
 abbrev pub type-errors : List ℕ
 type-errors =
@@ -92,9 +96,9 @@ isError n = isRunError n || isTypeError n
 
 -- all of them are below this
 abbrev pub error-numbers : ℕ
-error-numbers = 20
+error-numbers = 21
 
--- ---- refusals, in the order in which they are asked
+-- ---- refusals
 abbrev pub bad-buffer : ℕ
 bad-buffer = 1
 
@@ -145,3 +149,15 @@ bad-reading = 16
 
 abbrev pub type-error-found : ℕ
 type-error-found = 17
+
+abbrev pub bad-parameters : ℕ
+bad-parameters = 18
+
+abbrev pub repeated-reference : ℕ
+repeated-reference = 19
+
+-- the order in which a refusal wins over another; 0, which is none, stands before them
+abbrev pub refusal-order : List ℕ
+refusal-order =
+    no-error ∷ bad-buffer ∷ bad-length ∷ bad-marker ∷ bad-header ∷ bad-check ∷ bad-form ∷ bad-count ∷ bad-name ∷ bad-constant ∷ bad-reference
+    ∷ bad-use ∷ misplaced ∷ bad-type ∷ bad-parameters ∷ repeated-reference ∷ models-differ ∷ bad-limit ∷ bad-reading ∷ type-error-found ∷ []

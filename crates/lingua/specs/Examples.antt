@@ -16,12 +16,12 @@ use Rattle.lingua.specs.Operation.{negation, make-record, select, pop, r
 use Rattle.lingua.specs.Expression.{conjunction, Expression, constant, variable, current, unary, binary, lazy, choice, all-list, Yoke, always, yoke, Instruction, skip, assign, set-yoke, sequence, loop, handle}
 use Rattle.lingua.specs.Evaluation.{booleanOf, applyUnary, applyBinary, no-current}
 use Rattle.lingua.specs.Store.{Reading, cellsIn, statesIn, bodiesIn}
-use Rattle.lingua.specs.Run.{Declaration, Profile, run, lastState}
+use Rattle.lingua.specs.Run.{Declaration, Procedure, Scoped, scoped, Profile, run, lastState, openCalls}
 use Rattle.lingua.specs.Typing.{typeError, Typed, Finding, fault, Bodies, check, checkYoke, checkTest, checkProfile, layoutOf}
 use Rattle.lingua.specs.Meets.{met, runMet}
 use Rattle.lingua.specs.Format.{profile, limits, blockCheck, fileOf, rowsOf}
 use Rattle.lingua.specs.Answers.{refused, answered, Ending, ending, faulted}
-use Rattle.lingua.specs.Inputs.{inputs, buffers}
+use Rattle.lingua.specs.Inputs.{inputs, Buffers, buffers}
 use Rattle.lingua.specs.Calls.{endingOf, typeCheckCall, erasedCall}
 use Rattle.lingua.specs.Refusal.{typeCheckRefusal}
 use Rattle.lingua.specs.Report.{reportText}
@@ -278,11 +278,11 @@ abbrev pub loop-on-number : ℕ → ℕ → Instruction
 loop-on-number i r = loop i (unary r negation (one-in 0)) (skip 9)
 
 -- the earliest instruction, though a later one has a lower row at fault; and a declared yoke before them
-pub earliest-instruction : checkProfile (record { declarations = []; instructions = loop-on-number 0 5 ∷ loop-on-number 1 2 ∷ []; program = skip 9 }) ≡ fail (typeError boolean-expected 5)
+pub earliest-instruction : checkProfile (record { declarations = []; procedures = []; instructions = scoped 0 (loop-on-number 0 5) ∷ scoped 0 (loop-on-number 1 2) ∷ []; program = skip 9 }) ≡ fail (typeError boolean-expected 5)
 unfolding computing
 earliest-instruction = refl
 
-pub declarations-first : checkProfile (record { declarations = speed (yoke (unary 7 negation (current 6))) none ∷ []; instructions = loop-on-number 0 5 ∷ []; program = skip 9 }) ≡ fail (typeError boolean-expected 7)
+pub declarations-first : checkProfile (record { declarations = speed (yoke (unary 7 negation (current 6))) none ∷ []; procedures = []; instructions = scoped 0 (loop-on-number 0 5) ∷ []; program = skip 9 }) ≡ fail (typeError boolean-expected 7)
 unfolding computing
 declarations-first = refl
 
@@ -480,7 +480,11 @@ pub type-error-zeroes : typeCheckCall wrong-file example-limits-file (replicate 
 unfolding computing example-rows example-limits-file example-limits wrong-rows wrong-file
 type-error-zeroes = refl
 
-pub refused-leaves : erasedCall (inputs wrong-file example-limits-file [] []) 9 (buffers (replicate 1024 (pos 5)) (replicate 32 5)) (replicate 1024 5)
-    ≡ record { answer = refused type-error-found; cells = replicate 1024 (pos 5); states = replicate 32 5; layout = replicate 1024 5 }
+-- the caller's buffers, full of fives
+abbrev pub fives : Buffers
+fives = buffers (replicate 1024 (pos 5)) (replicate 32 5) (replicate 16384 (pos 5)) (replicate 512 5)
+
+pub refused-leaves : erasedCall (inputs wrong-file example-limits-file [] []) 9 fives (replicate 1024 5)
+    ≡ record { answer = refused type-error-found; registers = fives; layout = replicate 1024 5 }
 unfolding computing example-rows example-limits-file example-limits wrong-rows wrong-file
 refused-leaves = refl

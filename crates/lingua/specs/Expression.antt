@@ -1,5 +1,6 @@
 -- Expressions and instructions as trees whose nodes carry their row numbers. Assumes nothing: these are definitions.
 use mathlib.Core.Bool.{Bool, true, false}
+use mathlib.Core.List.{List}
 use Prim.Native.Nat.{ℕ, suc}
 use Rattle.lingua.specs.Value.{Composite}
 use Rattle.lingua.specs.Operation.{Unary, Binary}
@@ -59,3 +60,5 @@ pub data Instruction : Type 0 where
   loop : ℕ → Expression → Instruction → Instruction
   -- on error n do the instruction
   handle : ℕ → ℕ → Instruction → Instruction
+  -- procedure n, called with variables by value and by reference
+  call : ℕ → ℕ → List ℕ → List ℕ → Instruction

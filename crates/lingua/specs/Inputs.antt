@@ -13,10 +13,13 @@ pub record Inputs : Type 0 where
 abbrev pub inputs : List ℕ → List ℕ → List ℕ → List ℤ → Inputs
 inputs prof lims variables numbers = record { profile = prof; limits = lims; variables = variables; numbers = numbers }
 
--- the caller's buffers: cells and state words (document 01: marks)
+-- the caller's buffers: cells and state words (document 01: marks), of the profile's variables and of the open calls'
 pub record Buffers : Type 0 where
   pub cells : List ℤ
   pub states : List ℕ
+  pub open-cells : List ℤ
+  pub open-states : List ℕ
 
-abbrev pub buffers : List ℤ → List ℕ → Buffers
-buffers cells states = record { cells = cells; states = states }
+abbrev pub buffers : List ℤ → List ℕ → List ℤ → List ℕ → Buffers
+buffers cells states open-cells open-states =
+    record { cells = cells; states = states; open-cells = open-cells; open-states = open-states }

@@ -28,3 +28,4 @@ pub mod Report
 pub mod Computing
 pub mod Edges
 pub mod Examples
+pub mod CallExamples

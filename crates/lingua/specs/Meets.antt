@@ -7,18 +7,19 @@ use mathlib.Core.List.{List, [], _∷_, _++_, map}
 use mathlib.Core.Option.{Option, some, none}
 use Prim.Native.Nat.{ℕ, zero, suc}
 use lib.Dec.{eqb, ltb}
+use lib.ListN.{length}
 use lib.IntN.{pos}
-use Rattle.lingua.specs.Numbers.{record-attributes, list-places}
-use Rattle.lingua.specs.Errors.{no-error, overflow, division-by-zero, yoke-not-satisfied, list-full, number-expected, boolean-expected, word-expected, list-expected, record-expected, no-such-attribute, attribute-present, no-coherence, yoke-expected, not-comparable, body-too-large}
+use Rattle.lingua.specs.Numbers.{record-attributes, list-places, most-calls}
+use Rattle.lingua.specs.Errors.{no-error, overflow, division-by-zero, yoke-not-satisfied, list-full, not-filled, too-deep, number-expected, boolean-expected, word-expected, list-expected, record-expected, no-such-attribute, attribute-present, no-coherence, yoke-expected, not-comparable, body-too-large}
 use Rattle.lingua.specs.Outcome.{ok, fail, Result, require, orFail, _>>=_, _>>_}
 use Rattle.lingua.specs.Body.{Body, number, sameBody, coherent, isNumber, isWord, isSimple, elementBody, attributesOf, attributeBody, countAttributes}
 use Rattle.lingua.specs.Value.{whole, asWhole, asItems, countValues, inRange, Composite, composite}
 use Rattle.lingua.specs.Operation.{Binary, add, subtract, multiply, divide, less, equal, glue, expand, change, push, present}
 use Rattle.lingua.specs.Compute.{sameNumber}
-use Rattle.lingua.specs.Expression.{settledBy, Expression, constant, variable, current, unary, binary, lazy, choice, all-list, Yoke, always, yoke, Instruction, skip, assign, set-yoke, sequence, branch, loop, handle}
+use Rattle.lingua.specs.Expression.{settledBy, Expression, constant, variable, current, unary, binary, lazy, choice, all-list, Yoke, always, yoke, Instruction, skip, assign, set-yoke, sequence, branch, loop, handle, call}
 use Rattle.lingua.specs.Evaluation.{Variables, eval, evalYoke, evalTest, applyUnary, applyBinary, truthOr, elementsOf, no-current}
-use Rattle.lingua.specs.Store.{Variable, variableAt, presentBody, contents, within, Reading}
-use Rattle.lingua.specs.Run.{State, Progress, going, out, withLeft, withError, exec, Profile, started, takenUnless, takeReadings}
+use Rattle.lingua.specs.Store.{Variable, variableAt, presentBody, contents, within, assigned, copied, copiedIn, Reading}
+use Rattle.lingua.specs.Run.{State, Progress, going, out, withStore, withLeft, withError, settled, Calling, exec, Procedure, procedureAt, begun, carried, called, Profile, started, takenUnless, takeReadings}
 use Rattle.lingua.specs.Typing.{joined}
 
 -- the error that a check gives
@@ -159,7 +160,7 @@ onActing s f = actMet (eqb (s .error) no-error) s f
 
 abbrev pub onGoing : Progress → (State → List ℕ) → List ℕ
 onGoing (going s) f = f s
-onGoing (out s) f = []
+onGoing (out s os) f = []
 
 abbrev pub onDecided : Result Bool → (Unit {0} → List ℕ) → (Unit {0} → List ℕ) → List ℕ
 onDecided (ok true) f g = f tt
@@ -179,20 +180,48 @@ repeatMet (suc k) e body bodyMet s =
     (λ u. bodyMet t ++ onGoing (body t) (λ w. repeatMet k e body bodyMet w))
     (λ u. []))
 
-unfoldable pub execMet : Instruction → State → List ℕ
-execMet (skip r) s = []
-execMet (assign r n e) s =
+-- what a call meets, as what it does is given
+abbrev pub CallingMet : Type 0
+CallingMet = ℕ → ℕ → List ℕ → List ℕ → State → List ℕ
+
+unfoldable pub execMet : Calling → CallingMet → Instruction → State → List ℕ
+execMet calls callsMet (skip r) s = []
+execMet calls callsMet (assign r n e) s =
     onActing s (λ t. met e (contents (t .store)) no-current
     ++ onAnswer (eval e (contents (t .store)) no-current) (λ x. assignMet (t .store) n x))
-execMet (set-yoke r n y) s =
+execMet calls callsMet (set-yoke r n y) s =
     onActing s (λ t. onFilled (variableAt (t .store) n .content) (λ x. yokeChecksMet y (contents (t .store)) x))
-execMet (sequence r i j) s = execMet i s ++ onGoing (exec i s) (λ t. execMet j t)
-execMet (branch r e i j) s =
+execMet calls callsMet (sequence r i j) s = execMet calls callsMet i s ++ onGoing (exec calls i s) (λ t. execMet calls callsMet j t)
+execMet calls callsMet (branch r e i j) s =
     onActing s (λ t. testMet e (contents (t .store))
-    ++ onDecided (evalTest e (contents (t .store))) (λ u. execMet i t) (λ u. execMet j t))
-execMet (loop r e i) s = repeatMet (suc (s .left)) e (λ t. exec i t) (λ t. execMet i t) s
-execMet (handle r n i) s =
-    stepMet (s .left) s (λ t. onHandled (eqb (t .error) n) (λ u. execMet i (withError t no-error 0)))
+    ++ onDecided (evalTest e (contents (t .store))) (λ u. execMet calls callsMet i t) (λ u. execMet calls callsMet j t))
+execMet calls callsMet (loop r e i) s = repeatMet (suc (s .left)) e (λ t. exec calls i t) (λ t. execMet calls callsMet i t) s
+execMet calls callsMet (handle r n i) s =
+    stepMet (s .left) s (λ t. onHandled (eqb (t .error) n) (λ u. execMet calls callsMet i (withError t no-error 0)))
+execMet calls callsMet (call r k vs rs) s = onActing s (λ t. callsMet r k vs rs t)
+
+-- ---- calls: each copy that is made meets what an assignment does
+unfoldable pub copyMet : List Variable → ℕ → List Variable → ℕ → List ℕ
+copyMet from n to m = errorIn (orFail (contents from n) not-filled) ++ onFilled (contents from n) (λ x. assignMet to m x)
+
+unfoldable pub copiesInMet : List Variable → List ℕ → ℕ → List Variable → List ℕ
+copiesInMet from [] m to = []
+copiesInMet from (n ∷ ns) m to = copyMet from n to m ++ onAnswer (copied assigned from n to m) (λ next. copiesInMet from ns (suc m) next)
+
+unfoldable pub copiesOutMet : ℕ → List Variable → ℕ → List ℕ → State → List ℕ
+copiesOutMet r from m [] s = []
+copiesOutMet r from m (n ∷ ns) s =
+    onTrue (eqb (s .error) no-error)
+    (copyMet from m (s .store) n ++ copiesOutMet r from (suc m) ns (settled s r (copied assigned from m (s .store) n)))
+
+unfoldable pub calledMet : List Procedure → ℕ → CallingMet
+calledMet ps zero r k vs rs s = too-deep ∷ []
+calledMet ps (suc n) r k vs rs s =
+    copiesInMet (s .store) (vs ++ rs) 0 (begun (procedureAt ps k .variables))
+    ++ onAnswer (copiedIn assigned (s .store) (vs ++ rs) 0 (begun (procedureAt ps k .variables)))
+    (λ ws. execMet (called assigned exec ps n) (λ r k vs rs t. calledMet ps n r k vs rs t) (procedureAt ps k .body) (withStore s ws)
+    ++ onGoing (exec (called assigned exec ps n) (procedureAt ps k .body) (withStore s ws))
+    (λ t. copiesOutMet r (t .store) (length vs) rs (carried s t)))
 
 -- ---- readings, then the program
 unfoldable pub readingMet : List Variable → Reading → List ℕ
@@ -209,4 +238,5 @@ readingsMet i (r ∷ rs) s =
 unfoldable pub runMet : Profile → List Reading → ℕ → List ℕ
 runMet p readings budget =
     readingsMet 0 readings (started p budget)
-    ++ execMet (p .program) (takeReadings 0 readings (started p budget))
+    ++ execMet (called assigned exec (p .procedures) most-calls) (calledMet (p .procedures) most-calls) (p .program)
+    (takeReadings 0 readings (started p budget))

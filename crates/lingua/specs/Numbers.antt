@@ -1,5 +1,5 @@
 -- The numbers of document 01, each named once. Assumes nothing: these are definitions.
-use Prim.Native.Nat.{ℕ}
+use Prim.Native.Nat.{ℕ, zero, suc, _+_, _*_}
 use lib.IntN.{ℤ, pos, negsuc}
 
 -- ---- ranges of simple values
@@ -61,6 +61,13 @@ most-limits = 16
 abbrev pub most-readings : ℕ
 most-readings = 16
 
+-- procedures, and the parameters of each sort that one may have
+abbrev pub most-procedures : ℕ
+most-procedures = 8
+
+abbrev pub most-parameters : ℕ
+most-parameters = 4
+
 -- document 01: cells, marks, sheet
 abbrev pub cells-length : ℕ
 cells-length = 1024
@@ -78,6 +85,23 @@ layout-length = 1024
 -- the present bodies of all variables
 abbrev pub variable-bodies-length : ℕ
 variable-bodies-length = 1536
+
+-- calls that may be open at once, and the same three for all of them
+abbrev pub most-calls : ℕ
+most-calls = 16
+
+abbrev pub open-cells-length : ℕ
+open-cells-length = 16384
+
+abbrev pub open-states-length : ℕ
+open-states-length = 512
+
+abbrev pub open-bodies-length : ℕ
+open-bodies-length = 24576
+
+-- the present bodies that the checked run hands out: the profile's, then those of the open calls
+abbrev pub present-bodies-length : ℕ
+present-bodies-length = 26112
 
 -- ---- the code's own: the bodies of all type rows, a variable's limit, the limits of all variables, and the operand stack, with a value for
 -- each expression row and one more
@@ -118,18 +142,18 @@ abbrev pub check-place : ℕ
 check-place = 508
 
 abbrev pub most-blocks : ℕ
-most-blocks = 17
+most-blocks = 22
 
 -- the longest file, and the row areas of its blocks
 abbrev pub longest-file : ℕ
-longest-file = 8704
+longest-file = 11264
 
 abbrev pub areas-length : ℕ
-areas-length = 8500
+areas-length = 11000
 
--- the reader's buffer: 832 rows
+-- the reader's buffer: 1,096 rows
 abbrev pub rows-length : ℕ
-rows-length = 8320
+rows-length = 10960
 
 -- ---- sections
 abbrev pub declaration-section : ℕ
@@ -146,6 +170,21 @@ instruction-section = 4
 
 abbrev pub limit-section : ℕ
 limit-section = 5
+
+abbrev pub procedure-section : ℕ
+procedure-section = 6
+
+-- ---- the tables of section 6: the row that begins procedure k, and its variables; rows before any procedure are table 6
+abbrev pub header-table : ℕ → ℕ
+header-table k = 7 + 2 * k
+
+abbrev pub variable-table : ℕ → ℕ
+variable-table k = 8 + 2 * k
+
+-- whose variables: 0 for the profile's own, else 1 + the procedure's number
+abbrev pub scopeTable : ℕ → ℕ
+scopeTable zero = declaration-section
+scopeTable (suc k) = variable-table k
 
 -- ---- places (document 01: place)
 -- a reading's is this and its index

@@ -1,12 +1,12 @@
--- The refusal of each call: the lowest number whose rule applies (document 01, What refuses). Assumes nothing: these are definitions.
+-- The refusal of each call: of the rules that apply, the first in order (document 01, What refuses). Assumes nothing: these are definitions.
 use mathlib.Core.Bool.{Bool, true, false, not, _&&_, _||_}
 use mathlib.Core.List.{List, [], _∷_, _++_}
-use Prim.Native.Nat.{ℕ, _%_}
+use Prim.Native.Nat.{ℕ, suc, _%_}
 use lib.Dec.{eqb, ltb}
 use lib.ListN.{length}
 use lib.Signed.{leZ}
-use Rattle.lingua.specs.Numbers.{row-bytes, rows-length, cells-length, states-length, layout-length, variable-bodies-length, most-readings, declaration-section, limit-section}
-use Rattle.lingua.specs.Errors.{no-error, bad-buffer, bad-length, bad-marker, bad-header, bad-check, bad-form, bad-count, bad-name, bad-constant, bad-reference, bad-use, misplaced, bad-type, models-differ, bad-limit, bad-reading, type-error-found}
+use Rattle.lingua.specs.Numbers.{row-bytes, rows-length, cells-length, states-length, layout-length, open-cells-length, open-states-length, present-bodies-length, most-readings, declaration-section, limit-section}
+use Rattle.lingua.specs.Errors.{no-error, bad-buffer, bad-length, bad-marker, bad-header, bad-check, bad-form, bad-count, bad-name, bad-constant, bad-reference, bad-use, misplaced, bad-type, models-differ, bad-limit, bad-reading, type-error-found, bad-parameters, repeated-reference, refusal-order}
 use Rattle.lingua.specs.Outcome.{ok, fail, Result, isOk, if_then_else_}
 use Rattle.lingua.specs.Body.{Body, isNumber}
 use Rattle.lingua.specs.Value.{inRange, allOf}
@@ -17,7 +17,7 @@ use Rattle.lingua.specs.Trees.{declaredBody, limitRow, nameAt, profileOf
 use Rattle.lingua.specs.Format.{File, profile, limits, modelOf, rowsOf, fileLength, everyBelow, lengthWrong, markerWrong, headerWrong, blockCheckWrong}
 use Rattle.lingua.specs.Inputs.{Inputs, Buffers}
 use Rattle.lingua.specs.Rules.{formWrong, countWrong, nameWrong, constantWrong}
-use Rattle.lingua.specs.References.{referenceWrong, useWrong, placeWrong, typeWrong}
+use Rattle.lingua.specs.References.{referenceWrong, useWrong, placeWrong, typeWrong, parametersWrong, referencesWrong}
 
 -- a rule's number and whether it applies
 pub record Rule : Type 0 where
@@ -27,11 +27,19 @@ pub record Rule : Type 0 where
 abbrev pub rule : ℕ → Bool → Rule
 rule n b = record { number = n; applies = b }
 
+-- where a number stands in a list
+unfoldable pub placeIn : List ℕ → ℕ → ℕ
+placeIn [] n = 0
+placeIn (m ∷ ms) n = if eqb n m then 0 else suc (placeIn ms n)
+
+unfoldable pub rank : ℕ → ℕ
+rank n = placeIn refusal-order n
+
 abbrev pub lower-of : ℕ → Bool → ℕ → ℕ
-lower-of n true m = if eqb m no-error then n else (if ltb n m then n else m)
+lower-of n true m = if eqb m no-error then n else (if ltb (rank n) (rank m) then n else m)
 lower-of n false m = m
 
--- the lowest number that applies, 0 where none does
+-- of the numbers that apply the first in order (document 01: the lowest), 0 where none does
 unfoldable pub lowest : List Rule → ℕ
 lowest [] = no-error
 lowest (r ∷ rs) = lower-of (r .number) (r .applies) (lowest rs)
@@ -46,7 +54,7 @@ fileRules f file =
     ∷ rule bad-check (blockCheckWrong file)
     ∷ []
 
--- 6 to 13, of its rows; a limits file has 6 to 9
+-- 6 to 13, 18 and 19, of its rows; a limits file has 6 to 9
 unfoldable pub rowRules : File → List ℕ → List Rule
 rowRules profile rows =
     rule bad-form (formWrong profile rows)
@@ -57,6 +65,8 @@ rowRules profile rows =
     ∷ rule bad-use (useWrong rows)
     ∷ rule misplaced (placeWrong rows)
     ∷ rule bad-type (typeWrong rows)
+    ∷ rule bad-parameters (parametersWrong rows)
+    ∷ rule repeated-reference (referencesWrong rows)
     ∷ []
 rowRules limits rows =
     rule bad-form (formWrong limits rows)
@@ -92,7 +102,7 @@ limitFits rows limitRows l =
 unfoldable pub limitWrong : List ℕ → List ℕ → Bool
 limitWrong rows limitRows = not (everyBelow (pairCount limitRows limit-section) (λ l. limitFits rows limitRows l))
 
--- 2 to 15, of a profile and a limits file
+-- 2 to 15, 18 and 19, of a profile and a limits file
 unfoldable pub pairRules : List ℕ → List ℕ → List Rule
 pairRules prof lims =
     wholeFileRules profile prof
@@ -122,7 +132,11 @@ typeCheckRefusal prof lims layout = lowest (rule bad-buffer (not (eqb (length la
 -- whether a run's buffers are as listed, and its two slices of readings of one length
 unfoldable pub runFits : Inputs → Buffers → Bool
 runFits i b =
-    eqb (length (i .variables)) (length (i .numbers)) && eqb (length (b .cells)) cells-length && eqb (length (b .states)) states-length
+    eqb (length (i .variables)) (length (i .numbers))
+    && eqb (length (b .cells)) cells-length
+    && eqb (length (b .states)) states-length
+    && eqb (length (b .open-cells)) open-cells-length
+    && eqb (length (b .open-states)) open-states-length
 
 -- 1 to 16, of a run whose buffers fit or don't
 unfoldable pub runRules : Bool → Inputs → List Rule
@@ -138,7 +152,7 @@ runRefusal i b = lowest (runRules (runFits i b) i)
 
 -- a checked run's buffers have the present bodies too
 unfoldable pub checkedRefusal : Inputs → Buffers → List ℕ → ℕ
-checkedRefusal i b bodies = lowest (runRules (eqb (length bodies) variable-bodies-length && runFits i b) i)
+checkedRefusal i b bodies = lowest (runRules (eqb (length bodies) present-bodies-length && runFits i b) i)
 
 -- an erased run's buffers have the layout table too, and the type check must pass (17)
 unfoldable pub erasedRefusal : Inputs → Buffers → List ℕ → ℕ

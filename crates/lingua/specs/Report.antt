@@ -5,7 +5,7 @@ use Prim.Native.Nat.{ℕ, zero, suc, _+_, _/_, _%_}
 use lib.Dec.{ltb}
 use lib.ListN.{replicate}
 use lib.IntN.{ℤ, pos, negsuc}
-use Rattle.lingua.specs.Numbers.{cells-length, states-length, variable-bodies-length, report-budget}
+use Rattle.lingua.specs.Numbers.{cells-length, states-length, open-cells-length, open-states-length, present-bodies-length, report-budget}
 use Rattle.lingua.specs.Outcome.{if_then_else_}
 use Rattle.lingua.specs.Value.{Composite, cellsOf}
 use Rattle.lingua.specs.Store.{Variable}
@@ -79,5 +79,6 @@ reportUnless (suc n) prof lims = refusedText (suc n)
 unfoldable pub reportText : List ℕ → List ℕ → List ℕ
 reportText prof lims =
     reportUnless
-    (checkedRefusal (inputs prof lims [] []) (buffers (replicate cells-length (pos 0)) (replicate states-length 0)) (replicate variable-bodies-length 0))
+    (checkedRefusal (inputs prof lims [] []) (buffers (replicate cells-length (pos 0)) (replicate states-length 0) (replicate open-cells-length (pos 0)) (replicate open-states-length 0))
+    (replicate present-bodies-length 0))
     prof lims

@@ -1,15 +1,15 @@
 -- Rows of 10 bytes and what each says: the fields, the tables, and for each table of rows its kinds (document 01, Files).
 -- Total on any bytes; what a malformed row reads as does not matter, since it is refused. Assumes nothing: these are definitions.
-use mathlib.Core.Bool.{Bool, not}
+use mathlib.Core.Bool.{Bool, not, _&&_}
 use mathlib.Core.List.{List, [], _∷_}
 use mathlib.Core.Option.{Option, some, none}
-use Prim.Native.Nat.{ℕ, zero, suc, _+_, _*_, _/_}
+use Prim.Native.Nat.{ℕ, zero, suc, _+_, _*_, _/_, _%_}
 use lib.Dec.{eqb, ltb}
 use lib.ListN.{length, getD, take, drop}
 use lib.IntN.{ℤ}
 use mir.Syntax.{w32, w64}
 use mir.Val.{toZ}
-use Rattle.lingua.specs.Numbers.{row-bytes, type-section, expression-section, instruction-section}
+use Rattle.lingua.specs.Numbers.{row-bytes, type-section, expression-section, instruction-section, procedure-section, header-table}
 use Rattle.lingua.specs.Outcome.{if_then_else_}
 use Rattle.lingua.specs.Body.{Body, boolean, number, word}
 use Rattle.lingua.specs.Value.{truth, whole, text, Composite, composite}
@@ -67,19 +67,34 @@ unfoldable pub untilZero : List ℕ → List ℕ
 untilZero [] = []
 untilZero (c ∷ cs) = if eqb c 0 then [] else c ∷ untilZero cs
 
--- ---- tables: sections ascend, so a section's rows begin behind all lower sections' rows
+-- ---- tables: sections ascend, and so do tables; a table's rows begin behind all lower tables' rows
 -- how many i below n have the property
 unfoldable pub countBelow : ℕ → (ℕ → Bool) → ℕ
 countBelow zero p = 0
 countBelow (suc n) p = countBelow n p + (if p n then 1 else 0)
 
+-- a row of section 6 and kind k
+unfoldable pub procedureKind : ℕ → List ℕ → ℕ → Bool
+procedureKind k rows i = eqb (sectionAt rows i) procedure-section && eqb (kindAt rows i) k
+
+-- kind 2 begins a procedure
+unfoldable pub beginsProcedure : List ℕ → ℕ → Bool
+beginsProcedure rows i = procedureKind 2 rows i
+
+-- the table that row i is in: its section is one, but for procedures, each of which has two, the row that begins it and its variables
+unfoldable pub tableAt : List ℕ → ℕ → ℕ
+tableAt rows i =
+    if ltb (sectionAt rows i) procedure-section
+    then sectionAt rows i
+    else procedure-section + (2 * countBelow i (λ j. beginsProcedure rows j) + (if beginsProcedure rows i then 1 else 0))
+
 unfoldable pub tableStart : List ℕ → ℕ → ℕ
-tableStart rows s = countBelow (rowCount rows) (λ i. ltb (sectionAt rows i) s)
+tableStart rows s = countBelow (rowCount rows) (λ i. ltb (tableAt rows i) s)
 
 unfoldable pub tableCount : List ℕ → ℕ → ℕ
-tableCount rows s = countBelow (rowCount rows) (λ i. eqb (sectionAt rows i) s)
+tableCount rows s = countBelow (rowCount rows) (λ i. eqb (tableAt rows i) s)
 
--- row r of a section, counted from the file's first row
+-- row r of a table, counted from the file's first row
 unfoldable pub rowIn : List ℕ → ℕ → ℕ → ℕ
 rowIn rows s r = tableStart rows s + r
 
@@ -92,6 +107,29 @@ nameRow rows s d = rowIn rows s (2 * d)
 
 unfoldable pub detailRow : List ℕ → ℕ → ℕ → ℕ
 detailRow rows s d = rowIn rows s (2 * d + 1)
+
+-- ---- procedures
+unfoldable pub procedureCount : List ℕ → ℕ
+procedureCount rows = countBelow (rowCount rows) (λ i. beginsProcedure rows i)
+
+-- the row that begins procedure k
+unfoldable pub headerRow : List ℕ → ℕ → ℕ
+headerRow rows k = rowIn rows (header-table k) 0
+
+-- its body's instruction row, and its numbers of value and reference parameters
+unfoldable pub bodyRow : List ℕ → ℕ → ℕ
+bodyRow rows k = aAt rows (headerRow rows k)
+
+unfoldable pub valueCount : List ℕ → ℕ → ℕ
+valueCount rows k = bAt rows (headerRow rows k)
+
+unfoldable pub referenceCount : List ℕ → ℕ → ℕ
+referenceCount rows k = cAt rows (headerRow rows k)
+
+-- the first n groups of four bits, from the lowest
+unfoldable pub groups : ℕ → ℕ → List ℕ
+groups zero w = []
+groups (suc n) w = w % 16 ∷ groups n (w / 16)
 
 -- ---- kinds
 -- a kind of row: its number, how many of a row's eight bytes it uses, and what row i of the rows says
@@ -229,6 +267,8 @@ pub data InstructionRow : Type 0 where
   branch-row : ℕ → ℕ → ℕ → InstructionRow
   loop-row : ℕ → ℕ → InstructionRow
   handle-row : ℕ → ℕ → InstructionRow
+  -- the procedure, then the variables given by value and by reference, four bits each
+  call-row : ℕ → ℕ → ℕ → InstructionRow
   unknown-instruction : InstructionRow
 
 unfoldable pub instructionKinds : List (RowKind InstructionRow)
@@ -240,6 +280,7 @@ instructionKinds =
     ∷ field-kind 5 6 (λ a b c. branch-row a b c)
     ∷ field-kind 6 4 (λ a b c. loop-row a b)
     ∷ field-kind 7 4 (λ a b c. handle-row a b)
+    ∷ field-kind 8 6 (λ a b c. call-row a b c)
     ∷ []
 
 unfoldable pub instructionAt : List ℕ → ℕ → InstructionRow
@@ -257,6 +298,7 @@ parts (sequence-row i j) = i ∷ j ∷ []
 parts (branch-row e i j) = i ∷ j ∷ []
 parts (loop-row e i) = i ∷ []
 parts (handle-row n i) = i ∷ []
+parts (call-row k b c) = []
 parts unknown-instruction = []
 
 -- the expression row that it evaluates outside yokes
@@ -268,6 +310,7 @@ evaluated (sequence-row i j) = []
 evaluated (branch-row e i j) = e ∷ []
 evaluated (loop-row e i) = e ∷ []
 evaluated (handle-row n i) = []
+evaluated (call-row k b c) = []
 evaluated unknown-instruction = []
 
 -- the expression row of a yoke as in the marks: 0 has none
@@ -284,4 +327,5 @@ yokeSet (sequence-row i j) = []
 yokeSet (branch-row e i j) = []
 yokeSet (loop-row e i) = []
 yokeSet (handle-row n i) = []
+yokeSet (call-row k b c) = []
 yokeSet unknown-instruction = []

@@ -3,14 +3,14 @@
 use mathlib.Core.Bool.{Bool, true, not, _&&_}
 use mathlib.Core.List.{List, [], _∷_, _++_}
 use mathlib.Core.Option.{Option, some, none}
-use Prim.Native.Nat.{ℕ, _+_, _*_}
+use Prim.Native.Nat.{ℕ, suc, _+_, _*_}
 use lib.Dec.{eqb}
 use lib.ListN.{getD, set}
 use lib.IntN.{ℤ, pos}
 use lib.Signed.{leZ}
-use Rattle.lingua.specs.Numbers.{body-cells, cells-length, state-words, states-length, variable-bodies-length}
-use Rattle.lingua.specs.Errors.{overflow, yoke-not-satisfied, no-coherence, yoke-expected}
-use Rattle.lingua.specs.Outcome.{ok, Result, require, _>>=_, _>>_}
+use Rattle.lingua.specs.Numbers.{body-cells, cells-length, state-words, states-length, variable-bodies-length, open-cells-length, open-states-length, open-bodies-length}
+use Rattle.lingua.specs.Errors.{overflow, yoke-not-satisfied, not-filled, no-coherence, yoke-expected}
+use Rattle.lingua.specs.Outcome.{ok, Result, require, orFail, _>>=_, _>>_}
 use Rattle.lingua.specs.Body.{Body, boolean, number, coherent}
 use Rattle.lingua.specs.Value.{whole, inRange, asWhole, pad, cellsOf, Composite, composite}
 use Rattle.lingua.specs.Encode.{encoded}
@@ -72,6 +72,22 @@ assigned vs n x = do
   admitted vs (variableAt vs n) x
   ok (set vs n (withContent (variableAt vs n) x))
 
+-- ---- copies, between a call's variables and its caller's
+-- how a value is assigned: with every check, or without those on bodies
+abbrev pub Assigning : Type 0
+Assigning = List Variable → ℕ → Composite → Result (List Variable)
+
+-- variable n of one store assigned to variable m of another
+unfoldable pub copied : Assigning → List Variable → ℕ → List Variable → ℕ → Result (List Variable)
+copied storing from n to m = do
+  x ← orFail (contents from n) not-filled
+  storing to m x
+
+-- variables ns assigned to variables m and following, until one fails
+unfoldable pub copiedIn : Assigning → List Variable → List ℕ → ℕ → List Variable → Result (List Variable)
+copiedIn storing from [] m to = ok to
+copiedIn storing from (n ∷ ns) m to = copied storing from n to m >>= λ next. copiedIn storing from ns (suc m) next
+
 -- ---- yoke change
 -- a filled variable's value has to satisfy the new yoke; one that is not filled takes any
 unfoldable pub yokeHolds : List Variable → Yoke → Option Composite → Result (Unit {0})
@@ -130,6 +146,29 @@ statesIn vs = pad states-length 0 (storeStates vs)
 
 unfoldable pub bodiesIn : List Variable → List ℕ
 bodiesIn vs = pad variable-bodies-length 0 (storeBodies vs)
+
+-- the open calls' variables, each as the profile's are held, the oldest first; zeros where none is open
+unfoldable pub callCells : List (List Variable) → List ℤ
+callCells [] = []
+callCells (vs ∷ os) = cellsIn vs ++ callCells os
+
+unfoldable pub callStates : List (List Variable) → List ℕ
+callStates [] = []
+callStates (vs ∷ os) = statesIn vs ++ callStates os
+
+unfoldable pub callBodies : List (List Variable) → List ℕ
+callBodies [] = []
+callBodies (vs ∷ os) = bodiesIn vs ++ callBodies os
+
+unfoldable pub openCellsIn : List (List Variable) → List ℤ
+openCellsIn os = pad open-cells-length (pos 0) (callCells os)
+
+unfoldable pub openStatesIn : List (List Variable) → List ℕ
+openStatesIn os = pad open-states-length 0 (callStates os)
+
+-- the profile's present bodies, then those of the open calls
+unfoldable pub presentIn : List Variable → List (List Variable) → List ℕ
+presentIn vs os = bodiesIn vs ++ pad open-bodies-length 0 (callBodies os)
 
 -- where variable n's state words stand among all, by name: nothing else says it
 abbrev pub flagPlace : ℕ → ℕ

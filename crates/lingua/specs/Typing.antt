@@ -1,6 +1,6 @@
 -- The type check (document 01: inspection): the checks of a run on bodies alone, and the layout table (document 01: sheet).
 -- Assumes nothing: these are definitions.
-use mathlib.Core.Bool.{Bool}
+use mathlib.Core.Bool.{Bool, true, _&&_}
 use mathlib.Core.List.{List, [], _∷_, _++_, map}
 use mathlib.Core.Option.{Option, some, none}
 use Prim.Native.Nat.{ℕ, suc, _+_, _*_}
@@ -11,9 +11,9 @@ use Rattle.lingua.specs.Errors.{boolean-expected, list-expected, no-cohe
 use Rattle.lingua.specs.Outcome.{Outcome, ok, fail, Result, require, if_then_else_, orFail, orElse, answerOf, both, allAnswers, _>>=_, _>>_}
 use Rattle.lingua.specs.Body.{Body, boolean, Attributes, size, sameBody, isBoolean, elementBody, attributesOf, attributeOffset}
 use Rattle.lingua.specs.Operation.{Unary, negation, make-record, select, make-list, top, pop, remove, Binary, add, subtract, multiply, divide, less, equal, glue, expand, change, push, unaryBody, binaryBody}
-use Rattle.lingua.specs.Expression.{Expression, constant, variable, current, unary, binary, lazy, choice, all-list, Yoke, always, yoke, Instruction, skip, assign, set-yoke, sequence, branch, loop, handle}
+use Rattle.lingua.specs.Expression.{Expression, constant, variable, current, unary, binary, lazy, choice, all-list, Yoke, always, yoke, Instruction, skip, assign, set-yoke, sequence, branch, loop, handle, call}
 use Rattle.lingua.specs.Evaluation.{no-current}
-use Rattle.lingua.specs.Run.{Declaration, Profile}
+use Rattle.lingua.specs.Run.{Declaration, Scoped, Profile, scopeDeclarations}
 
 -- what the type check finds wrong at a place (document 01: fault)
 pub record TypeError : Type 0 where
@@ -166,16 +166,24 @@ checkYoke (yoke e) vars b p = judged (check e vars (some b)) isBoolean (typeErro
 unfoldable pub checkTest : Expression → Bodies → ℕ → Outcome TypeError (List Entry)
 checkTest e vars p = judged (check e vars (some no-current-body)) isBoolean (typeError boolean-expected p)
 
--- an instruction's own row; its parts are rows of their own
-unfoldable pub checkInstruction : Bodies → Instruction → Outcome TypeError (List Entry)
-checkInstruction vars (skip r) = ok []
-checkInstruction vars (assign r n e) =
+-- the variables that a call gives have the bodies of the parameters, from m on
+unfoldable pub givenFit : Bodies → List ℕ → Bodies → ℕ → Bool
+givenFit vars [] params m = true
+givenFit vars (n ∷ ns) params m = sameBody (vars n) (params m) && givenFit vars ns params (suc m)
+
+-- an instruction's own row; its parts are rows of their own. What each procedure's variables have as bodies is given
+unfoldable pub checkInstruction : (ℕ → Bodies) → Bodies → Instruction → Outcome TypeError (List Entry)
+checkInstruction procs vars (skip r) = ok []
+checkInstruction procs vars (assign r n e) =
     judged (check e vars (some no-current-body)) (sameBody (vars n)) (typeError no-coherence (instruction-place + r))
-checkInstruction vars (set-yoke r n y) = checkYoke y vars (vars n) (instruction-place + r)
-checkInstruction vars (sequence r i j) = ok []
-checkInstruction vars (branch r e i j) = checkTest e vars (instruction-place + r)
-checkInstruction vars (loop r e i) = checkTest e vars (instruction-place + r)
-checkInstruction vars (handle r n i) = ok []
+checkInstruction procs vars (set-yoke r n y) = checkYoke y vars (vars n) (instruction-place + r)
+checkInstruction procs vars (sequence r i j) = ok []
+checkInstruction procs vars (branch r e i j) = checkTest e vars (instruction-place + r)
+checkInstruction procs vars (loop r e i) = checkTest e vars (instruction-place + r)
+checkInstruction procs vars (handle r n i) = ok []
+checkInstruction procs vars (call r k vs rs) = do
+  require (givenFit vars (vs ++ rs) (procs k) 0) (typeError no-coherence (instruction-place + r))
+  ok []
 
 -- the declared yokes from declaration d on
 unfoldable pub checkDeclarations : Bodies → ℕ → List Declaration → List (Outcome TypeError (List Entry))
@@ -189,11 +197,22 @@ unfoldable pub joined : {A : Type 0} → List (List A) → List A
 joined [] = []
 joined (xs ∷ xss) = xs ++ joined xss
 
+-- the profile's declarations, and on through the procedures'
+unfoldable pub allDeclarations : Profile → List Declaration
+allDeclarations p = p .declarations ++ joined (map (λ q. q .variables) (p .procedures))
+
+-- the declared bodies of a scope's variables
+abbrev pub scopeBodies : Profile → ℕ → Bodies
+scopeBodies p a = bodiesOf (scopeDeclarations p a)
+
+unfoldable pub checkScoped : Profile → Scoped → Outcome TypeError (List Entry)
+checkScoped p i = checkInstruction (λ k. scopeBodies p (suc k)) (scopeBodies p (i .scope)) (i .instruction)
+
 -- declared yokes first, then instructions by row; of the earliest that has a fault, the one that is named is the answer
 unfoldable pub checkProfile : Profile → Outcome TypeError (List Entry)
 checkProfile p = do
-  ds ← allAnswers (checkDeclarations (bodiesOf (p .declarations)) 0 (p .declarations))
-  rs ← allAnswers (map (λ i. checkInstruction (bodiesOf (p .declarations)) i) (p .instructions))
+  ds ← allAnswers (checkDeclarations (bodiesOf (p .declarations)) 0 (allDeclarations p))
+  rs ← allAnswers (map (λ i. checkScoped p i) (p .instructions))
   ok (joined ds ++ joined rs)
 
 -- the layout table: row r's result cells at 2 r, its second number at 2 r + 1

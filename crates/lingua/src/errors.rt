@@ -39,9 +39,11 @@ pub const NOT_COMPARABLE: u8 = 17;
 pub const BODY_TOO_LARGE: u8 = 18;
 
 pub const LAST_ATTRIBUTE: u8 = 19;
+// a run error again: one call more than may be open
+pub const TOO_DEEP: u8 = 20;
 // errors are numbered from 1, below this; a handler may name each of them
-pub const ERROR_NUMBERS: usize = 20;
-// refusals, in the order in which they are asked
+pub const ERROR_NUMBERS: usize = 21;
+// refusals
 pub const BAD_BUFFER: u8 = 1;
 
 pub const BAD_LENGTH: u8 = 2;
@@ -75,3 +77,7 @@ pub const BAD_LIMIT: u8 = 15;
 pub const BAD_READING: u8 = 16;
 
 pub const TYPE_ERROR_FOUND: u8 = 17;
+
+pub const BAD_PARAMETERS: u8 = 18;
+
+pub const REPEATED_REFERENCE: u8 = 19;

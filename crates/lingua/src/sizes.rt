@@ -33,6 +33,10 @@ pub const MOST_INSTRUCTIONS: usize = 256;
 pub const MOST_LIMITS: usize = 16;
 
 pub const MOST_READINGS: usize = 16;
+// procedures, and the parameters of each sort that one may have
+pub const MOST_PROCEDURES: usize = 8;
+
+pub const MOST_PARAMETERS: usize = 4;
 // document 01: cells, marks, sheet
 pub const CELLS_LENGTH: usize = 1024;
 
@@ -45,6 +49,16 @@ pub const LAYOUT_LENGTH: usize = 1024;
 
 // the present bodies of all variables
 pub const VARIABLE_BODIES_LENGTH: usize = 1536;
+// calls that may be open at once, and the same three for all of them
+pub const MOST_CALLS: usize = 16;
+
+pub const OPEN_CELLS_LENGTH: usize = 16384;
+
+pub const OPEN_STATES_LENGTH: usize = 512;
+
+pub const OPEN_BODIES_LENGTH: usize = 24576;
+// the present bodies that the checked run hands out: the profile's, then those of the open calls
+pub const PRESENT_BODIES_LENGTH: usize = 26112;
 // the code's own: the bodies of all type rows, a variable's limit, the limits of all variables, and the operand stack, with a
 // value for each expression row and one more
 pub const TYPE_BODIES_LENGTH: usize = 3072;
@@ -69,13 +83,13 @@ pub const CHECKED_WORDS: usize = 127;
 
 pub const CHECK_PLACE: usize = 508;
 
-pub const MOST_BLOCKS: usize = 17;
+pub const MOST_BLOCKS: usize = 22;
 // the longest file, and the row areas of its blocks
-pub const LONGEST_FILE: usize = 8704;
+pub const LONGEST_FILE: usize = 11264;
 
-pub const AREAS_LENGTH: usize = 8500;
-// the reader's buffer: 832 rows
-pub const ROWS_LENGTH: usize = 8320;
+pub const AREAS_LENGTH: usize = 11000;
+// the reader's buffer: 1,096 rows
+pub const ROWS_LENGTH: usize = 10960;
 // sections
 pub const DECLARATION_SECTION: u8 = 1;
 
@@ -86,6 +100,13 @@ pub const EXPRESSION_SECTION: u8 = 3;
 pub const INSTRUCTION_SECTION: u8 = 4;
 
 pub const LIMIT_SECTION: u8 = 5;
+
+pub const PROCEDURE_SECTION: u8 = 6;
+// the code's own: the table of procedure 0's variables, behind which those of the others stand two apart, and the first table that no
+// procedure has
+pub const VARIABLE_TABLE: u8 = 8;
+
+pub const TABLES_END: usize = 23;
 // places (document 01: place)
 // a reading's is this and its index
 pub const READING_PLACE: usize = 256;
