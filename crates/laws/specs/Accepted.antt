@@ -1,54 +1,42 @@
 -- Rows that no rule refuses: each has a section, so none is zero, and there are at most as many as the reader's buffer holds.
--- Carried by counting: each row of a profile is in one of four tables. Assumes nothing.
-use mathlib.Core.Path.{_≡_, refl, ap, _∙_}
-use mathlib.Core.Bool.{Bool, true, false, _&&_}
-use mathlib.Core.List.{List}
+-- Carried by counting: each row of a profile is in one of four tables or is a procedure's. Assumes nothing.
+use mathlib.Core.Path.{_≡_, refl, sym, ap, _∙_, subst}
+use mathlib.Core.Bool.{Bool, true, false, _&&_, _||_, Bool·beq}
+use mathlib.Core.List.{List, [], _∷_}
+use mathlib.Core.Option.{some, none}
+use mathlib.Core.Logic.{_⊎_, inl, inr, ⊎-elim}
 use Prim.Native.Nat.{ℕ, zero, suc, _+_, _-_, _*_, _/_, _%_, _≤_, _<_}
 use native.Mathlib.Omega.{arith}
-use lib.Dec.{eqb, leb}
-use borrow.Author.Tests.{eqb-true, leb-true, not-false}
-use Rattle.lingua.specs.Numbers.{row-bytes, rows-length, most-variables, most-types, most-expressions, most-instructions, most-limits, declaration-section, type-section, expression-section, instruction-section, limit-section}
-use Rattle.lingua.specs.Errors.{no-error, bad-form, bad-count}
+use lib.Dec.{eqb, ltb, leb}
+use lib.ListN.{getD}
+use borrow.Author.Tests.{eqb-true, eq-eqb, ne-eqb, ltb-true, lt-ltb, leb-true, not-false}
+use Rattle.lingua.specs.Numbers.{row-bytes, rows-length, most-variables, most-types, most-expressions, most-instructions, most-limits, most-procedures, most-parameters, declaration-section, type-section, expression-section, instruction-section, limit-section, procedure-section, header-table, variable-table}
+use Rattle.lingua.specs.Errors.{no-error, bad-form, bad-count, bad-name, bad-constant, bad-reference, bad-use, misplaced, bad-type, bad-parameters}
 use Rattle.lingua.specs.Outcome.{if_then_else_}
-use Rattle.lingua.specs.Rows.{rowCount, sectionAt, countBelow, tableCount, pairCount}
+use Rattle.lingua.specs.Rows.{rowCount, sectionAt, kindAt, bytesAt, countBelow, procedureKind, beginsProcedure, tableAt, tableStart, tableCount, pairCount, procedureCount, valueCount, referenceCount}
 use Rattle.lingua.specs.Format.{File, profile, limits, everyBelow}
-use Rattle.lingua.specs.Rules.{sectionBelongs, rowFits, ascending, paired, between, formWrong, countWrong}
+use Rattle.lingua.specs.Rules.{usedBytes, sectionBelongs, bytesFit, rowFits, ascending, paired, procedurePairs, between, formWrong, countWrong, nameWrong, constantWrong}
+use Rattle.lingua.specs.References.{referenceWrong, useWrong, placeWrong, typeWrong, parametersFit, parametersWrong}
 use Rattle.lingua.specs.Refusal.{lowest, rowRules}
-use Rattle.laws.specs.Outcomes.{and-left, and-right}
+use Rattle.laws.specs.Outcomes.{false-is-true, and-left, and-right, and-both}
 use Rattle.laws.specs.Tests.{every-at}
 use Rattle.laws.specs.Refusals.{lowest-none}
+use Rattle.laws.specs.Tables.{count-at-most, section-count}
+use Rattle.laws.specs.Headers.{start-zero, start-more}
+use Rattle.laws.specs.Procedures.{variables-even, all-rows, procedure-rows}
 
 -- ---- counting
-pub count-at-most : (n : ℕ) (p : ℕ → Bool) → countBelow n p ≤ n
-unfolding countBelow
-count-at-most zero p = omega arith
-count-at-most (suc n) p = by-test (p n) (count-at-most n p)
-  where
-    by-test : (t : Bool) → countBelow n p ≤ n → countBelow n p + (if t then 1 else 0) ≤ suc n
-    by-test true h = omega arith
-    by-test false h = omega arith
-
 -- 1 where the section is s, else 0
 abbrev one : ℕ → ℕ → ℕ
 one x s = if eqb x s then 1 else 0
 
-one-of-four : (x : ℕ) → 1 ≤ x → x ≤ 4 → 1 ≤ one x 1 + one x 2 + one x 3 + one x 4
-one-of-four zero h l = absurd (let z : ⊥ = omega arith in z)
-one-of-four (suc zero) h l = omega arith
-one-of-four (suc (suc zero)) h l = omega arith
-one-of-four (suc (suc (suc zero))) h l = omega arith
-one-of-four (suc (suc (suc (suc zero)))) h l = omega arith
-one-of-four (suc (suc (suc (suc (suc x))))) h l = absurd (let z : ⊥ = omega arith in z)
-
-four-tables : (n : ℕ) (s : ℕ → ℕ) → ((k : ℕ) → k < n → (1 ≤ s k) × (s k ≤ 4))
-    → n ≤ countBelow n (λ i. eqb (s i) 1) + countBelow n (λ i. eqb (s i) 2) + countBelow n (λ i. eqb (s i) 3) + countBelow n (λ i. eqb (s i) 4)
+no-table : (n : ℕ) (s : ℕ → ℕ) (t : ℕ) → ((k : ℕ) → k < n → s k ≡ t → ⊥) → countBelow n (λ i. eqb (s i) t) ≡ 0
 unfolding countBelow
-four-tables zero s h = omega arith
-four-tables (suc n) s h =
-    let before = four-tables n s (λ k l. h k (let q : k < suc n = omega arith in q)) in
-    let here = h n (let q : n < suc n = omega arith in q) in
-    let last = one-of-four (s n) (here .0) (here .1) in
-    omega (arith, before, last)
+no-table zero s t h = refl
+no-table (suc n) s t h =
+    let before = no-table n s t (λ k l. h k (let q : k < suc n = omega arith in q)) in
+    let here : one (s n) t ≡ 0 = ap (λ (u : Bool). if u then 1 else 0) (ne-eqb (s n) t (h n (let q : n < suc n = omega arith in q))) in
+    omega (arith, before, here)
 
 one-table : (n : ℕ) (s : ℕ → ℕ) (t : ℕ) → ((k : ℕ) → k < n → eqb (s k) t ≡ true) → countBelow n (λ i. eqb (s i) t) ≡ n
 unfolding countBelow
@@ -59,6 +47,10 @@ one-table (suc n) s t h =
     here ∙ (let e : countBelow n (λ i. eqb (s i) t) + 1 ≡ suc n = omega (arith, before) in e)
 
 -- ---- what the rules leave
+within : (low high n : ℕ) → between low high n ≡ true → (low ≤ n) × (n ≤ high)
+within low high n e =
+    (leb-true low n (and-left (leb low n) (leb n high) e), leb-true n high (and-right (leb low n) (leb n high) e))
+
 pub accepted : (f : File) (rows : List ℕ) → lowest (rowRules f rows) ≡ no-error → (formWrong f rows ≡ false) × (countWrong f rows ≡ false)
 unfolding rowRules
 accepted profile rows e =
@@ -68,40 +60,76 @@ accepted limits rows e =
     let form = lowest-none bad-form (formWrong limits rows) _ (omega arith) e in
     (form .0, lowest-none bad-count (countWrong limits rows) _ (omega arith) (form .1) .0)
 
+-- 18
+accepted-parameters : (rows : List ℕ) → lowest (rowRules profile rows) ≡ no-error → parametersWrong rows ≡ false
+unfolding rowRules
+accepted-parameters rows e =
+    let r6 = lowest-none bad-form (formWrong profile rows) _ (omega arith) e in
+    let r7 = lowest-none bad-count (countWrong profile rows) _ (omega arith) (r6 .1) in
+    let r8 = lowest-none bad-name (nameWrong profile rows) _ (omega arith) (r7 .1) in
+    let r9 = lowest-none bad-constant (constantWrong profile rows) _ (omega arith) (r8 .1) in
+    let r10 = lowest-none bad-reference (referenceWrong rows) _ (omega arith) (r9 .1) in
+    let r11 = lowest-none bad-use (useWrong rows) _ (omega arith) (r10 .1) in
+    let r12 = lowest-none misplaced (placeWrong rows) _ (omega arith) (r11 .1) in
+    let r13 = lowest-none bad-type (typeWrong rows) _ (omega arith) (r12 .1) in
+    lowest-none bad-parameters (parametersWrong rows) _ (omega arith) (r13 .1) .0
+
 module _ (f : File) (rows : List ℕ) (form : formWrong f rows ≡ false) where
   abbrev fit : Bool
   fit = everyBelow (rowCount rows) (λ i. rowFits f rows i)
 
-  all-fit : (fit && ascending rows && paired rows declaration-section && paired rows limit-section) ≡ true
+  abbrev formed : Bool
+  formed = fit && ascending rows && paired rows declaration-section && paired rows limit-section
+
+  all-fit : (formed && procedurePairs rows) ≡ true
   unfolding formWrong
-  all-fit = not-false (fit && ascending rows && paired rows declaration-section && paired rows limit-section) form
+  all-fit = not-false (formed && procedurePairs rows) form
+
+  tables-fit : formed ≡ true
+  tables-fit = and-left formed (procedurePairs rows) all-fit
+
+  pub procedures-paired : procedurePairs rows ≡ true
+  procedures-paired = and-right formed (procedurePairs rows) all-fit
+
+  row-fits : (i : ℕ) → i < rowCount rows → rowFits f rows i ≡ true
+  row-fits i h =
+      let a = and-left (fit && ascending rows && paired rows declaration-section) (paired rows limit-section) tables-fit in
+      let b = and-left (fit && ascending rows) (paired rows declaration-section) a in
+      every-at (rowCount rows) (λ j. rowFits f rows j) i (and-left fit (ascending rows) b) h
 
   pub section-belongs : (i : ℕ) → i < rowCount rows → sectionBelongs f (sectionAt rows i) ≡ true
   unfolding rowFits
-  section-belongs i h =
-      let a = and-left (fit && ascending rows && paired rows declaration-section) (paired rows limit-section) all-fit in
-      let b = and-left (fit && ascending rows) (paired rows declaration-section) a in
-      let d = every-at (rowCount rows) (λ j. rowFits f rows j) i (and-left fit (ascending rows) b) h in
-      and-left (sectionBelongs f (sectionAt rows i)) _ d
+  section-belongs i h = and-left (sectionBelongs f (sectionAt rows i)) _ (row-fits i h)
+
+  bytes-fit : (i : ℕ) → i < rowCount rows → bytesFit (usedBytes (sectionAt rows i) (kindAt rows i)) (bytesAt rows i) ≡ true
+  unfolding rowFits
+  bytes-fit i h = and-right (sectionBelongs f (sectionAt rows i)) _ (row-fits i h)
 
   pub declarations-even : tableCount rows declaration-section % 2 ≡ 0
   unfolding paired
   declarations-even =
-      let a = and-left (fit && ascending rows && paired rows declaration-section) (paired rows limit-section) all-fit in
+      let a = and-left (fit && ascending rows && paired rows declaration-section) (paired rows limit-section) tables-fit in
       let b = and-right (fit && ascending rows) (paired rows declaration-section) a in
       eqb-true (tableCount rows declaration-section % 2) 0 (and-right (everyBelow (tableCount rows declaration-section) _) (eqb (tableCount rows declaration-section % 2) 0) b)
 
   pub limits-even : tableCount rows limit-section % 2 ≡ 0
   unfolding paired
   limits-even =
-      let b = and-right (fit && ascending rows && paired rows declaration-section) (paired rows limit-section) all-fit in
+      let b = and-right (fit && ascending rows && paired rows declaration-section) (paired rows limit-section) tables-fit in
       eqb-true (tableCount rows limit-section % 2) 0 (and-right (everyBelow (tableCount rows limit-section) _) (eqb (tableCount rows limit-section % 2) 0) b)
+
+-- 1 to 4, or 6
+belongs : (s : ℕ) → sectionBelongs profile s ≡ true → ((1 ≤ s) × (s ≤ 4)) ⊎ (s ≡ procedure-section)
+unfolding sectionBelongs
+belongs s e = by-test (between declaration-section instruction-section s) refl
+  where
+    by-test : (t : Bool) → between declaration-section instruction-section s ≡ t → ((1 ≤ s) × (s ≤ 4)) ⊎ (s ≡ procedure-section)
+    by-test true q = inl (within declaration-section instruction-section s q)
+    by-test false q = inr (eqb-true s procedure-section (sym (ap (λ (t : Bool). t || eqb s procedure-section) q) ∙ e))
 
 section-not-zero : (f : File) (s : ℕ) → sectionBelongs f s ≡ true → s ≡ 0 → ⊥
 unfolding sectionBelongs
-section-not-zero profile s e z =
-    let h = leb-true declaration-section s (and-left (leb declaration-section s) (leb s instruction-section) e) in
-    omega (arith, h)
+section-not-zero profile s e z = ⊎-elim (λ h. omega (arith, h .0)) (λ q. omega (arith, q)) (belongs s e)
 section-not-zero limits s e z = let h = eqb-true s limit-section e in omega (arith, h)
 
 -- no accepted row is zero
@@ -109,15 +137,12 @@ pub section-nonzero : (f : File) (rows : List ℕ) → formWrong f rows ≡ fals
 section-nonzero f rows e i h = section-not-zero f (sectionAt rows i) (section-belongs f rows e i h)
 
 -- ---- how many rows are accepted
-within : (low high n : ℕ) → between low high n ≡ true → (low ≤ n) × (n ≤ high)
-within low high n e =
-    (leb-true low n (and-left (leb low n) (leb n high) e), leb-true n high (and-right (leb low n) (leb n high) e))
-
 pub record Counts (rows : List ℕ) : Type 0 where
   pub declarations : tableCount rows declaration-section / 2 ≤ most-variables
   pub types : tableCount rows type-section ≤ most-types
   pub expressions : tableCount rows expression-section ≤ most-expressions
   pub instructions : tableCount rows instruction-section ≤ most-instructions
+  pub procedures : procedureCount rows ≤ most-procedures
   pub some : 1 ≤ tableCount rows type-section
 
 profile-counts : (rows : List ℕ) → countWrong profile rows ≡ false → Counts rows
@@ -127,38 +152,133 @@ profile-counts rows e =
     let t : Bool = between 1 most-types (tableCount rows type-section) in
     let x : Bool = between 0 most-expressions (tableCount rows expression-section) in
     let i : Bool = between 1 most-instructions (tableCount rows instruction-section) in
-    let all = not-false (d && t && x && i) e in
-    let dtx = and-left (d && t && x) i all in
+    let p : Bool = between 0 most-procedures (procedureCount rows) in
+    let all = not-false (d && t && x && i && p) e in
+    let dtxi = and-left (d && t && x && i) p all in
+    let dtx = and-left (d && t && x) i dtxi in
     let dt = and-left (d && t) x dtx in
     record {
       declarations = within 1 most-variables (tableCount rows declaration-section / 2) (and-left d t dt) .1;
       types = within 1 most-types (tableCount rows type-section) (and-right d t dt) .1;
       expressions = within 0 most-expressions (tableCount rows expression-section) (and-right (d && t) x dtx) .1;
-      instructions = within 1 most-instructions (tableCount rows instruction-section) (and-right (d && t && x) i all) .1;
+      instructions = within 1 most-instructions (tableCount rows instruction-section) (and-right (d && t && x) i dtxi) .1;
+      procedures = within 0 most-procedures (procedureCount rows) (and-right (d && t && x && i) p all) .1;
       some = within 1 most-types (tableCount rows type-section) (and-right d t dt) .0;
     }
 
-profile-rows : (rows : List ℕ) → formWrong profile rows ≡ false → countWrong profile rows ≡ false → rowCount rows ≤ 832
-unfolding tableCount sectionBelongs
-profile-rows rows form count =
+-- ---- the rows of procedures
+both-same : (a b : Bool) → Bool·beq a b ≡ true → a ≡ b
+both-same true true e = refl
+both-same true false e = false-is-true e
+both-same false true e = false-is-true e
+both-same false false e = refl
+
+three-kinds : (k : ℕ) (bytes : List ℕ) → bytesFit (getD (some 8 ∷ some 4 ∷ some 6 ∷ []) k none) bytes ≡ true → (k ≡ 0) ⊎ ((k ≡ 1) ⊎ (k ≡ 2))
+unfolding bytesFit
+three-kinds zero bytes e = inl refl
+three-kinds (suc zero) bytes e = inr (inl refl)
+three-kinds (suc (suc zero)) bytes e = inr (inr refl)
+three-kinds (suc (suc (suc k))) bytes e = false-is-true e
+
+module _ (rows : List ℕ) (form : formWrong profile rows ≡ false) where
+  kind-of : (i k : ℕ) → sectionAt rows i ≡ procedure-section → kindAt rows i ≡ k → procedureKind k rows i ≡ true
+  unfolding procedureKind
+  kind-of i k s e = and-both (eqb (sectionAt rows i) procedure-section) (eqb (kindAt rows i) k) (eq-eqb (sectionAt rows i) procedure-section s) (eq-eqb (kindAt rows i) k e)
+
+  kinds : (i : ℕ) → i < rowCount rows → procedure-section ≤ sectionAt rows i → (procedureKind 0 rows i ≡ true) ⊎ ((procedureKind 1 rows i ≡ true) ⊎ (beginsProcedure rows i ≡ true))
+  unfolding usedBytes beginsProcedure
+  kinds i l h =
+      let s : sectionAt rows i ≡ procedure-section = ⊎-elim (λ b. absurd (let z : ⊥ = omega (arith, b .1) in z)) (λ q. q) (belongs (sectionAt rows i) (section-belongs profile rows form i l)) in
+      let fits = subst (λ (n : ℕ). bytesFit (usedBytes n (kindAt rows i)) (bytesAt rows i) ≡ true) s (bytes-fit profile rows form i l) in
+      ⊎-elim (λ q. inl (kind-of i 0 s q)) (⊎-elim (λ q. inr (inl (kind-of i 1 s q))) (λ q. inr (inr (kind-of i 2 s q)))) (three-kinds (kindAt rows i) (bytesAt rows i) fits)
+
+  abbrev followed : ℕ → Bool
+  followed i = ltb (suc i) (rowCount rows) && procedureKind 1 rows (suc i)
+
+  strays-none : tableCount rows procedure-section ≡ 0
+  unfolding procedurePairs
+  strays-none = eqb-true (tableCount rows procedure-section) 0 (and-left (eqb (tableCount rows procedure-section) 0) _ (procedures-paired profile rows form))
+
+  pair-at : (i : ℕ) → i < rowCount rows → procedureKind 0 rows i ≡ followed i
+  unfolding procedurePairs
+  pair-at i l =
+      both-same (procedureKind 0 rows i) (followed i)
+      (every-at (rowCount rows) (λ j. Bool·beq (procedureKind 0 rows j) (followed j)) i (and-right (eqb (tableCount rows procedure-section) 0) _ (procedures-paired profile rows form)) l)
+
+  procedure-even : (k : ℕ) → tableCount rows (variable-table k) % 2 ≡ 0
+  procedure-even k =
+      variables-even rows
+      (λ i l e.
+      let f = sym (pair-at i l) ∙ e in
+      (ltb-true (suc i) (rowCount rows) (and-left (ltb (suc i) (rowCount rows)) (procedureKind 1 rows (suc i)) f), and-right (ltb (suc i) (rowCount rows)) (procedureKind 1 rows (suc i)) f))
+      (λ i l e. pair-at i (omega arith) ∙ and-both (ltb (suc i) (rowCount rows)) (procedureKind 1 rows (suc i)) (lt-ltb (suc i) (rowCount rows) l) e)
+      kinds
+      k
+
+  -- no row is in a section that does not belong
+  apart : (s : ℕ) → ((x : ℕ) → ((1 ≤ x) × (x ≤ 4)) ⊎ (x ≡ procedure-section) → x ≡ s → ⊥) → countBelow (rowCount rows) (λ i. eqb (sectionAt rows i) s) ≡ 0
+  apart s out = no-table (rowCount rows) (λ i. sectionAt rows i) s (λ k h. out (sectionAt rows k) (belongs (sectionAt rows k) (section-belongs profile rows form k h)))
+
+  -- what stands before the procedures
+  plain-rows : tableStart rows (header-table 0)
+      ≡ tableCount rows declaration-section + tableCount rows type-section + tableCount rows expression-section + tableCount rows instruction-section
+  plain-rows =
+      let before = apart 0 (λ x b q. ⊎-elim (λ h. omega (arith, h .0)) (λ e. omega (arith, e)) b) in
+      let limits = apart limit-section (λ x b q. ⊎-elim (λ h. omega (arith, h .1)) (λ e. omega (arith, e)) b) in
+      omega (
+        arith,
+        before,
+        limits,
+        strays-none,
+        start-zero rows,
+        start-more rows 0,
+        start-more rows declaration-section,
+        start-more rows type-section,
+        start-more rows expression-section,
+        start-more rows instruction-section,
+        start-more rows limit-section,
+        start-more rows procedure-section,
+        section-count rows 0 (omega arith),
+        section-count rows limit-section (omega arith),
+      )
+
+few-variables : (rows : List ℕ) → parametersWrong rows ≡ false → (k : ℕ) → k < procedureCount rows → pairCount rows (variable-table k) ≤ most-variables
+unfolding parametersWrong parametersFit
+few-variables rows e k h =
+    let fits = every-at (procedureCount rows) (λ j. parametersFit rows j) k (and-left (everyBelow (procedureCount rows) (λ j. parametersFit rows j)) _ (not-false _ e)) h in
+    let counts : Bool = leb (valueCount rows k) most-parameters && leb (referenceCount rows k) most-parameters && leb (valueCount rows k + referenceCount rows k) (pairCount rows (variable-table k)) in
+    leb-true (pairCount rows (variable-table k)) most-variables (and-right counts (leb (pairCount rows (variable-table k)) most-variables) fits)
+
+profile-rows : (rows : List ℕ) → formWrong profile rows ≡ false → countWrong profile rows ≡ false → parametersWrong rows ≡ false → rowCount rows ≤ 1096
+profile-rows rows form count parameters =
     let c = profile-counts rows count in
     let even = declarations-even profile rows form in
-    let each = four-tables (rowCount rows) (λ i. sectionAt rows i)
-    (λ k h. within declaration-section instruction-section (sectionAt rows k) (section-belongs profile rows form k h)) in
-    omega (arith, each, even, c .declarations, c .types, c .expressions, c .instructions)
+    let procedures = procedure-rows rows (procedureCount rows) (omega arith) (λ k h. (procedure-even rows form k, few-variables rows parameters k h)) in
+    omega (
+      arith,
+      procedures,
+      all-rows rows,
+      plain-rows rows form,
+      even,
+      c .declarations,
+      c .types,
+      c .expressions,
+      c .instructions,
+      c .procedures,
+    )
 
 limits-rows : (rows : List ℕ) → formWrong limits rows ≡ false → countWrong limits rows ≡ false → rowCount rows ≤ 32
-unfolding tableCount countWrong pairCount sectionBelongs
+unfolding countWrong pairCount sectionBelongs
 limits-rows rows form count =
-    let table : ℕ = countBelow (rowCount rows) (λ i. eqb (sectionAt rows i) limit-section) in
-    let few = within 0 most-limits (table / 2) (not-false (between 0 most-limits (table / 2)) count) .1 in
+    let pairs : ℕ = tableCount rows limit-section / 2 in
+    let few = within 0 most-limits pairs (not-false (between 0 most-limits pairs) count) .1 in
     let all = one-table (rowCount rows) (λ i. sectionAt rows i) limit-section (λ k h. section-belongs limits rows form k h) in
     let even = limits-even limits rows form in
-    omega (arith, few, all, even)
+    omega (arith, few, all, even, section-count rows limit-section (omega arith))
 
 -- what the reader's buffer holds
 pub accepted-rows : (f : File) (rows : List ℕ) → lowest (rowRules f rows) ≡ no-error → row-bytes * rowCount rows ≤ rows-length
-accepted-rows profile rows e = let a = accepted profile rows e in omega (arith, profile-rows rows (a .0) (a .1))
+accepted-rows profile rows e = let a = accepted profile rows e in omega (arith, profile-rows rows (a .0) (a .1) (accepted-parameters rows e))
 accepted-rows limits rows e = let a = accepted limits rows e in omega (arith, limits-rows rows (a .0) (a .1))
 
 -- a limits file has room for its rows in one block
@@ -170,4 +290,4 @@ pub accepted-some : (rows : List ℕ) → lowest (rowRules profile rows) ≡ no-
 unfolding tableCount
 accepted-some rows e =
     let c = profile-counts rows (accepted profile rows e .1) in
-    omega (arith, c .some, count-at-most (rowCount rows) (λ i. eqb (sectionAt rows i) type-section))
+    omega (arith, c .some, count-at-most (rowCount rows) (λ i. eqb (tableAt rows i) type-section))

@@ -7,7 +7,7 @@ use Prim.Native.Nat.{ℕ, zero, suc, _≤_, _<_}
 use native.Mathlib.Omega.{arith}
 use lib.Dec.{eqb, leb, ltb}
 use borrow.Author.Tests.{eqb-true, ltb-true, ne-eqb, le-leb, lt-ltb, le-ltb, not-true}
-use Rattle.lingua.specs.Errors.{overflow, division-by-zero, yoke-not-satisfied, list-empty, list-full, word-too-long, not-filled, run-errors, type-errors, isAmong, isRunError, isTypeError, isError, error-numbers}
+use Rattle.lingua.specs.Errors.{overflow, division-by-zero, yoke-not-satisfied, list-empty, list-full, word-too-long, not-filled, too-deep, run-errors, type-errors, isAmong, isRunError, isTypeError, isError, error-numbers}
 use Rattle.lingua.specs.Value.{allOf}
 use Rattle.lingua.specs.Format.{everyBelow}
 use Rattle.laws.specs.Outcomes.{false-is-true, and-left, and-right}
@@ -51,6 +51,10 @@ long-runs = refl
 pub unfilled-runs : isRunError not-filled ≡ true
 unfolding isRunError isAmong
 unfilled-runs = refl
+
+pub deep-runs : isRunError too-deep ≡ true
+unfolding isRunError isAmong
+deep-runs = refl
 
 -- ---- no number is in both
 pub run-no-type-error : (n : ℕ) → isRunError n ≡ true → isTypeError n ≡ false

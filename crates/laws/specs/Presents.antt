@@ -19,7 +19,7 @@ use Rattle.laws.specs.Stores.{parts, Sized, length-parts, part-at, part-
 abbrev pub variableBytes : Variable → List ℕ
 variableBytes v = encoded (presentBody v)
 
-store-bodies-parts : (vs : List Variable) → storeBodies vs ≡ parts variableBytes vs
+pub store-bodies-parts : (vs : List Variable) → storeBodies vs ≡ parts variableBytes vs
 unfolding storeBodies parts
 store-bodies-parts [] = refl
 store-bodies-parts (v ∷ vs) = ap (λ (l : List ℕ). variableBytes v ++ l) (store-bodies-parts vs)
@@ -28,7 +28,7 @@ store-bodies-parts (v ∷ vs) = ap (λ (l : List ℕ). variableBytes v ++ l) (st
 abbrev pub Compact : List Variable → Type 0
 Compact vs = Every (λ v. nodes (presentBody v) ≤ body-nodes) vs
 
-bodies-sized : {vs : List Variable} → Compact vs → Sized variableBytes body-bytes vs
+pub bodies-sized : {vs : List Variable} → Compact vs → Sized variableBytes body-bytes vs
 bodies-sized hs = every-implies (λ v h. length-encoded (presentBody v) h) hs
 
 module _ (vs : List Variable) (n : ℕ) (lt : n < length vs) (hs : Compact vs) where

@@ -123,7 +123,7 @@ store-states-parts (v ∷ vs) = ap (λ (l : List ℕ). stateWords v ++ l) (store
 abbrev pub Small : List Variable → Type 0
 Small vs = Every (λ v. length (contentCells (v .content)) ≤ body-cells) vs
 
-small-sized : {vs : List Variable} → Small vs → Sized variableCells body-cells vs
+pub small-sized : {vs : List Variable} → Small vs → Sized variableCells body-cells vs
 small-sized hs = every-implies (λ v h. length-pad body-cells (pos 0) (contentCells (v .content)) h) hs
 
 pub states-sized : (vs : List Variable) → Sized stateWords state-words vs

@@ -2,9 +2,10 @@
 use mathlib.Core.Path.{_≡_, refl, sym, ap, subst}
 use mathlib.Core.Bool.{Bool, true, false}
 use mathlib.Core.List.{List, [], _∷_}
+use mathlib.Core.Option.{Option, some, none}
 use Prim.Native.Nat.{ℕ}
 use native.Mathlib.Omega.{arith}
-use Rattle.lingua.specs.Outcome.{Outcome, ok, fail, Result, _>>=_, _>>_, require, both, allAnswers}
+use Rattle.lingua.specs.Outcome.{Outcome, ok, fail, Result, _>>=_, _>>_, require, orFail, both, allAnswers}
 use Rattle.lingua.specs.Typing.{ownRule}
 use Rattle.safety.specs.Every.{Every, every-none, every-more}
 
@@ -29,6 +30,11 @@ module _ {E : Type 0} where
   pub after : {B : Type 0} (u : Outcome E (Unit {0})) (o : Outcome E B) (b : B) → (u >> o) ≡ ok b → (u ≡ ok tt) × (o ≡ ok b)
   after (ok v) o b q = (refl, q)
   after (fail e) o b q = never-ok q
+
+  -- of an option
+  pub some-answer : {A B : Type 0} (o : Option A) (e : E) (f : A → Outcome E B) (b : B) → (orFail o e >>= f) ≡ ok b → (a : A) × (o ≡ some a) × (f a ≡ ok b)
+  some-answer (some a) e f b q = (a, refl, q)
+  some-answer none e f b q = never-ok q
 
 -- two at once
 module _ {E A B : Type 0} where

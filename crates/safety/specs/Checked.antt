@@ -11,8 +11,8 @@ use Rattle.lingua.specs.Outcome.{ok, fail, orFail, answerOf, both}
 use Rattle.lingua.specs.Body.{Body, boolean, size, sameBody, isBoolean, elementBody}
 use Rattle.lingua.specs.Value.{Composite}
 use Rattle.lingua.specs.Operation.{Unary, Binary, unaryBody, binaryBody}
-use Rattle.lingua.specs.Expression.{Connective, Expression, constant, variable, current, unary, binary, lazy, choice, all-list, Yoke, always, yoke, Instruction, skip, assign, set-yoke, sequence, branch, loop, handle}
-use Rattle.lingua.specs.Typing.{TypeError, typeError, Entry, Typed, Finding, fault, ownRule, unarySecond, binarySecond, Bodies, currentBody, elementsAt, check, judged, checkYoke, no-current-body, checkTest, checkInstruction}
+use Rattle.lingua.specs.Expression.{Connective, Expression, constant, variable, current, unary, binary, lazy, choice, all-list, Yoke, always, yoke, Instruction, skip, assign, set-yoke, sequence, branch, loop, handle, call}
+use Rattle.lingua.specs.Typing.{TypeError, typeError, Entry, Typed, Finding, fault, ownRule, unarySecond, binarySecond, Bodies, currentBody, elementsAt, check, judged, checkYoke, no-current-body, checkTest, givenFit, checkInstruction}
 use Rattle.laws.specs.Outcomes.{orFail-ok, same-body, is-boolean}
 use Rattle.safety.specs.Answers.{same-answer, never-ok, bound, both-bound, both-answer, demanded, own-answer}
 
@@ -44,15 +44,16 @@ unfoldable pub CheckedYoke : Bodies → Yoke → Body → List Entry → Type 0
 CheckedYoke vars always b es = es ≡ []
 CheckedYoke vars (yoke e) b es = Checked vars e b boolean es
 
--- an instruction's own row
-unfoldable pub CheckedRow : Bodies → Instruction → List Entry → Type 0
-CheckedRow vars (skip r) es = es ≡ []
-CheckedRow vars (assign r n e) es = Checked vars e no-current-body (vars n) es
-CheckedRow vars (set-yoke r n y) es = CheckedYoke vars y (vars n) es
-CheckedRow vars (sequence r i j) es = es ≡ []
-CheckedRow vars (branch r e i j) es = Checked vars e no-current-body boolean es
-CheckedRow vars (loop r e i) es = Checked vars e no-current-body boolean es
-CheckedRow vars (handle r n i) es = es ≡ []
+-- an instruction's own row; `procs` are the declared bodies of each procedure's variables
+unfoldable pub CheckedRow : (ℕ → Bodies) → Bodies → Instruction → List Entry → Type 0
+CheckedRow procs vars (skip r) es = es ≡ []
+CheckedRow procs vars (assign r n e) es = Checked vars e no-current-body (vars n) es
+CheckedRow procs vars (set-yoke r n y) es = CheckedYoke vars y (vars n) es
+CheckedRow procs vars (sequence r i j) es = es ≡ []
+CheckedRow procs vars (branch r e i j) es = Checked vars e no-current-body boolean es
+CheckedRow procs vars (loop r e i) es = Checked vars e no-current-body boolean es
+CheckedRow procs vars (handle r n i) es = es ≡ []
+CheckedRow procs vars (call r k vs rs) es = (es ≡ []) × (givenFit vars (vs ++ rs) (procs k) 0 ≡ true)
 
 -- what a declaration or an instruction that passes shows of its expression
 judged-answer : (o : Finding Typed) (suits : Body → Bool) (own : TypeError) (es : List Entry) → judged o suits own ≡ ok es
@@ -127,14 +128,18 @@ module _ (vars : Bodies) where
       let a = judged-answer (check e vars (some no-current-body)) isBoolean (typeError boolean-expected p) es q in
       entries-as (a .3) (body-as (is-boolean (a .0 .body) (a .2)) (check-checked e no-current-body (a .0) (a .1)))
 
-  pub row-checked : (i : Instruction) (es : List Entry) → checkInstruction vars i ≡ ok es → CheckedRow vars i es
+module _ (procs : ℕ → Bodies) (vars : Bodies) where
+  pub row-checked : (i : Instruction) (es : List Entry) → checkInstruction procs vars i ≡ ok es → CheckedRow procs vars i es
   unfolding checkInstruction CheckedRow
   row-checked (skip r) es q = sym (same-answer q)
   row-checked (assign r n e) es q =
       let a = judged-answer (check e vars (some no-current-body)) (sameBody (vars n)) (typeError no-coherence (instruction-place + r)) es q in
-      entries-as (a .3) (body-as (sym (same-body (vars n) (a .0 .body) (a .2))) (check-checked e no-current-body (a .0) (a .1)))
-  row-checked (set-yoke r n y) es q = yoke-checked y (vars n) (instruction-place + r) es q
+      entries-as vars (a .3) (body-as vars (sym (same-body (vars n) (a .0 .body) (a .2))) (check-checked vars e no-current-body (a .0) (a .1)))
+  row-checked (set-yoke r n y) es q = yoke-checked vars y (vars n) (instruction-place + r) es q
   row-checked (sequence r i j) es q = sym (same-answer q)
-  row-checked (branch r e i j) es q = test-checked e (instruction-place + r) es q
-  row-checked (loop r e i) es q = test-checked e (instruction-place + r) es q
+  row-checked (branch r e i j) es q = test-checked vars e (instruction-place + r) es q
+  row-checked (loop r e i) es q = test-checked vars e (instruction-place + r) es q
   row-checked (handle r n i) es q = sym (same-answer q)
+  row-checked (call r k vs rs) es q =
+      let m = demanded (givenFit vars (vs ++ rs) (procs k) 0) (typeError no-coherence (instruction-place + r)) _ es q in
+      (sym (same-answer (m .1)), m .0)

@@ -6,9 +6,9 @@ use Prim.Native.Nat.{ℕ, suc, _+_}
 use Rattle.lingua.specs.Numbers.{declaration-place}
 use Rattle.lingua.specs.Outcome.{ok, allAnswers}
 use Rattle.lingua.specs.Body.{Body}
-use Rattle.lingua.specs.Expression.{Expression, constant, variable, current, unary, binary, lazy, choice, all-list, Yoke, always, yoke, Instruction, skip, assign, set-yoke, sequence, branch, loop, handle}
-use Rattle.lingua.specs.Run.{Declaration, Profile}
-use Rattle.lingua.specs.Typing.{Entry, Bodies, checkYoke, checkInstruction, checkDeclarations, bodiesOf, joined, checkProfile}
+use Rattle.lingua.specs.Expression.{Expression, constant, variable, current, unary, binary, lazy, choice, all-list, Yoke, always, yoke, Instruction, skip, assign, set-yoke, sequence, branch, loop, handle, call}
+use Rattle.lingua.specs.Run.{Declaration, Scoped, Profile}
+use Rattle.lingua.specs.Typing.{Entry, Bodies, checkYoke, checkDeclarations, bodiesOf, joined, allDeclarations, scopeBodies, checkScoped, checkProfile}
 use Rattle.safety.specs.Answers.{same-answer, bound}
 use Rattle.safety.specs.Checked.{Checked, checked-constant, checked-variable, checked-current, checked-unary, checked-binary, checked-lazy, checked-choice, checked-all-list, CheckedYoke, CheckedRow, yoke-checked, row-checked}
 use Rattle.safety.specs.Layout.{entryRow}
@@ -37,6 +37,7 @@ ownRows (sequence r i j) = []
 ownRows (branch r e i j) = treeRows e
 ownRows (loop r e i) = treeRows e
 ownRows (handle r n i) = []
+ownRows (call r k vs rs) = []
 
 -- ---- lists
 map-append : (xs ys : List Entry) → map entryRow (xs ++ ys) ≡ map entryRow xs ++ map entryRow ys
@@ -67,15 +68,16 @@ unfolding CheckedYoke yokeRows
 yoke-rows vars always b es c = no-rows c
 yoke-rows vars (yoke e) b es c = checked-rows c
 
-own-rows : (vars : Bodies) (i : Instruction) (es : List Entry) → CheckedRow vars i es → map entryRow es ≡ ownRows i
+own-rows : (procs : ℕ → Bodies) (vars : Bodies) (i : Instruction) (es : List Entry) → CheckedRow procs vars i es → map entryRow es ≡ ownRows i
 unfolding CheckedRow ownRows
-own-rows vars (skip r) es c = no-rows c
-own-rows vars (assign r n e) es c = checked-rows c
-own-rows vars (set-yoke r n y) es c = yoke-rows vars y (vars n) es c
-own-rows vars (sequence r i j) es c = no-rows c
-own-rows vars (branch r e i j) es c = checked-rows c
-own-rows vars (loop r e i) es c = checked-rows c
-own-rows vars (handle r n i) es c = no-rows c
+own-rows procs vars (skip r) es c = no-rows c
+own-rows procs vars (assign r n e) es c = checked-rows c
+own-rows procs vars (set-yoke r n y) es c = yoke-rows vars y (vars n) es c
+own-rows procs vars (sequence r i j) es c = no-rows c
+own-rows procs vars (branch r e i j) es c = checked-rows c
+own-rows procs vars (loop r e i) es c = checked-rows c
+own-rows procs vars (handle r n i) es c = no-rows c
+own-rows procs vars (call r k vs rs) es c = no-rows (c .0)
 
 -- ---- all of them
 declarations-rows : (vars : Bodies) (d : ℕ) (ds : List Declaration) (xss : List (List Entry)) → allAnswers (checkDeclarations vars d ds) ≡ ok xss
@@ -88,25 +90,31 @@ declarations-rows vars d (v ∷ ds) xss q =
     subst (λ (l : List (List Entry)). map entryRow (joined l) ≡ yokeRows (v .declared) ++ joined (map (λ (w : Declaration). yokeRows (w .declared)) ds)) (same-answer (b .2))
     (rows-append (a .0) (joined (b .0)) (yoke-rows vars (v .declared) (v .body) (a .0) (yoke-checked vars (v .declared) (v .body) (declaration-place + d) (a .0) (a .1))) (declarations-rows vars (suc d) ds (b .0) (b .1)))
 
-instructions-rows : (vars : Bodies) (is : List Instruction) (xss : List (List Entry)) → allAnswers (map (λ i. checkInstruction vars i) is) ≡ ok xss
-    → map entryRow (joined xss) ≡ joined (map ownRows is)
-unfolding allAnswers joined
-instructions-rows vars [] xss q = subst (λ (l : List (List Entry)). map entryRow (joined l) ≡ []) (same-answer q) refl
-instructions-rows vars (i ∷ is) xss q =
-    let a = bound (checkInstruction vars i) _ xss q in
-    let b = bound (allAnswers (map (λ k. checkInstruction vars k) is)) _ xss (a .2) in
-    subst (λ (l : List (List Entry)). map entryRow (joined l) ≡ ownRows i ++ joined (map ownRows is)) (same-answer (b .2))
-    (rows-append (a .0) (joined (b .0)) (own-rows vars i (a .0) (row-checked vars i (a .0) (a .1))) (instructions-rows vars is (b .0) (b .1)))
+scoped-rows : (p : Profile) (i : Scoped) (es : List Entry) → checkScoped p i ≡ ok es → map entryRow es ≡ ownRows (i .instruction)
+unfolding checkScoped
+scoped-rows p i es q =
+    let procs : ℕ → Bodies = λ k. scopeBodies p (suc k) in
+    own-rows procs (scopeBodies p (i .scope)) (i .instruction) es (row-checked procs (scopeBodies p (i .scope)) (i .instruction) es q)
 
--- the rows of the trees that the type check goes through: those of the declared yokes, then those of each instruction row
+instructions-rows : (p : Profile) (is : List Scoped) (xss : List (List Entry)) → allAnswers (map (λ i. checkScoped p i) is) ≡ ok xss
+    → map entryRow (joined xss) ≡ joined (map (λ i. ownRows (i .instruction)) is)
+unfolding allAnswers joined
+instructions-rows p [] xss q = subst (λ (l : List (List Entry)). map entryRow (joined l) ≡ []) (same-answer q) refl
+instructions-rows p (i ∷ is) xss q =
+    let a = bound (checkScoped p i) _ xss q in
+    let b = bound (allAnswers (map (λ k. checkScoped p k) is)) _ xss (a .2) in
+    subst (λ (l : List (List Entry)). map entryRow (joined l) ≡ ownRows (i .instruction) ++ joined (map (λ (k : Scoped). ownRows (k .instruction)) is)) (same-answer (b .2))
+    (rows-append (a .0) (joined (b .0)) (scoped-rows p i (a .0) (a .1)) (instructions-rows p is (b .0) (b .1)))
+
+-- the rows of the trees that the type check goes through: those of the declared yokes, procedures' too, then those of each instruction row
 unfoldable pub checkedRows : Profile → List ℕ
-checkedRows p = joined (map (λ d. yokeRows (d .declared)) (p .declarations)) ++ joined (map ownRows (p .instructions))
+checkedRows p = joined (map (λ d. yokeRows (d .declared)) (allDeclarations p)) ++ joined (map (λ i. ownRows (i .instruction)) (p .instructions))
 
 pub entries-rows : (p : Profile) (es : List Entry) → checkProfile p ≡ ok es → map entryRow es ≡ checkedRows p
 unfolding checkProfile checkedRows
 entries-rows p es e =
     let vars : Bodies = bodiesOf (p .declarations) in
-    let a = bound (allAnswers (checkDeclarations vars 0 (p .declarations))) _ es e in
-    let b = bound (allAnswers (map (λ i. checkInstruction vars i) (p .instructions))) _ es (a .2) in
+    let a = bound (allAnswers (checkDeclarations vars 0 (allDeclarations p))) _ es e in
+    let b = bound (allAnswers (map (λ i. checkScoped p i) (p .instructions))) _ es (a .2) in
     ap (map entryRow) (sym (same-answer (b .2)))
-    ∙ rows-append (joined (a .0)) (joined (b .0)) (declarations-rows vars 0 (p .declarations) (a .0) (a .1)) (instructions-rows vars (p .instructions) (b .0) (b .1))
+    ∙ rows-append (joined (a .0)) (joined (b .0)) (declarations-rows vars 0 (allDeclarations p) (a .0) (a .1)) (instructions-rows p (p .instructions) (b .0) (b .1))

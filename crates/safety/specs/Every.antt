@@ -1,10 +1,11 @@
 -- Lists all of whose elements have a property (`Every` of laws, passed on here): of parts joined, mapped, tabulated, and of tests that hold
--- everywhere. Assumes nothing.
-use mathlib.Core.Path.{_≡_, refl, sym, subst}
+-- everywhere; and what stands where in a table. Assumes nothing.
+use mathlib.Core.Path.{_≡_, refl, sym, ap, _∙_, subst}
 use mathlib.Core.Bool.{Bool, true}
 use mathlib.Core.List.{List, [], _∷_, _++_, map, List·Memᴰ, List·Memᴰ·head, List·Memᴰ·tail}
-use Prim.Native.Nat.{ℕ, zero, suc, _+_, _<_}
+use Prim.Native.Nat.{ℕ, zero, suc, _+_, _≤_, _<_}
 use native.Mathlib.Omega.{arith}
+use lib.ListN.{length, getD}
 use Rattle.lingua.specs.Value.{allOf}
 use Rattle.lingua.specs.Typing.{joined}
 use Rattle.lingua.specs.Trees.{tabulateFrom, tabulate}
@@ -81,6 +82,52 @@ tabulate-from f i (suc n) h = every-more (h i (omega arith)) (tabulate-from f (s
 pub every-tabulate : {A : Type 0} {P : A → Type 0} (n : ℕ) (f : ℕ → A) → ((k : ℕ) → k < n → P (f k)) → Every P (tabulate n f)
 unfolding tabulate
 every-tabulate n f h = tabulate-from f 0 n (λ k l. h k (omega arith))
+
+-- element k, where there are so many, and else what stands for it
+pub every-getD : {A : Type 0} {P : A → Type 0} {xs : List A} {d : A} → Every P xs → P d → (k : ℕ) → P (getD xs k d)
+every-getD every-none h k = h
+every-getD (every-more p ps) h zero = p
+every-getD (every-more p ps) h (suc k) = every-getD ps h k
+
+at-from : {A : Type 0} (f : ℕ → A) (i n k : ℕ) (d : A) → k < n → getD (tabulateFrom i n f) k d ≡ f (i + k)
+unfolding tabulateFrom
+at-from f i zero k d l = absurd (let z : ⊥ = omega arith in z)
+at-from f i (suc n) zero d l = ap f (let e : i ≡ i + zero = omega arith in e)
+at-from f i (suc n) (suc k) d l = at-from f (suc i) n k d (omega arith) ∙ ap f (let e : suc i + k ≡ i + suc k = omega arith in e)
+
+pub tabulate-at : {A : Type 0} (n : ℕ) (f : ℕ → A) (k : ℕ) (d : A) → k < n → getD (tabulate n f) k d ≡ f k
+unfolding tabulate
+tabulate-at n f k d l = at-from f 0 n k d l ∙ ap f (let e : 0 + k ≡ k = omega arith in e)
+
+behind-from : {A : Type 0} (f : ℕ → A) (i n k : ℕ) (d : A) → n ≤ k → getD (tabulateFrom i n f) k d ≡ d
+unfolding tabulateFrom
+behind-from f i zero k d l = refl
+behind-from f i (suc n) zero d l = absurd (let z : ⊥ = omega arith in z)
+behind-from f i (suc n) (suc k) d l = behind-from f (suc i) n k d (omega arith)
+
+pub tabulate-behind : {A : Type 0} (n : ℕ) (f : ℕ → A) (k : ℕ) (d : A) → n ≤ k → getD (tabulate n f) k d ≡ d
+unfolding tabulate
+tabulate-behind n f k d l = behind-from f 0 n k d l
+
+mapped-from : {A B : Type 0} (h : A → B) (f : ℕ → A) (i n k : ℕ) (d : B) → k < n → getD (map h (tabulateFrom i n f)) k d ≡ h (f (i + k))
+unfolding tabulateFrom
+mapped-from h f i zero k d l = absurd (let z : ⊥ = omega arith in z)
+mapped-from h f i (suc n) zero d l = ap (λ (j : ℕ). h (f j)) (let e : i ≡ i + zero = omega arith in e)
+mapped-from h f i (suc n) (suc k) d l =
+    mapped-from h f (suc i) n k d (omega arith) ∙ ap (λ (j : ℕ). h (f j)) (let e : suc i + k ≡ i + suc k = omega arith in e)
+
+pub mapped-at : {A B : Type 0} (h : A → B) (n : ℕ) (f : ℕ → A) (k : ℕ) (d : B) → k < n → getD (map h (tabulate n f)) k d ≡ h (f k)
+unfolding tabulate
+mapped-at h n f k d l = mapped-from h f 0 n k d l ∙ ap (λ (j : ℕ). h (f j)) (let e : 0 + k ≡ k = omega arith in e)
+
+length-from : {A : Type 0} (f : ℕ → A) (i n : ℕ) → length (tabulateFrom i n f) ≡ n
+unfolding tabulateFrom
+length-from f i zero = refl
+length-from f i (suc n) = ap suc (length-from f (suc i) n)
+
+pub length-tabulate : {A : Type 0} (n : ℕ) (f : ℕ → A) → length (tabulate n f) ≡ n
+unfolding tabulate
+length-tabulate n f = length-from f 0 n
 
 -- ---- tests
 pub all-true : {A : Type 0} (p : A → Bool) (xs : List A) → allOf p xs ≡ true → Every (λ x. p x ≡ true) xs

@@ -23,7 +23,7 @@ use Rattle.safety.specs.Answers.{same-answer, bound, true-is-false}
 pub ok-is-fail {ℓ} : {A : Type 0} {B : Type ℓ} {a : A} {n : ℕ} → _≡_ {A = Result A} (ok a) (fail n) → B
 ok-is-fail e = absurd (let z : _≡_ {A = ℕ} 0 1 = cc in let k : ⊥ = omega arith in k)
 
-same-error : {A : Type 0} {m n : ℕ} → _≡_ {A = Result A} (fail m) (fail n) → m ≡ n
+pub same-error : {A : Type 0} {m n : ℕ} → _≡_ {A = Result A} (fail m) (fail n) → m ≡ n
 same-error e = cc
 
 -- a step failed, or what came next did
@@ -43,7 +43,7 @@ then-fails (fail m) o n e = inl (ap {B = Result _} fail (same-error e))
 abbrev pub In : ℕ → List ℕ → Type 0
 In n ns = List·Memᴰ n ns
 
-error-in : {A : Type 0} (r : Result A) (n : ℕ) → r ≡ fail n → In n (errorIn r)
+pub error-in : {A : Type 0} (r : Result A) (n : ℕ) → r ≡ fail n → In n (errorIn r)
 error-in (ok a) n e = ok-is-fail e
 error-in (fail m) n e = List·Memᴰ·head (sym (same-error e))
 

@@ -1,17 +1,18 @@
 -- Every fault of an expression is at a row of its tree (`faults-in-tree`). So what is named of a declaration or an instruction is the
 -- lowest of its expression's rows at fault, or, where the expression has a body that does not suit, the declaration or instruction
--- itself (`which-fault`). Assumes nothing.
+-- itself (`which-fault`); of a call it is always the call itself (`call-fault`). Assumes nothing.
 use mathlib.Core.Path.{_≡_, refl, sym, subst}
 use mathlib.Core.Bool.{Bool, true, false}
 use mathlib.Core.List.{List, [], _∷_, _++_, List·Memᴰ, List·Memᴰ·head, Memᴰ·append-left, Memᴰ·append-right}
 use mathlib.Core.Option.{Option, some, none}
-use Prim.Native.Nat.{ℕ}
-use Rattle.lingua.specs.Errors.{list-expected}
-use Rattle.lingua.specs.Outcome.{ok, fail, Result, _>>=_, _>>_, require, orFail, orElse, answerOf, both}
+use Prim.Native.Nat.{ℕ, _+_}
+use Rattle.lingua.specs.Numbers.{instruction-place}
+use Rattle.lingua.specs.Errors.{list-expected, no-coherence}
+use Rattle.lingua.specs.Outcome.{Outcome, ok, fail, Result, _>>=_, _>>_, require, orFail, orElse, answerOf, both}
 use Rattle.lingua.specs.Body.{Body, isBoolean, sameBody, elementBody}
 use Rattle.lingua.specs.Operation.{unaryBody, binaryBody}
-use Rattle.lingua.specs.Expression.{Expression, constant, variable, current, unary, binary, lazy, choice, all-list}
-use Rattle.lingua.specs.Typing.{TypeError, typeError, Typed, Finding, ownRule, Bodies, currentBody, elementsAt, check, lowestFault, judged}
+use Rattle.lingua.specs.Expression.{Expression, constant, variable, current, unary, binary, lazy, choice, all-list, call}
+use Rattle.lingua.specs.Typing.{TypeError, typeError, Entry, Typed, Finding, ownRule, Bodies, currentBody, elementsAt, check, lowestFault, judged, givenFit, checkInstruction}
 use Rattle.safety.specs.Answers.{never-ok, same-fault}
 use Rattle.safety.specs.Every.{Every, every-none, every-one, every-append, every-implies, every-at}
 use Rattle.safety.specs.Faults.{Lowest, Least, lowest-is, some-fault}
@@ -122,3 +123,13 @@ module _ (e : Expression) (vars : Bodies) (b : Body) (suits : Body → Bool) (ow
 
   pub which-fault : judged (check e vars (some b)) suits own ≡ fail f → Named e vars b suits own f
   which-fault z = by-finding (check e vars (some b)) refl (faults-in-tree vars e (some b)) z
+
+-- a call has no expression: its own place is named, and only where a variable that it gives has another body than its parameter
+module _ (procs : ℕ → Bodies) (vars : Bodies) (r k : ℕ) (vs rs : List ℕ) (f : TypeError) where
+  own-fault : (t : Bool) → _≡_ {A = Outcome TypeError (List Entry)} (require t (typeError no-coherence (instruction-place + r)) >> ok []) (fail f) → (t ≡ false) × (f ≡ typeError no-coherence (instruction-place + r))
+  own-fault true z = never-ok (sym z)
+  own-fault false z = (refl, sym (same-fault z))
+
+  pub call-fault : checkInstruction procs vars (call r k vs rs) ≡ fail f → (givenFit vars (vs ++ rs) (procs k) 0 ≡ false) × (f ≡ typeError no-coherence (instruction-place + r))
+  unfolding checkInstruction
+  call-fault z = own-fault (givenFit vars (vs ++ rs) (procs k) 0) z

@@ -11,11 +11,11 @@ use borrow.Author.Tests.{ltb-true, lt-ltb}
 use Rattle.lingua.specs.Value.{Composite}
 use Rattle.lingua.specs.Evaluation.{no-current}
 use Rattle.lingua.specs.Expression.{Expression, unary, binary, lazy, choice, all-list, Instruction, skip, sequence, branch, loop, handle}
-use Rattle.lingua.specs.Rows.{constantValue, ExpressionRow, constant-row, variable-row, current-row, unary-row, binary-row, lazy-row, choice-row, all-list-row, unknown-expression, expressionRow, operands, InstructionRow, skip-row, assign-row, set-yoke-row, sequence-row, branch-row, loop-row, handle-row, unknown-instruction, instructionRow, parts}
+use Rattle.lingua.specs.Rows.{constantValue, ExpressionRow, constant-row, variable-row, current-row, unary-row, binary-row, lazy-row, choice-row, all-list-row, unknown-expression, expressionRow, operands, InstructionRow, skip-row, assign-row, set-yoke-row, sequence-row, branch-row, loop-row, handle-row, call-row, unknown-instruction, instructionRow, parts}
 use Rattle.lingua.specs.Trees.{below, lower, no-expression, expressionOf, expressionIn, expressionTree, instructionOf, instructionIn, instructionTree}
 use Rattle.safety.specs.Every.{Every, every-none, every-more, every-implies}
 use Rattle.safety.specs.Constants.{ConstantsHave}
-use Rattle.safety.specs.Everywhere.{Everywhere, at-skip, at-assign, at-set-yoke, at-sequence, at-branch, at-loop, at-handle}
+use Rattle.safety.specs.Everywhere.{Everywhere, at-skip, at-assign, at-set-yoke, at-sequence, at-branch, at-loop, at-handle, at-call}
 
 -- a property of what lower rows give, and of what stands for other rows
 pub lower-has : {A : Type 0} (P : A → Type 0) (r : ℕ) (f : ℕ → A) (other : A) → ((a : ℕ) → a < r → P (f a)) → P other → (a : ℕ) → P (lower r f other a)
@@ -95,6 +95,7 @@ node-everywhere rows r (sequence-row i j) look q k = at-sequence q (k i) (k j)
 node-everywhere rows r (branch-row e i j) look q k = at-branch q (k i) (k j)
 node-everywhere rows r (loop-row e i) look q k = at-loop q (k i)
 node-everywhere rows r (handle-row n i) look q k = at-handle q (k i)
+node-everywhere rows r (call-row p b c) look q k = at-call q
 node-everywhere rows r unknown-instruction look q k = at-skip q
 
 module _ (Q : Instruction → Type 0) (skips : (r : ℕ) → Q (skip r)) (rows : List ℕ) (count : ℕ) (each : (r : ℕ) → r < count → Q (instructionTree rows r)) where
@@ -133,6 +134,7 @@ part-trees rows r (sequence-row i j) look find (every-more p (every-more q every
 part-trees rows r (branch-row e i j) look find (every-more p (every-more q every-none)) = ap₂ (λ (a b : Instruction). branch r (expressionTree rows e) a b) p q
 part-trees rows r (loop-row e i) look find (every-more p every-none) = ap (λ (a : Instruction). loop r (expressionTree rows e) a) p
 part-trees rows r (handle-row n i) look find (every-more p every-none) = ap (λ (a : Instruction). handle r n a) p
+part-trees rows r (call-row p b c) look find h = refl
 part-trees rows r unknown-instruction look find h = refl
 
 pub lower-at : {A : Type 0} (r : ℕ) (f : ℕ → A) (other : A) (a : ℕ) → a < r → lower r f other a ≡ f a

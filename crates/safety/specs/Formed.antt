@@ -1,13 +1,13 @@
--- The bodies of an accepted profile are well-formed: those of its type rows and declarations (`type-formed`, `declared-formed`), those of
--- whatever its expressions give (`eval-formed`, `tree-eval-formed`). Assumes nothing.
+-- The bodies of an accepted profile are well-formed: those of its type rows (`type-formed`), those of its own and its procedures'
+-- declarations (`scope-formed`), those of whatever its expressions give (`eval-formed`, `tree-eval-formed`). Assumes nothing.
 use mathlib.Core.Path.{_≡_, refl, sym, subst}
 use mathlib.Core.Bool.{Bool, true, false, Bool·beq}
 use mathlib.Core.List.{List, [], _∷_, map}
 use mathlib.Core.Option.{some}
-use Prim.Native.Nat.{ℕ, zero, suc, _<_}
+use Prim.Native.Nat.{ℕ, zero, suc, _≤_, _<_}
 use native.Mathlib.Omega.{arith}
 use lib.Dec.{eqb}
-use Rattle.lingua.specs.Numbers.{declaration-section, type-section, expression-section}
+use Rattle.lingua.specs.Numbers.{declaration-section, type-section, expression-section, scopeTable}
 use Rattle.lingua.specs.Errors.{boolean-expected, yoke-expected, not-filled, record-expected}
 use Rattle.lingua.specs.Outcome.{ok, fail, Result, _>>=_, if_then_else_, allAnswers}
 use Rattle.lingua.specs.Body.{Body, isBoolean}
@@ -17,17 +17,18 @@ use Rattle.lingua.specs.Operation.{make-record, make-list, expand, unaryBody, b
 use Rattle.lingua.specs.Compute.{unaryValue, binaryValue}
 use Rattle.lingua.specs.Expression.{settledBy, Expression, constant, variable, current, unary, binary, lazy, choice, all-list}
 use Rattle.lingua.specs.Evaluation.{Variables, applyUnary, applyBinary, truthOr, booleanOf, allTrue, elementsOf, eval}
-use Rattle.lingua.specs.Run.{Declaration}
-use Rattle.lingua.specs.Typing.{bodiesOf}
-use Rattle.lingua.specs.Rows.{kindAt, aAt, rowIn, tableCount, pairCount, detailRow, RowKind, numbered, said, TypeRow, simple-type, list-type, record-type, expand-type, unknown-type, typeKinds, typeAt, typeRow, Constant, boolean-constant, number-constant, word-constant, constantValue, ExpressionRow, constant-row, variable-row, current-row, unary-row, binary-row, lazy-row, choice-row, all-list-row, unknown-expression, expressionRow}
-use Rattle.lingua.specs.Trees.{no-expression, typeBodyOf, typeBodyIn, typeBody, expressionOf, expressionIn, expressionTree, bodyOr, declaredBody, declarationAt, profileOf}
+use Rattle.lingua.specs.Run.{Declaration, scopeDeclarations}
+use Rattle.lingua.specs.Typing.{bodiesOf, scopeBodies}
+use Rattle.lingua.specs.Rows.{kindAt, aAt, rowIn, tableCount, pairCount, detailRow, procedureCount, RowKind, numbered, said, TypeRow, simple-type, list-type, record-type, expand-type, unknown-type, typeKinds, typeAt, typeRow, Constant, boolean-constant, number-constant, word-constant, constantValue, ExpressionRow, constant-row, variable-row, current-row, unary-row, binary-row, lazy-row, choice-row, all-list-row, unknown-expression, expressionRow}
+use Rattle.lingua.specs.Trees.{no-expression, typeBodyOf, typeBodyIn, typeBody, expressionOf, expressionIn, expressionTree, bodyIn, bodyOr, declarationIn, declarationAt, profileOf}
 use Rattle.lingua.specs.Rules.{unaryAttribute, binaryAttribute, attributesFit, expressionAttributes, typeAttributes}
 use Rattle.laws.specs.Outcomes.{ok-same, orFail-ok}
 use Rattle.laws.specs.Formed.{formed-as, unary-formed, binary-formed}
 use Rattle.safety.specs.Answers.{same-answer, never-ok, bound, demanded}
-use Rattle.safety.specs.Every.{Every, every-none, every-more, every-tabulate}
+use Rattle.safety.specs.Every.{Every, every-none, every-more}
 use Rattle.safety.specs.Forest.{ConstantHas, lower-has}
-use Rattle.safety.specs.Accepted.{AcceptedRows, type-attributes, expression-attributes, declared-type, type-body-is, declared-body-is}
+use Rattle.safety.specs.ProfileScopes.{scope-every}
+use Rattle.safety.specs.Accepted.{AcceptedRows, type-attributes, expression-attributes, scope-type, type-body-is, scope-body-is}
 
 -- ---- types
 -- a row of a simple type
@@ -91,20 +92,32 @@ module _ (rows : List ℕ) (accepted : AcceptedRows rows) where
   type-formed r l = let e = type-body-is rows accepted r l in (e, type-formed-in (suc r) r l (bodyOr (typeBody rows r)) e)
 
   -- ---- declarations
-  pub declared-formed : (lims : List ℕ) (d : ℕ) → d < pairCount rows declaration-section → WellFormed (declarationAt rows lims d .body)
-  unfolding declaredBody typeBody
-  declared-formed lims d l =
-      let r : ℕ = aAt rows (detailRow rows declaration-section d) in
-      type-formed-in (suc r) r (declared-type rows accepted d l) (declarationAt rows lims d .body) (declared-body-is rows accepted lims d l)
+  -- those of a scope: 0 for the profile, 1 + k for procedure k
+  pub scope-formed : (a : ℕ) → a ≤ procedureCount rows → (d : ℕ) → d < pairCount rows (scopeTable a) → WellFormed (bodyOr (bodyIn rows (scopeTable a) d))
+  unfolding bodyIn typeBody
+  scope-formed a h d l =
+      let r : ℕ = aAt rows (detailRow rows (scopeTable a) d) in
+      type-formed-in (suc r) r (scope-type rows accepted a h d l) (bodyOr (bodyIn rows (scopeTable a) d)) (scope-body-is rows accepted a h d l)
 
-  pub bodies-formed : (lims : List ℕ) (n : ℕ) → WellFormed (bodiesOf (profileOf rows lims .declarations) n)
-  unfolding profileOf
-  bodies-formed lims n = by (every-tabulate (pairCount rows declaration-section) (λ d. declarationAt rows lims d) (λ d l. declared-formed lims d l)) n
+  pub declared-formed : (lims : List ℕ) (d : ℕ) → d < pairCount rows declaration-section → WellFormed (declarationAt rows lims d .body)
+  unfolding declarationAt declarationIn
+  declared-formed lims d l = scope-formed 0 (omega arith) d l
+
+  pub declarations-formed : (lims : List ℕ) (a : ℕ) → Every (λ w. WellFormed (w .body)) (scopeDeclarations (profileOf rows lims) a)
+  unfolding declarationIn
+  declarations-formed lims a = scope-every rows lims (λ w. WellFormed (w .body)) a (scope-formed a)
+
+  -- a number that no variable has stands for a Boolean
+  pub scope-bodies-formed : (lims : List ℕ) (a n : ℕ) → WellFormed (scopeBodies (profileOf rows lims) a n)
+  scope-bodies-formed lims a n = by (declarations-formed lims a) n
     where
       by : {ds : List Declaration} → Every (λ d. WellFormed (d .body)) ds → (k : ℕ) → WellFormed (bodiesOf ds k)
       by every-none k = formed-boolean
       by (every-more h hs) zero = h
       by (every-more h hs) (suc k) = by hs k
+
+  pub bodies-formed : (lims : List ℕ) (n : ℕ) → WellFormed (bodiesOf (profileOf rows lims .declarations) n)
+  bodies-formed lims n = scope-bodies-formed lims 0 n
 
 -- ---- what an expression names: its constants' bodies are well-formed, and attributes are numbered below 64
 unfoldable pub NamesFormed : Expression → Type 0

@@ -1,6 +1,7 @@
 -- The former check: it goes in order of evaluation and stops at the first fault that it meets. The type check (`Typing`) passes the same
 -- profiles with the same entries, so with the same layout table (`same-passes`, `same-layout` in `SamePasses`); where there are faults it
--- may name another one.
+-- may name another one. Calls of procedures came later than this check: they and the procedures' declarations are taken into it as they stand
+-- in the type check.
 -- Assumes nothing: these are definitions.
 use mathlib.Core.List.{List, [], _∷_, _++_, map}
 use Prim.Native.Nat.{ℕ, zero, suc, _+_}
@@ -9,9 +10,9 @@ use Rattle.lingua.specs.Errors.{boolean-expected, list-expected, no-coherence, 
 use Rattle.lingua.specs.Outcome.{Outcome, ok, fail, Result, require, orFail, allAnswers, _>>=_, _>>_}
 use Rattle.lingua.specs.Body.{Body, boolean, size, sameBody, isBoolean, elementBody}
 use Rattle.lingua.specs.Operation.{unaryBody, binaryBody}
-use Rattle.lingua.specs.Expression.{Expression, constant, variable, current, unary, binary, lazy, choice, all-list, Yoke, always, yoke, Instruction, skip, assign, set-yoke, sequence, branch, loop, handle}
-use Rattle.lingua.specs.Run.{Declaration, Profile}
-use Rattle.lingua.specs.Typing.{TypeError, typeError, Entry, Typed, unarySecond, binarySecond, Bodies, no-current-body, bodiesOf, joined}
+use Rattle.lingua.specs.Expression.{Expression, constant, variable, current, unary, binary, lazy, choice, all-list, Yoke, always, yoke, Instruction, skip, assign, set-yoke, sequence, branch, loop, handle, call}
+use Rattle.lingua.specs.Run.{Declaration, Scoped, Profile}
+use Rattle.lingua.specs.Typing.{TypeError, typeError, Entry, Typed, unarySecond, binarySecond, Bodies, no-current-body, givenFit, bodiesOf, joined, allDeclarations, scopeBodies}
 use Rattle.lingua.specs.Trees.{profileOf}
 use Rattle.lingua.specs.Format.{rowsOf}
 use Rattle.lingua.specs.Refusal.{typeCheckRefusal}
@@ -75,28 +76,34 @@ formerTest e vars p = do
   ok (x .entries)
 
 -- an instruction's own row; its parts are rows of their own
-unfoldable pub formerInstruction : Bodies → Instruction → Outcome TypeError (List Entry)
-formerInstruction vars (skip r) = ok []
-formerInstruction vars (assign r n e) = do
+unfoldable pub formerInstruction : (ℕ → Bodies) → Bodies → Instruction → Outcome TypeError (List Entry)
+formerInstruction procs vars (skip r) = ok []
+formerInstruction procs vars (assign r n e) = do
   x ← formerCheck e vars no-current-body
   require (sameBody (vars n) (x .body)) (typeError no-coherence (instruction-place + r))
   ok (x .entries)
-formerInstruction vars (set-yoke r n y) = formerYoke y vars (vars n) (instruction-place + r)
-formerInstruction vars (sequence r i j) = ok []
-formerInstruction vars (branch r e i j) = formerTest e vars (instruction-place + r)
-formerInstruction vars (loop r e i) = formerTest e vars (instruction-place + r)
-formerInstruction vars (handle r n i) = ok []
+formerInstruction procs vars (set-yoke r n y) = formerYoke y vars (vars n) (instruction-place + r)
+formerInstruction procs vars (sequence r i j) = ok []
+formerInstruction procs vars (branch r e i j) = formerTest e vars (instruction-place + r)
+formerInstruction procs vars (loop r e i) = formerTest e vars (instruction-place + r)
+formerInstruction procs vars (handle r n i) = ok []
+formerInstruction procs vars (call r k vs rs) = do
+  require (givenFit vars (vs ++ rs) (procs k) 0) (typeError no-coherence (instruction-place + r))
+  ok []
 
 -- the declared yokes from declaration d on
 unfoldable pub formerDeclarations : Bodies → ℕ → List Declaration → List (Outcome TypeError (List Entry))
 formerDeclarations vars d [] = []
 formerDeclarations vars d (v ∷ vs) = formerYoke (v .declared) vars (v .body) (declaration-place + d) ∷ formerDeclarations vars (suc d) vs
 
+unfoldable pub formerScoped : Profile → Scoped → Outcome TypeError (List Entry)
+formerScoped p i = formerInstruction (λ k. scopeBodies p (suc k)) (scopeBodies p (i .scope)) (i .instruction)
+
 -- declared yokes first, then instructions by row; the first type error is the answer
 unfoldable pub formerProfile : Profile → Outcome TypeError (List Entry)
 formerProfile p = do
-  ds ← allAnswers (formerDeclarations (bodiesOf (p .declarations)) 0 (p .declarations))
-  rs ← allAnswers (map (λ i. formerInstruction (bodiesOf (p .declarations)) i) (p .instructions))
+  ds ← allAnswers (formerDeclarations (bodiesOf (p .declarations)) 0 (allDeclarations p))
+  rs ← allAnswers (map (λ i. formerScoped p i) (p .instructions))
   ok (joined ds ++ joined rs)
 
 -- the call, with this check in place of the type check

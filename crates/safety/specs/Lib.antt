@@ -4,10 +4,12 @@ pub mod Constants
 pub mod Fitting
 pub mod Stored
 pub mod Everywhere
+pub mod NodeRows
 pub mod Runs
 pub mod Invariant
 pub mod Sections
 pub mod Forest
+pub mod ProfileScopes
 pub mod Accepted
 pub mod RunRules
 pub mod Faults
@@ -41,3 +43,4 @@ pub mod Recorded
 pub mod TwoRuns
 pub mod Limited
 pub mod Witness
+pub mod Scoped

@@ -1,25 +1,25 @@
--- A variable that has a limit is a number variable: rule 15 wants a number variable of the limit's name, and by rule 8 no other variable has
--- that name (`limited-number`, `accepted-limited`). Assumes nothing.
+-- A variable that has a limit is a number variable: rule 15 wants a number variable of the limit's name, and by rule 8 no other variable of
+-- the profile has that name (`limited-number`, `accepted-limited`). Procedures' variables have no limits (`scope-limited`). Assumes nothing.
 use mathlib.Core.Path.{_≡_, refl, sym, ap, _∙_, subst}
 use mathlib.Core.Bool.{Bool, true, false, not, _&&_}
 use mathlib.Core.List.{List, _∷_}
 use mathlib.Core.Option.{some}
-use Prim.Native.Nat.{ℕ, zero, suc, _+_, _<_}
+use Prim.Native.Nat.{ℕ, zero, suc, _+_, _≤_, _<_}
 use native.Mathlib.Omega.{arith}
 use lib.Dec.{ltb}
 use lib.IntN.{pos}
 use lib.Signed.{leZ}
 use borrow.Author.Tests.{ltb-true, ltb-false, not-true, not-false}
-use Rattle.lingua.specs.Numbers.{declaration-section, limit-section}
+use Rattle.lingua.specs.Numbers.{declaration-section, limit-section, scopeTable}
 use Rattle.lingua.specs.Body.{number}
 use Rattle.lingua.specs.Value.{inRange}
 use Rattle.lingua.specs.Compute.{sameText}
 use Rattle.lingua.specs.Store.{Limit}
-use Rattle.lingua.specs.Rows.{pairCount}
-use Rattle.lingua.specs.Trees.{limitIf, limitFrom, limitOf, limitRow, nameAt, declarationAt, profileOf}
-use Rattle.lingua.specs.Typing.{bodiesOf}
+use Rattle.lingua.specs.Rows.{pairCount, procedureCount}
+use Rattle.lingua.specs.Trees.{limitIf, limitFrom, limitOf, limitRow, nameAt, declarationIn, declarationAt, profileOf}
+use Rattle.lingua.specs.Typing.{bodiesOf, scopeBodies}
 use Rattle.lingua.specs.Format.{profile, rowsOf, everyBelow}
-use Rattle.lingua.specs.Rules.{isName, isNew, nameWrong}
+use Rattle.lingua.specs.Rules.{isName, isNew, namesFit, nameWrong}
 use Rattle.lingua.specs.Refusal.{Rule, rule, lowest, fileRules, rowRules, wholeFileRules, pairRules, isNumberVariable, namesNumber, limitFits, limitWrong}
 use Rattle.laws.specs.Outcomes.{and-left, and-right, none-is-some}
 use Rattle.laws.specs.Equal.{same-text, text-same}
@@ -27,6 +27,7 @@ use Rattle.safety.specs.Answers.{true-is-false}
 use Rattle.safety.specs.Every.{below-true}
 use Rattle.safety.specs.Programs.{ReadsNumber}
 use Rattle.safety.specs.Passed.{reads-number}
+use Rattle.safety.specs.ProfileScopes.{scopeLimit}
 use Rattle.safety.specs.Accepted.{none-applies}
 
 -- some number below n at which a test fails
@@ -64,28 +65,33 @@ limit-named i (suc n) limits name l e = by (sameText (nameAt limits limit-sectio
 
 -- ---- one variable for each name
 module _ (rows : List ℕ) (right : nameWrong profile rows ≡ false) where
-  new-at : (d : ℕ) → d < pairCount rows declaration-section → isNew rows declaration-section d ≡ true
-  unfolding nameWrong
-  new-at d l =
-      and-right (isName (nameAt rows declaration-section d)) (isNew rows declaration-section d)
-      (below-true (pairCount rows declaration-section) (λ k. isName (nameAt rows declaration-section k) && isNew rows declaration-section k) (not-false _ right) d l)
+  -- in each scope
+  module _ (a : ℕ) (scope : a ≤ procedureCount rows) where
+    new-at : (d : ℕ) → d < pairCount rows (scopeTable a) → isNew rows (scopeTable a) d ≡ true
+    unfolding nameWrong namesFit
+    new-at d l =
+        and-right (isName (nameAt rows (scopeTable a) d)) (isNew rows (scopeTable a) d)
+        (below-true (pairCount rows (scopeTable a)) (λ k. isName (nameAt rows (scopeTable a) k) && isNew rows (scopeTable a) k)
+        (below-true (suc (procedureCount rows)) (λ s. namesFit rows (scopeTable s)) (not-false _ right) a (omega arith)) d l)
 
-  no-lower : (c d : ℕ) → d < pairCount rows declaration-section → nameAt rows declaration-section c ≡ nameAt rows declaration-section d → c < d → ⊥
-  unfolding isNew
-  no-lower c d l e k =
-      let other : sameText (nameAt rows declaration-section c) (nameAt rows declaration-section d) ≡ false =
-      not-true _ (below-true d (λ j. not (sameText (nameAt rows declaration-section j) (nameAt rows declaration-section d))) (new-at d l) c k) in
-      let same : sameText (nameAt rows declaration-section c) (nameAt rows declaration-section d) ≡ true =
-      ap (λ (t : List ℕ). sameText t (nameAt rows declaration-section d)) e ∙ text-same (nameAt rows declaration-section d) in
-      true-is-false (sym same ∙ other)
+    no-lower : (c d : ℕ) → d < pairCount rows (scopeTable a) → nameAt rows (scopeTable a) c ≡ nameAt rows (scopeTable a) d → c < d → ⊥
+    unfolding isNew
+    no-lower c d l e k =
+        let differs : not (sameText (nameAt rows (scopeTable a) c) (nameAt rows (scopeTable a) d)) ≡ true = below-true d (λ j. not (sameText (nameAt rows (scopeTable a) j) (nameAt rows (scopeTable a) d))) (new-at d l) c k in
+        let same : sameText (nameAt rows (scopeTable a) c) (nameAt rows (scopeTable a) d) ≡ true = ap (λ (name : List ℕ). sameText name (nameAt rows (scopeTable a) d)) e ∙ text-same (nameAt rows (scopeTable a) d) in
+        true-is-false (sym same ∙ not-true _ differs)
 
+    pub one-in-scope : (c d : ℕ) → c < pairCount rows (scopeTable a) → d < pairCount rows (scopeTable a) → nameAt rows (scopeTable a) c ≡ nameAt rows (scopeTable a) d → c ≡ d
+    one-in-scope c d k l e = by (ltb c d) (ltb d c) refl refl
+      where
+        by : (t u : Bool) → ltb c d ≡ t → ltb d c ≡ u → c ≡ d
+        by true u p q = absurd (no-lower c d l e (ltb-true c d p))
+        by false true p q = absurd (no-lower d c k (sym e) (ltb-true d c q))
+        by false false p q = omega (arith, ltb-false c d p, ltb-false d c q)
+
+  -- the profile's own
   pub one-variable : (c d : ℕ) → c < pairCount rows declaration-section → d < pairCount rows declaration-section → nameAt rows declaration-section c ≡ nameAt rows declaration-section d → c ≡ d
-  one-variable c d k l e = by (ltb c d) (ltb d c) refl refl
-    where
-      by : (a b : Bool) → ltb c d ≡ a → ltb d c ≡ b → c ≡ d
-      by true b p q = absurd (no-lower c d l e (ltb-true c d p))
-      by false true p q = absurd (no-lower d c k (sym e) (ltb-true d c q))
-      by false false p q = omega (arith, ltb-false c d p, ltb-false d c q)
+  one-variable c d k l e = one-in-scope 0 (omega arith) c d k l e
 
   pub number-named : (n : ℕ) → n < pairCount rows declaration-section → (name : List ℕ) → sameText name (nameAt rows declaration-section n) ≡ true → namesNumber rows name ≡ true → isNumberVariable rows n ≡ true
   unfolding namesNumber
@@ -114,11 +120,12 @@ module _ (rows : List ℕ) (right : nameWrong profile rows ≡ false) where
 -- a pair of files that no rule refuses
 pub accepted-limited : (prof lims : List ℕ) → lowest (pairRules prof lims) ≡ 0 → (n : ℕ) → n < pairCount (rowsOf prof) declaration-section → (l : Limit)
     → declarationAt (rowsOf prof) (rowsOf lims) n .limit ≡ some l → bodiesOf (profileOf (rowsOf prof) (rowsOf lims) .declarations) n ≡ number
-unfolding pairRules wholeFileRules fileRules rowRules declarationAt
+unfolding pairRules wholeFileRules fileRules rowRules declarationAt declarationIn
 accepted-limited prof lims e n inside l q =
     let profile-file = past _ _ _ refl (past _ _ _ refl (past _ _ _ refl (past _ _ _ refl e))) in
     let names = none-applies _ _ _ refl (past _ _ _ refl (past _ _ _ refl profile-file)) in
-    let profile-rows = past _ _ _ refl (past _ _ _ refl (past _ _ _ refl (past _ _ _ refl (past _ _ _ refl (names .1))))) in
+    let to-types = past _ _ _ refl (past _ _ _ refl (past _ _ _ refl (past _ _ _ refl (past _ _ _ refl (names .1))))) in
+    let profile-rows = past _ _ _ refl (past _ _ _ refl to-types) in
     let limits-file = past _ _ _ refl (past _ _ _ refl (past _ _ _ refl (past _ _ _ refl profile-rows))) in
     let limits-rows = past _ _ _ refl (past _ _ _ refl (past _ _ _ refl (past _ _ _ refl limits-file))) in
     let limit = none-applies _ _ _ refl (past _ _ _ refl limits-rows) in
@@ -127,3 +134,9 @@ accepted-limited prof lims e n inside l q =
     -- the rules behind one that does not apply
     past : (k : ℕ) (b : Bool) (rs : List Rule) → ltb 0 k ≡ true → lowest (rule k b ∷ rs) ≡ 0 → lowest rs ≡ 0
     past k b rs z h = none-applies k b rs z h .1
+
+-- of each scope
+pub scope-limited : (prof lims : List ℕ) → lowest (pairRules prof lims) ≡ 0 → (a n : ℕ) → n < pairCount (rowsOf prof) (scopeTable a) → (l : Limit)
+    → scopeLimit (rowsOf prof) (rowsOf lims) a n ≡ some l → scopeBodies (profileOf (rowsOf prof) (rowsOf lims)) a n ≡ number
+scope-limited prof lims e zero n inside l q = accepted-limited prof lims e n inside l (unfold declarationAt declarationIn in q)
+scope-limited prof lims e (suc k) n inside l q = none-is-some q

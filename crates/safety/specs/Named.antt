@@ -1,24 +1,25 @@
 -- Every yoke that a run of a profile has is the tree of the row that its number names, so that a variable's state word tells which yoke is
--- its current one: `run-named`. Assumes nothing.
+-- its current one: `run-named`, and `open-named` for the calls that are open. Assumes nothing.
 use mathlib.Core.Path.{_≡_, refl, sym, ap, subst}
 use mathlib.Core.List.{List, map}
 use Prim.Native.Nat.{ℕ, zero, suc, pred}
 use native.Mathlib.Omega.{arith}
-use Rattle.lingua.specs.Numbers.{declaration-section, instruction-section}
-use Rattle.lingua.specs.Errors.{overflow}
+use Rattle.lingua.specs.Numbers.{most-calls, declaration-section, instruction-section, variable-table}
+use Rattle.lingua.specs.Errors.{overflow, not-filled}
 use Rattle.lingua.specs.Outcome.{ok}
 use Rattle.lingua.specs.Body.{number}
 use Rattle.lingua.specs.Value.{whole, inRange, Composite, composite}
-use Rattle.lingua.specs.Expression.{Expression, rowOf, Yoke, yokeNumber, Instruction, skip, assign, set-yoke, sequence, branch, loop, handle}
+use Rattle.lingua.specs.Expression.{Expression, rowOf, Yoke, yokeNumber, Instruction, skip, assign, set-yoke, sequence, branch, loop, handle, call}
 use Rattle.lingua.specs.Evaluation.{eval, no-current}
-use Rattle.lingua.specs.Store.{Variable, variableAt, contents, admitted, assigned, yokeHolds, yokeChanged, withContent, withYoke, Reading, readingTaken}
-use Rattle.lingua.specs.Run.{State, Declaration, unfilled, started, takeReadings, run, lastState}
-use Rattle.lingua.specs.Rows.{tableCount, pairCount, ExpressionRow, constant-row, variable-row, current-row, unary-row, binary-row, lazy-row, choice-row, all-list-row, unknown-expression, expressionRow, InstructionRow, skip-row, assign-row, set-yoke-row, sequence-row, branch-row, loop-row, handle-row, unknown-instruction, instructionRow}
-use Rattle.lingua.specs.Trees.{expressionOf, expressionIn, expressionTree, yokeTree, instructionOf, instructionIn, instructionTree, declarationAt, profileOf}
-use Rattle.safety.specs.Answers.{same-answer, bound, demanded, after}
-use Rattle.safety.specs.Every.{Every, every-none, every-more, every-all, every-tabulate}
-use Rattle.safety.specs.Everywhere.{Everywhere, everywhere-implies}
-use Rattle.safety.specs.Runs.{Stable, Keeps, KeepsReading, exec-keeps, readings-keep}
+use Rattle.lingua.specs.Store.{Variable, variableAt, contents, admitted, assigned, copied, yokeHolds, yokeChanged, withContent, withYoke, Reading, readingTaken}
+use Rattle.lingua.specs.Run.{State, Declaration, Procedure, procedureAt, unfilled, begun, exec, called, scopeDeclarations, scopeProgram, started, takeReadings, run, lastState, openCalls}
+use Rattle.lingua.specs.Rows.{tableCount, pairCount, procedureCount, ExpressionRow, constant-row, variable-row, current-row, unary-row, binary-row, lazy-row, choice-row, all-list-row, unknown-expression, expressionRow, InstructionRow, skip-row, assign-row, set-yoke-row, sequence-row, branch-row, loop-row, handle-row, call-row, unknown-instruction, instructionRow}
+use Rattle.lingua.specs.Trees.{expressionOf, expressionIn, expressionTree, yokeTree, instructionOf, instructionIn, instructionTree, bodyTree, declarationIn, declarationAt, procedureOf, profileOf}
+use Rattle.safety.specs.Answers.{same-answer, bound, some-answer, demanded, after}
+use Rattle.safety.specs.Every.{Every, every-none, every-more, every-all, every-implies, every-tabulate}
+use Rattle.safety.specs.Everywhere.{Everywhere, at-skip, everywhere-implies}
+use Rattle.safety.specs.ProfileScopes.{scope-every, scope-runs}
+use Rattle.safety.specs.Runs.{Stable, Family, Passes, KeepsCall, Keeps, KeepsReading, Frame, Done, pairwise-all, exec-keeps, called-keeps, readings-keep}
 use Rattle.safety.specs.Stored.{replaced}
 use Rattle.safety.specs.Forest.{tree-everywhere}
 
@@ -49,7 +50,7 @@ tree-named rows k = record { is = ap (yokeTree rows) (sym (number-of rows k)) }
 
 module _ (rows : List ℕ) where
   -- ---- stores
-  abbrev AllNamed : List Variable → Type 0
+  abbrev pub AllNamed : List Variable → Type 0
   AllNamed vs = (n : ℕ) → Named rows (variableAt vs n .yoke)
 
   assigned-named : (vs : List Variable) → AllNamed vs → (n : ℕ) (x : Composite) (ws : List Variable) → assigned vs n x ≡ ok ws → AllNamed ws
@@ -72,6 +73,13 @@ module _ (rows : List ℕ) where
   unfolding StateNamed
   named-stable = record { marked = λ s n p h. h; stepped = λ s n e h. h }
 
+  -- a copy is an assignment
+  named-copy : (a n b m : ℕ) → Passes (λ c. StateNamed) a n b m
+  unfolding Passes StateNamed copied
+  named-copy a n b m s t h k ws q =
+      let x = some-answer (contents (s .store) n) not-filled (λ y. assigned (t .store) m y) ws q in
+      assigned-named (t .store) k m (x .0) ws (x .2)
+
   -- an instruction's own row sets a named yoke
   unfoldable SetsNamed : Instruction → Type 0
   SetsNamed (skip r) = Unit {0}
@@ -81,18 +89,21 @@ module _ (rows : List ℕ) where
   SetsNamed (branch r e i j) = Unit {0}
   SetsNamed (loop r e i) = Unit {0}
   SetsNamed (handle r n i) = Unit {0}
+  SetsNamed (call r k vs rs) = Unit {0}
 
-  named-keeps : (i : Instruction) → SetsNamed i → Keeps StateNamed i
+  named-keeps : (a : ℕ) (i : Instruction) → SetsNamed i → Keeps (λ c. StateNamed) a i
   unfolding SetsNamed Keeps StateNamed
-  named-keeps (skip r) h = tt
-  named-keeps (assign r n e) h = λ s k ws q.
+  named-keeps a (skip r) h = tt
+  named-keeps a (assign r n e) h = λ s k ws q.
       let p = bound (eval e (contents (s .store)) no-current) _ ws q in
       assigned-named (s .store) k n (p .0) ws (p .2)
-  named-keeps (set-yoke r n y) h = λ s k ws q. changed-named (s .store) k n y h ws q
-  named-keeps (sequence r i j) h = tt
-  named-keeps (branch r e i j) h = tt
-  named-keeps (loop r e i) h = tt
-  named-keeps (handle r n i) h = tt
+  named-keeps a (set-yoke r n y) h = λ s k ws q. changed-named (s .store) k n y h ws q
+  named-keeps a (sequence r i j) h = tt
+  named-keeps a (branch r e i j) h = tt
+  named-keeps a (loop r e i) h = tt
+  named-keeps a (handle r n i) h = tt
+  named-keeps a (call r k vs rs) h =
+      record { in-all = pairwise-all (λ n m. named-copy a n (suc k) m) _ 0; out-all = pairwise-all (λ n m. named-copy (suc k) m a n) rs _ }
 
   named-reading : (r : Reading) → KeepsReading StateNamed r
   unfolding KeepsReading StateNamed readingTaken
@@ -110,6 +121,7 @@ module _ (rows : List ℕ) where
   node-named r (branch-row e i j) look = tt
   node-named r (loop-row e i) look = tt
   node-named r (handle-row n i) look = tt
+  node-named r (call-row k b c) look = tt
   node-named r unknown-instruction look = tt
 
   row-named : (r : ℕ) → SetsNamed (instructionTree rows r)
@@ -119,22 +131,41 @@ module _ (rows : List ℕ) where
   program-named : (r : ℕ) → Everywhere SetsNamed (instructionTree rows r)
   program-named r = tree-everywhere SetsNamed (λ k. unfold SetsNamed in tt) rows (suc r) (λ k l. row-named k) r (omega arith)
 
-  declared-named : (lims : List ℕ) → Every (λ d. Named rows (d .declared)) (profileOf rows lims .declarations)
-  unfolding profileOf declarationAt
-  declared-named lims = every-tabulate (pairCount rows declaration-section) (λ d. declarationAt rows lims d) (λ d l. tree-named rows _)
-
   start-named : {ds : List Declaration} → Every (λ d. Named rows (d .declared)) ds → AllNamed (map unfilled ds)
   unfolding yokeTree yokeNumber
   start-named every-none n = record { is = refl }
   start-named (every-more h hs) zero = h
   start-named (every-more h hs) (suc n) = start-named hs n
 
+  -- of every scope
+  scope-named : (lims : List ℕ) (a : ℕ) → Every (λ d. Named rows (d .declared)) (scopeDeclarations (profileOf rows lims) a)
+  unfolding declarationIn
+  scope-named lims a = scope-every rows lims (λ d. Named rows (d .declared)) a (λ h d l. tree-named rows _)
+
+  scope-sets : (lims : List ℕ) (a : ℕ) → Everywhere SetsNamed (scopeProgram (profileOf rows lims) a)
+  scope-sets lims a =
+      let nothing : SetsNamed (skip 0) = unfold SetsNamed in tt in
+      scope-runs rows lims (Everywhere SetsNamed) a (λ h. program-named _) (at-skip nothing)
+
   -- ---- whole runs
-  pub run-named : (lims : List ℕ) (readings : List Reading) (budget n : ℕ) → Named rows (variableAt (lastState (run (profileOf rows lims) readings budget) .store) n .yoke)
-  unfolding run StateNamed started
-  run-named lims readings budget n =
+  named-family : (lims : List ℕ) → Family (profileOf rows lims .procedures) (λ a. StateNamed)
+  unfolding StateNamed begun
+  named-family lims = record { stable = λ a. named-stable; begins = λ a k s h. start-named (scope-named lims (suc k)); back = λ a k s t h g. h }
+
+  run-keeps-named : (lims : List ℕ) (readings : List Reading) (budget : ℕ) → Done (λ a. StateNamed) 0 (run (profileOf rows lims) readings budget)
+  unfolding run
+  run-keeps-named lims readings budget =
       let p = profileOf rows lims in
-      exec-keeps StateNamed named-stable (p .program)
-      (everywhere-implies named-keeps (unfold profileOf in program-named (pred (tableCount rows instruction-section))))
+      exec-keeps (λ a. StateNamed) (p .procedures) (named-family lims) 0 (called assigned exec (p .procedures) most-calls)
+      (called-keeps (λ a. StateNamed) (p .procedures) (named-family lims) (λ k. everywhere-implies (named-keeps (suc k)) (scope-sets lims (suc k))) most-calls 0)
+      (p .program) (everywhere-implies (named-keeps 0) (scope-sets lims 0))
       (takeReadings 0 readings (started p budget))
-      (readings-keep StateNamed named-stable 0 readings (every-all named-reading readings) (started p budget) (start-named (declared-named lims))) n
+      (readings-keep StateNamed named-stable 0 readings (every-all named-reading readings) (started p budget) (unfold StateNamed started begun in start-named (scope-named lims 0)))
+
+  pub run-named : (lims : List ℕ) (readings : List Reading) (budget n : ℕ) → Named rows (variableAt (lastState (run (profileOf rows lims) readings budget) .store) n .yoke)
+  unfolding StateNamed
+  run-named lims readings budget n = run-keeps-named lims readings budget .last n
+
+  -- and of the calls that are open
+  pub open-named : (lims : List ℕ) (readings : List Reading) (budget : ℕ) → Every AllNamed (openCalls (run (profileOf rows lims) readings budget))
+  open-named lims readings budget = every-implies (λ vs (f : Frame (λ a. StateNamed) vs). subst AllNamed (f .is) (unfold StateNamed in f .has)) (run-keeps-named lims readings budget .opens)

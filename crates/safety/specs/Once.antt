@@ -6,20 +6,23 @@ use mathlib.Core.Path.{_≡_, refl, sym, ap, ap₂, _∙_, subst}
 use mathlib.Core.Logic.{_≢_, _⊎_, inl, inr}
 use mathlib.Core.Bool.{Bool, true, false}
 use mathlib.Core.List.{List, [], _∷_, _++_, map, append-nil, append-assoc}
+use mathlib.Core.Option.{Option, none}
 use Prim.Native.Nat.{ℕ, zero, suc, _+_, _≤_, _<_}
 use native.Mathlib.Omega.{arith}
 use lib.Dec.{eqb, ltb, leb}
 use borrow.Author.Tests.{eqb-true, eqb-false, ltb-true, ltb-false, leb-true, leb-false, le-leb, lt-leb, ne-eqb}
-use Rattle.lingua.specs.Numbers.{declaration-section, expression-section, instruction-section, most-expressions}
+use Rattle.lingua.specs.Numbers.{declaration-section, expression-section, instruction-section, most-expressions, scopeTable}
 use Rattle.lingua.specs.Outcome.{ok, if_then_else_}
 use Rattle.lingua.specs.Expression.{Expression, Instruction}
-use Rattle.lingua.specs.Typing.{Entry, bodiesOf, joined, checkProfile, layoutOf}
-use Rattle.lingua.specs.Rows.{tableCount, pairCount, ExpressionRow, constant-row, variable-row, current-row, unary-row, binary-row, lazy-row, choice-row, all-list-row, unknown-expression, expressionRow, operands, InstructionRow, skip-row, assign-row, set-yoke-row, sequence-row, branch-row, loop-row, handle-row, unknown-instruction, instructionRow, evaluated, yokeRoot, yokeSet}
-use Rattle.lingua.specs.Trees.{tabulateFrom, tabulate, lower, no-expression, expressionOf, expressionIn, expressionTree, yokeTree, instructionOf, instructionIn, instructionTree, declarationAt, profileOf}
-use Rattle.lingua.specs.References.{occurrences, declaredYoke, yokeRoots, plainRoots, expressionUses}
+use Rattle.lingua.specs.Store.{Limit}
+use Rattle.lingua.specs.Run.{Declaration, Procedure, Scoped, scoped}
+use Rattle.lingua.specs.Typing.{Entry, joined, allDeclarations, scopeBodies, checkProfile, layoutOf}
+use Rattle.lingua.specs.Rows.{tableCount, pairCount, procedureCount, ExpressionRow, constant-row, variable-row, current-row, unary-row, binary-row, lazy-row, choice-row, all-list-row, unknown-expression, expressionRow, operands, InstructionRow, skip-row, assign-row, set-yoke-row, sequence-row, branch-row, loop-row, handle-row, call-row, unknown-instruction, instructionRow, evaluated, yokeRoot, yokeSet}
+use Rattle.lingua.specs.Trees.{tabulateFrom, tabulate, lower, no-expression, expressionOf, expressionIn, expressionTree, yokeTree, instructionOf, instructionIn, instructionTree, instructionScope, declarationIn, nameAt, limitOf, declarationAt, procedureOf, profileOf}
+use Rattle.lingua.specs.References.{occurrences, yokeIn, declaredRoots, yokeRoots, plainRoots, expressionUses}
 use Rattle.safety.specs.Every.{Every, every-none, every-more, every-append, every-implies, every-map, every-unmap, every-joined, every-tabulate}
 use Rattle.safety.specs.Forest.{lower-at}
-use Rattle.safety.specs.Accepted.{AcceptedRows, operands-below, used-once, declared-root, instruction-roots, most-rows}
+use Rattle.safety.specs.Accepted.{AcceptedRows, operands-below, used-once, scope-root, instruction-roots, most-rows}
 use Rattle.safety.specs.Layout.{HoldsIn, Once, entryRow, layout-holds}
 use Rattle.safety.specs.EntryRows.{treeRows, yokeRows, ownRows, checkedRows, entries-rows}
 use Rattle.safety.specs.Programs.{TypedProfile}
@@ -206,15 +209,15 @@ module _ (rows : List ℕ) (accepted : AcceptedRows rows) where
 abbrev rowsUnder : List ℕ → ℕ → List ℕ
 rowsUnder rows r = treeRows (expressionTree rows r)
 
--- the roots, in the order in which the type check takes them
-declaredRoots : List ℕ → List ℕ
-declaredRoots rows = joined (tabulate (pairCount rows declaration-section) (λ d. yokeRoot (declaredYoke rows d)))
+-- the roots, in the order in which the type check takes them: under the profile's declared yokes, on through the procedures'
+allDeclaredRoots : List ℕ → List ℕ
+allDeclaredRoots rows = joined (tabulate (suc (procedureCount rows)) (λ s. declaredRoots rows s))
 
 instructionRoots : List ℕ → List ℕ
 instructionRoots rows = joined (tabulate (tableCount rows instruction-section) (λ r. evaluated (instructionRow rows r) ++ yokeSet (instructionRow rows r)))
 
 pub roots : List ℕ → List ℕ
-roots rows = declaredRoots rows ++ instructionRoots rows
+roots rows = allDeclaredRoots rows ++ instructionRoots rows
 
 pub forest : List ℕ → List ℕ
 forest rows = joined (map (rowsUnder rows) (roots rows))
@@ -240,20 +243,48 @@ own-forest rows r (sequence-row i j) look = refl
 own-forest rows r (branch-row e i j) look = sym (append-nil (rowsUnder rows e))
 own-forest rows r (loop-row e i) look = sym (append-nil (rowsUnder rows e))
 own-forest rows r (handle-row n i) look = refl
+own-forest rows r (call-row k b c) look = refl
 own-forest rows r unknown-instruction look = refl
 
 instruction-forest : (rows : List ℕ) (r : ℕ) → ownRows (instructionTree rows r) ≡ joined (map (rowsUnder rows) (evaluated (instructionRow rows r) ++ yokeSet (instructionRow rows r)))
 unfolding instructionTree instructionIn
 instruction-forest rows r = own-forest rows r (instructionRow rows r) _
 
+-- the declared yokes of one scope, and of procedures i and following
+declaredRows : Declaration → List ℕ
+declaredRows v = yokeRows (v .declared)
+
+scope-forest : (rows : List ℕ) (s : ℕ) (l : ℕ → Option Limit)
+    → joined (map declaredRows (tabulate (pairCount rows (scopeTable s)) (λ d. declarationIn rows (scopeTable s) (l d) d))) ≡ joined (map (rowsUnder rows) (declaredRoots rows s))
+unfolding declaredRows tabulate declaredRoots yokeIn declarationIn
+scope-forest rows s l =
+    tabulated-rows rows (λ d. declarationIn rows (scopeTable s) (l d) d) declaredRows (λ d. yokeRoot (yokeIn rows (scopeTable s) d)) (λ d. yoke-forest rows (yokeIn rows (scopeTable s) d)) 0 (pairCount rows (scopeTable s))
+
+procedures-forest : (rows : List ℕ) (i n : ℕ)
+    → joined (map declaredRows (joined (map (λ q. q .variables) (tabulateFrom i n (λ k. procedureOf rows k))))) ≡ joined (map (rowsUnder rows) (joined (tabulateFrom (suc i) n (λ s. declaredRoots rows s))))
+unfolding joined tabulateFrom procedureOf
+procedures-forest rows i zero = refl
+procedures-forest rows i (suc n) =
+    joined-append declaredRows (procedureOf rows i .variables) (joined (map (λ (q : Procedure). q .variables) (tabulateFrom (suc i) n (λ k. procedureOf rows k))))
+    ∙ ap₂ (λ (a b : List ℕ). a ++ b) (scope-forest rows (suc i) (λ d. none)) (procedures-forest rows (suc i) n)
+    ∙ sym (joined-append (rowsUnder rows) (declaredRoots rows (suc i)) (joined (tabulateFrom (suc (suc i)) n (λ s. declaredRoots rows s))))
+
+declared-forest : (rows lims : List ℕ) → joined (map declaredRows (allDeclarations (profileOf rows lims))) ≡ joined (map (rowsUnder rows) (allDeclaredRoots rows))
+unfolding allDeclarations profileOf allDeclaredRoots tabulate tabulateFrom joined declarationAt
+declared-forest rows lims =
+    let variables : List Declaration = joined (map (λ (q : Procedure). q .variables) (tabulateFrom 0 (procedureCount rows) (λ k. procedureOf rows k))) in
+    joined-append declaredRows (tabulateFrom 0 (pairCount rows declaration-section) (λ d. declarationAt rows lims d)) variables
+    ∙ ap₂ (λ (a b : List ℕ). a ++ b) (scope-forest rows 0 (λ d. limitOf lims (nameAt rows declaration-section d))) (procedures-forest rows 0 (procedureCount rows))
+    ∙ sym (joined-append (rowsUnder rows) (declaredRoots rows 0) (joined (tabulateFrom 1 (procedureCount rows) (λ s. declaredRoots rows s))))
+
 -- the rows that the type check goes through are those of the roots' trees
 pub profile-forest : (rows lims : List ℕ) → checkedRows (profileOf rows lims) ≡ forest rows
-unfolding checkedRows profileOf forest roots declaredRoots instructionRoots tabulate declarationAt declaredYoke
+unfolding checkedRows profileOf forest roots instructionRoots tabulate declaredRows
 profile-forest rows lims =
     ap₂ (λ (l m : List ℕ). l ++ m)
-    (tabulated-rows rows (λ d. declarationAt rows lims d) (λ v. yokeRows (v .declared)) (λ d. yokeRoot (declaredYoke rows d)) (λ d. yoke-forest rows (declaredYoke rows d)) 0 (pairCount rows declaration-section))
-    (tabulated-rows rows (λ r. instructionTree rows r) ownRows (λ r. evaluated (instructionRow rows r) ++ yokeSet (instructionRow rows r)) (instruction-forest rows) 0 (tableCount rows instruction-section))
-    ∙ sym (joined-append (rowsUnder rows) (declaredRoots rows) (instructionRoots rows))
+    (declared-forest rows lims)
+    (tabulated-rows rows (λ r. scoped (instructionScope rows r) (instructionTree rows r)) (λ (i : Scoped). ownRows (i .instruction)) (λ r. evaluated (instructionRow rows r) ++ yokeSet (instructionRow rows r)) (instruction-forest rows) 0 (tableCount rows instruction-section))
+    ∙ sym (joined-append (rowsUnder rows) (allDeclaredRoots rows) (instructionRoots rows))
 
 entries-forest : (rows lims : List ℕ) (es : List Entry) → checkProfile (profileOf rows lims) ≡ ok es → map entryRow es ≡ forest rows
 entries-forest rows lims es e = entries-rows (profileOf rows lims) es e ∙ profile-forest rows lims
@@ -269,12 +300,12 @@ count-both x f g i (suc n) =
 -- the roots are the roots that rule 11 counts
 pub count-roots : (rows : List ℕ) (x : ℕ)
     → occurrences x (expressionUses rows) ≡ occurrences x (roots rows) + occurrences x (joined (tabulate (tableCount rows expression-section) (usedBy rows)))
-unfolding expressionUses yokeRoots plainRoots roots declaredRoots instructionRoots tabulate
+unfolding expressionUses yokeRoots plainRoots roots allDeclaredRoots instructionRoots tabulate
 count-roots rows x =
     let set-roots : List ℕ = joined (tabulate (tableCount rows instruction-section) (λ r. yokeSet (instructionRow rows r))) in
     let plain : List ℕ = joined (tabulate (tableCount rows instruction-section) (λ r. evaluated (instructionRow rows r))) in
     let used : List ℕ = joined (tabulate (tableCount rows expression-section) (usedBy rows)) in
-    omega (arith, count-append x (yokeRoots rows) (plainRoots rows ++ used), count-append x (plainRoots rows) used, count-append x (declaredRoots rows) set-roots, count-append x (declaredRoots rows) (instructionRoots rows), count-both x (λ r. evaluated (instructionRow rows r)) (λ r. yokeSet (instructionRow rows r)) 0 (tableCount rows instruction-section))
+    omega (arith, count-append x (yokeRoots rows) (plainRoots rows ++ used), count-append x (plainRoots rows) used, count-append x (allDeclaredRoots rows) set-roots, count-append x (allDeclaredRoots rows) (instructionRoots rows), count-both x (λ r. evaluated (instructionRow rows r)) (λ r. yokeSet (instructionRow rows r)) 0 (tableCount rows instruction-section))
 
 not-counted : (x : ℕ) {ks : List ℕ} → Every (λ k. k < x) ks → occurrences x ks ≡ 0
 unfolding occurrences
@@ -284,11 +315,15 @@ not-counted x (every-more {x = k} {xs = ks} l ls) =
     omega (arith, e, not-counted x ls)
 
 module _ (rows : List ℕ) (accepted : AcceptedRows rows) where
+  scope-below : (s : ℕ) → s ≤ procedureCount rows → Every (λ k. k < tableCount rows expression-section) (declaredRoots rows s)
+  unfolding declaredRoots
+  scope-below s l = every-joined (every-tabulate (pairCount rows (scopeTable s)) (λ d. yokeRoot (yokeIn rows (scopeTable s) d)) (λ d q. scope-root rows accepted s l d q))
+
   roots-below : Every (λ k. k < tableCount rows expression-section) (roots rows)
-  unfolding roots declaredRoots instructionRoots
+  unfolding roots allDeclaredRoots instructionRoots
   roots-below =
       every-append
-      (every-joined (every-tabulate (pairCount rows declaration-section) (λ d. yokeRoot (declaredYoke rows d)) (λ d l. declared-root rows accepted d l)))
+      (every-joined (every-tabulate (suc (procedureCount rows)) (λ s. declaredRoots rows s) (λ s l. scope-below s (omega arith))))
       (every-joined (every-tabulate (tableCount rows instruction-section) (λ r. evaluated (instructionRow rows r) ++ yokeSet (instructionRow rows r)) (λ r l. instruction-roots rows accepted r l)))
 
   forest-below : Every (λ k. k < tableCount rows expression-section) (forest rows)
@@ -345,5 +380,6 @@ module _ (rows : List ℕ) (accepted : AcceptedRows rows) where
   profile-laid-out lims es e = profile-derives rows accepted lims es e (profile-layout lims es e)
 
   pub rows-laid-out : (lims : List ℕ) (es : List Entry) → checkProfile (profileOf rows lims) ≡ ok es
-      → (r : ℕ) → r < tableCount rows instruction-section → DerivedRow (HoldsIn (layoutOf es)) (bodiesOf (profileOf rows lims .declarations)) (instructionTree rows r)
+      → (r : ℕ) → r < tableCount rows instruction-section
+      → DerivedRow (HoldsIn (layoutOf es)) (λ k. scopeBodies (profileOf rows lims) (suc k)) (scopeBodies (profileOf rows lims) (instructionScope rows r)) (instructionTree rows r)
   rows-laid-out lims es e = rows-derive rows lims es e (profile-layout lims es e)

@@ -1,10 +1,12 @@
 -- The type check of an accepted pair of files is sound: where it passes, no run of the pair meets a type error, for readings of number
 -- variables and at every budget (`accepted-safe`). So each call that is not refused runs without type errors: `run-call-safe`,
--- `erased-call-safe`. Assumes nothing.
+-- `erased-call-safe`. Carried by scopes: each instruction row passes by the bodies of the variables that it names (`rows-derive`), so the
+-- program passes by the profile's and each procedure's body by its own (`profile-derives`). Assumes nothing.
 use mathlib.Core.Path.{_≡_, refl, sym, ap, _∙_, subst}
+use mathlib.Core.Logic.{⊎-elim}
 use mathlib.Core.Bool.{Bool, true, false, not, _&&_}
-use mathlib.Core.List.{List, [], _∷_, map}
-use Prim.Native.Nat.{ℕ, zero, suc, _+_, _<_, pred}
+use mathlib.Core.List.{List, [], _∷_, map, List·Memᴰ}
+use Prim.Native.Nat.{ℕ, zero, suc, _+_, _≤_, _<_, pred}
 use native.Mathlib.Omega.{arith}
 use lib.Dec.{eqb, ltb}
 use lib.ListN.{length, getD}
@@ -16,79 +18,145 @@ use Rattle.lingua.specs.Body.{Body, boolean, number}
 use Rattle.lingua.specs.Value.{allOf}
 use Rattle.lingua.specs.Expression.{Instruction, skip}
 use Rattle.lingua.specs.Store.{variableAt, Reading}
-use Rattle.lingua.specs.Run.{Declaration, Profile, unfilled}
-use Rattle.lingua.specs.Typing.{TypeError, Entry, Bodies, checkInstruction, checkDeclarations, bodiesOf, joined, checkProfile}
+use Rattle.lingua.specs.Run.{Declaration, Procedure, no-procedure, unfilled, Scoped, scoped, Profile, scopeDeclarations, scopeProgram}
+use Rattle.lingua.specs.Typing.{TypeError, Entry, Bodies, checkInstruction, checkDeclarations, bodiesOf, joined, allDeclarations, scopeBodies, checkScoped, checkProfile}
 use Rattle.lingua.specs.Meets.{runMet}
-use Rattle.lingua.specs.Rows.{tableCount, pairCount}
-use Rattle.lingua.specs.Trees.{tabulateFrom, tabulate, instructionTree, declaredBody, bodyOr, declarationAt, profileOf}
+use Rattle.lingua.specs.Rows.{tableCount, pairCount, procedureCount, bodyRow}
+use Rattle.lingua.specs.Trees.{tabulateFrom, tabulate, instructionTree, instructionRows, instructionScope, declaredBody, bodyOr, declarationIn, declarationAt, profileOf}
 use Rattle.lingua.specs.Format.{rowsOf}
 use Rattle.lingua.specs.Inputs.{Inputs, Buffers}
 use Rattle.lingua.specs.Refusal.{lowest, pairRules, isNumberBody, isNumberVariable, readingWrong, runFits, runRules, runRefusal, erasedRefusal}
 use Rattle.lingua.specs.Calls.{readingsOf}
 use Rattle.laws.specs.Outcomes.{and-left, and-right, is-number, false-is-true, or-right}
+use Rattle.laws.specs.Tests.{below-or}
 use Rattle.safety.specs.Answers.{same-answer, bound, all-answered}
-use Rattle.safety.specs.Every.{Every, every-none, every-more, every-left, every-right, every-joined-part, every-implies, every-unmap, tabulated, all-true}
-use Rattle.safety.specs.Derivation.{Anything, anything, DerivedYoke, DerivedRow, yoke-derives, row-derives}
-use Rattle.safety.specs.Everywhere.{Everywhere, everywhere-implies}
-use Rattle.safety.specs.Invariant.{declaredStore}
+use Rattle.safety.specs.Every.{Every, every-none, every-more, every-left, every-right, every-joined-part, every-implies, every-unmap, every-getD, tabulated, all-true}
+use Rattle.safety.specs.Derivation.{Anything, anything, DerivedYoke, DerivedRow, yoke-derives, row-derives, yoke-closed}
+use Rattle.safety.specs.Everywhere.{Everywhere, at-skip, everywhere-implies, everywhere-both}
+use Rattle.safety.specs.Constants.{ClosedYoke}
+use Rattle.safety.specs.Invariant.{WellMadeProfile}
 use Rattle.safety.specs.Forest.{tree-everywhere}
-use Rattle.safety.specs.Accepted.{AcceptedRows, accepted-pair, program-row, profile-well-made}
+use Rattle.safety.specs.Accepted.{AcceptedRows, accepted-pair, program-row, body-row, profile-well-made}
+use Rattle.safety.specs.ProfileScopes.{scopeRow, scope-program, scope-skips}
+use Rattle.safety.specs.NodeRows.{nodeRow, tree-row, rows-everywhere}
+use Rattle.safety.specs.Scoped.{body-scope, program-scope}
 use Rattle.safety.specs.RunRules.{unfit-refused, none-refuses, erased-none}
 use Rattle.safety.specs.RunErrors.{RunErrors}
-use Rattle.safety.specs.Programs.{YokesDerived, TypedProfile, ReadsNumber, run-safe}
+use Rattle.safety.specs.Programs.{YokesDerived, TypedScope, TypedProfile, ReadsNumber, run-safe}
 
--- ---- declared yokes and instructions
-module _ {H : Entry → Type 0} (vars : Bodies) where
-  declarations-derive : (d : ℕ) (ds : List Declaration) → Every (λ o. (es : List Entry) × (o ≡ ok es) × Every H es) (checkDeclarations vars d ds)
-      → (n : ℕ) → DerivedYoke H vars (variableAt (map unfilled ds) n .yoke) (bodiesOf ds n)
-  unfolding checkDeclarations
-  declarations-derive d [] h n = unfold DerivedYoke in tt
-  declarations-derive d (v ∷ ds) (every-more h hs) zero = yoke-derives vars (v .declared) (v .body) (declaration-place + d) (h .0) (h .1) (h .2)
-  declarations-derive d (v ∷ ds) (every-more h hs) (suc n) = declarations-derive (suc d) ds hs n
+-- ---- declared yokes
+module _ (H : Entry → Type 0) (vars : Bodies) where
+  -- a declaration whose yoke was found to give a boolean on its body
+  unfoldable YokeFits : Declaration → Type 0
+  YokeFits d = DerivedYoke H vars (d .declared) (d .body)
 
-  instructions-derive : (is : List Instruction) → Every (λ o. (es : List Entry) × (o ≡ ok es) × Every H es) (map (λ i. checkInstruction vars i) is) → Every (DerivedRow H vars) is
-  instructions-derive is h = every-implies (λ i p. row-derives vars i (p .0) (p .1) (p .2)) (every-unmap (λ i. checkInstruction vars i) is h)
+  declarations-derive : (d : ℕ) (ds : List Declaration) → Every (λ o. (es : List Entry) × (o ≡ ok es) × Every H es) (checkDeclarations vars d ds) → Every YokeFits ds
+  unfolding checkDeclarations YokeFits
+  declarations-derive d [] h = every-none
+  declarations-derive d (v ∷ ds) (every-more h hs) =
+      every-more (yoke-derives vars (v .declared) (v .body) (declaration-place + d) (h .0) (h .1) (h .2)) (declarations-derive (suc d) ds hs)
 
-skip-derived : (H : Entry → Type 0) (vars : Bodies) (r : ℕ) → DerivedRow H vars (skip r)
+-- the variables that the check had matter nothing to yokes that read none
+scope-yokes : (H : Entry → Type 0) (vars others : Bodies) {ds : List Declaration} → Every (YokeFits H vars) ds → Every (λ d. ClosedYoke (d .declared)) ds
+    → (n : ℕ) → DerivedYoke H others (variableAt (map unfilled ds) n .yoke) (bodiesOf ds n)
+unfolding YokeFits
+scope-yokes H vars others every-none every-none n = unfold DerivedYoke in tt
+scope-yokes H vars others (every-more {x = d} h hs) (every-more c cs) zero = yoke-closed H vars others (d .declared) (d .body) c h
+scope-yokes H vars others (every-more {x = d} h hs) (every-more c cs) (suc n) = scope-yokes H vars others hs cs n
+
+skip-derived : (H : Entry → Type 0) (procs : ℕ → Bodies) (vars : Bodies) (r : ℕ) → DerivedRow H procs vars (skip r)
 unfolding DerivedRow
-skip-derived H vars r = tt
+skip-derived H procs vars r = tt
 
-module _ {H : Entry → Type 0} (p : Profile) (es : List Entry) (passed : checkProfile p ≡ ok es) (each : Every H es) where
-  -- what the check found of declared yokes and of instructions; H is what holds of all entries
-  parts-derive : YokesDerived H (bodiesOf (p .declarations)) (declaredStore p) × Every (DerivedRow H (bodiesOf (p .declarations))) (p .instructions)
-  unfolding checkProfile YokesDerived
+-- ---- what the check found of a profile: H is what holds of all entries
+abbrev procedureBodies : Profile → ℕ → Bodies
+procedureBodies p k = scopeBodies p (suc k)
+
+-- an instruction row, by the bodies of the variables that it names
+unfoldable ScopedDerived : (Entry → Type 0) → Profile → Scoped → Type 0
+ScopedDerived H p i = DerivedRow H (procedureBodies p) (scopeBodies p (i .scope)) (i .instruction)
+
+module _ (H : Entry → Type 0) (p : Profile) (es : List Entry) (passed : checkProfile p ≡ ok es) (each : Every H es) where
+  abbrev own : Bodies
+  own = bodiesOf (p .declarations)
+
+  -- of declared yokes, procedures' too, and of instruction rows
+  parts-derive : Every (YokeFits H own) (allDeclarations p) × Every (ScopedDerived H p) (p .instructions)
+  unfolding checkProfile checkScoped ScopedDerived
   parts-derive =
-      let vars : Bodies = bodiesOf (p .declarations) in
-      let a = bound (allAnswers (checkDeclarations vars 0 (p .declarations))) _ es passed in
-      let b = bound (allAnswers (map (λ i. checkInstruction vars i) (p .instructions))) _ es (a .2) in
+      let a = bound (allAnswers (checkDeclarations own 0 (allDeclarations p))) _ es passed in
+      let b = bound (allAnswers (map (λ i. checkScoped p i) (p .instructions))) _ es (a .2) in
       let k = subst (Every H) (sym (same-answer (b .2))) each in
-      let ds = all-answered (checkDeclarations vars 0 (p .declarations)) (a .0) (a .1) (every-joined-part (a .0) (every-left (joined (a .0)) (joined (b .0)) k)) in
-      let is = all-answered (map (λ i. checkInstruction vars i) (p .instructions)) (b .0) (b .1) (every-joined-part (b .0) (every-right (joined (a .0)) (joined (b .0)) k)) in
-      (declarations-derive vars 0 (p .declarations) ds, instructions-derive vars (p .instructions) is)
+      let ds = all-answered (checkDeclarations own 0 (allDeclarations p)) (a .0) (a .1) (every-joined-part (a .0) (every-left (joined (a .0)) (joined (b .0)) k)) in
+      let is = all-answered (map (λ i. checkScoped p i) (p .instructions)) (b .0) (b .1) (every-joined-part (b .0) (every-right (joined (a .0)) (joined (b .0)) k)) in (
+        declarations-derive H own 0 (allDeclarations p) ds,
+        every-implies (λ i (h : (xs : List Entry) × (checkScoped p i ≡ ok xs) × Every H xs). row-derives (procedureBodies p) (scopeBodies p (i .scope)) (i .instruction) (h .0) (h .1) (h .2))
+            (every-unmap (λ i. checkScoped p i) (p .instructions) is),
+      )
 
--- every instruction row, also one that no run gets to
+  -- each scope's declared yokes
+  scope-declared : (a : ℕ) → Every (YokeFits H own) (scopeDeclarations p a)
+  unfolding allDeclarations
+  scope-declared zero = every-left (p .declarations) (joined (map (λ q. q .variables) (p .procedures))) (parts-derive .0)
+  scope-declared (suc k) =
+      let vs = every-joined-part (map (λ q. q .variables) (p .procedures)) (every-right (p .declarations) (joined (map (λ q. q .variables) (p .procedures))) (parts-derive .0)) in
+      every-getD {P = λ (q : Procedure). Every (YokeFits H own) (q .variables)} {d = no-procedure} (every-unmap (λ q. q .variables) (p .procedures) vs) every-none k
+
+  -- so a scope is typed as soon as its tree is
+  scope-typed : WellMadeProfile p → (a : ℕ) → Everywhere (DerivedRow H (procedureBodies p) (scopeBodies p a)) (scopeProgram p a)
+      → TypedScope H (procedureBodies p) (scopeDeclarations p a) (scopeProgram p a)
+  unfolding YokesDerived
+  scope-typed made a h = record { yokes = scope-yokes H own (scopeBodies p a) (scope-declared a) (made a .yokes); instructions = h }
+
+-- every instruction row, also one that no run gets to, by the bodies of its scope
 pub rows-derive : {H : Entry → Type 0} (rows lims : List ℕ) (es : List Entry) → checkProfile (profileOf rows lims) ≡ ok es → Every H es
-    → (r : ℕ) → r < tableCount rows instruction-section → DerivedRow H (bodiesOf (profileOf rows lims .declarations)) (instructionTree rows r)
-unfolding profileOf
-rows-derive rows lims es e h = tabulated (tableCount rows instruction-section) (λ r. instructionTree rows r) (parts-derive (profileOf rows lims) es e h .1)
+    → (r : ℕ) → r < tableCount rows instruction-section
+    → DerivedRow H (λ k. scopeBodies (profileOf rows lims) (suc k)) (scopeBodies (profileOf rows lims) (instructionScope rows r)) (instructionTree rows r)
+unfolding profileOf ScopedDerived
+rows-derive {H} rows lims es e h =
+    tabulated (tableCount rows instruction-section) (λ r. scoped (instructionScope rows r) (instructionTree rows r)) (parts-derive H (profileOf rows lims) es e h .1)
 
--- the rows that the check goes through are those of the program's tree
-pub profile-derives : {H : Entry → Type 0} (rows : List ℕ) → AcceptedRows rows → (lims : List ℕ) (es : List Entry) → checkProfile (profileOf rows lims) ≡ ok es → Every H es → TypedProfile H (profileOf rows lims)
-unfolding profileOf
-profile-derives {H} rows accepted lims es e h =
-    let vars : Bodies = bodiesOf (profileOf rows lims .declarations) in
-    let p = parts-derive (profileOf rows lims) es e h in
-    let each = tabulated (tableCount rows instruction-section) (λ r. instructionTree rows r) (p .1) in
-    record { yokes = p .0; instructions = tree-everywhere (DerivedRow H vars) (skip-derived H vars) rows (tableCount rows instruction-section) each (pred (tableCount rows instruction-section)) (program-row rows accepted) }
+-- ---- trees: each node by the bodies of its row's scope
+module _ {H : Entry → Type 0} (rows : List ℕ) (accepted : AcceptedRows rows) (lims : List ℕ) (es : List Entry) (passed : checkProfile (profileOf rows lims) ≡ ok es) (each : Every H es) where
+  abbrev whole : Profile
+  whole = profileOf rows lims
 
--- ---- any profile whose tree passes node by node
-unfoldable pub PassedBelow : Bodies → Instruction → Type 0
-PassedBelow vars i = Everywhere (λ k. (es : List Entry) × (checkInstruction vars k ≡ ok es)) i
+  -- a tree all of whose rows name the variables of one scope
+  tree-typed : (a r : ℕ) → r < tableCount rows instruction-section → ((x : ℕ) → List·Memᴰ x (instructionRows (instructionTree rows r)) → instructionScope rows x ≡ a)
+      → Everywhere (DerivedRow H (procedureBodies whole) (scopeBodies whole a)) (instructionTree rows r)
+  tree-typed a r l h =
+      let own : Instruction → Type 0 = λ i. DerivedRow H (procedureBodies whole) (scopeBodies whole (instructionScope rows (nodeRow i))) i in
+      let of-rows : Everywhere own (instructionTree rows r) = tree-everywhere own (λ k. skip-derived H (procedureBodies whole) (scopeBodies whole (instructionScope rows (nodeRow (skip k)))) k) rows (tableCount rows instruction-section)
+      (λ k q. subst (λ (j : ℕ). DerivedRow H (procedureBodies whole) (scopeBodies whole (instructionScope rows j)) (instructionTree rows k)) (sym (tree-row rows k)) (rows-derive rows lims es passed each k q)) r l in
+      everywhere-implies (λ i (k : own i × (instructionScope rows (nodeRow i) ≡ a)). subst (λ (b : ℕ). DerivedRow H (procedureBodies whole) (scopeBodies whole b) i) (k .1) (k .0))
+      (everywhere-both (instructionTree rows r) of-rows (rows-everywhere {P = λ (x : ℕ). instructionScope rows x ≡ a} (instructionTree rows r) h))
 
-pub passed-below-derives : (p : Profile) (es : List Entry) → checkProfile p ≡ ok es → PassedBelow (bodiesOf (p .declarations)) (p .program) → TypedProfile Anything p
+  -- all rows of a scope's tree name its variables
+  scope-rows : (a : ℕ) → a ≤ procedureCount rows → Everywhere (DerivedRow H (procedureBodies whole) (scopeBodies whole a)) (instructionTree rows (scopeRow rows a))
+  scope-rows zero l = tree-typed 0 (pred (tableCount rows instruction-section)) (program-row rows accepted) (λ x m. program-scope rows (accepted .uses) (accepted .references) x m)
+  scope-rows (suc k) l = tree-typed (suc k) (bodyRow rows k) (body-row rows accepted k l) (λ x m. body-scope rows (accepted .uses) (accepted .references) k x l m)
+
+  scope-tree : (a : ℕ) → Everywhere (DerivedRow H (procedureBodies whole) (scopeBodies whole a)) (scopeProgram whole a)
+  scope-tree a =
+      let here : Instruction → Type 0 = Everywhere (DerivedRow H (procedureBodies whole) (scopeBodies whole a)) in
+      ⊎-elim (λ (l : procedureCount rows < a). subst here (sym (scope-skips rows lims a l)) (at-skip (skip-derived H (procedureBodies whole) (scopeBodies whole a) 0)))
+      (λ (l : a ≤ procedureCount rows). subst here (sym (scope-program rows lims a l)) (scope-rows a l))
+      (below-or (procedureCount rows) a)
+
+  -- the rows that the check goes through are those of the program's and the bodies' trees
+  pub profile-derives : TypedProfile H (profileOf rows lims)
+  profile-derives a = scope-typed H (profileOf rows lims) es passed each (profile-well-made rows accepted lims) a (scope-tree a)
+
+-- ---- any profile whose trees pass node by node
+unfoldable pub PassedBelow : (ℕ → Bodies) → Bodies → Instruction → Type 0
+PassedBelow procs vars i = Everywhere (λ k. (es : List Entry) × (checkInstruction procs vars k ≡ ok es)) i
+
+pub passed-below-derives : (p : Profile) → WellMadeProfile p → (es : List Entry) → checkProfile p ≡ ok es
+    → ((a : ℕ) → PassedBelow (λ k. scopeBodies p (suc k)) (scopeBodies p a) (scopeProgram p a)) → TypedProfile Anything p
 unfolding PassedBelow
-passed-below-derives p es e h =
-    record { yokes = parts-derive p es e (anything es) .0; instructions = everywhere-implies (λ i k. row-derives (bodiesOf (p .declarations)) i (k .0) (k .1) (anything (k .0))) h }
+passed-below-derives p made es e h a =
+    scope-typed Anything p es e (anything es) made a
+    (everywhere-implies (λ i k. row-derives (procedureBodies p) (scopeBodies p a) i (k .0) (k .1) (anything (k .0))) (h a))
 
 -- ---- readings
 pub tabulated-at : {A B : Type 0} (f : A → B) (g : ℕ → A) (other : B) (i n k : ℕ) → k < n → getD (map f (tabulateFrom i n g)) k other ≡ f (g (i + k))
@@ -100,7 +168,7 @@ tabulated-at f g other i (suc n) (suc k) l =
 
 -- the body of declaration d
 pub profile-body : (rows lims : List ℕ) (d : ℕ) → d < pairCount rows declaration-section → bodiesOf (profileOf rows lims .declarations) d ≡ bodyOr (declaredBody rows d)
-unfolding profileOf tabulate declarationAt
+unfolding profileOf tabulate declarationAt declarationIn
 profile-body rows lims d l =
     tabulated-at (λ (c : Declaration). c .body) (λ k. declarationAt rows lims k) boolean 0 (pairCount rows declaration-section) d l
     ∙ ap (λ (k : ℕ). bodyOr (declaredBody rows k)) (let e : 0 + d ≡ d = omega arith in e)

@@ -2,43 +2,49 @@
 -- for readings of number variables and at every budget: `run-safe`. Assumes nothing.
 use mathlib.Core.Path.{_≡_, refl, sym, ap, _∙_, subst}
 use mathlib.Core.Bool.{true}
-use mathlib.Core.List.{List, map}
+use mathlib.Core.List.{List, [], _∷_, _++_, map}
 use mathlib.Core.Option.{Option, some, none}
-use Prim.Native.Nat.{ℕ}
-use Rattle.lingua.specs.Errors.{overflow, yoke-not-satisfied, boolean-expected, no-coherence, yoke-expected}
-use Rattle.lingua.specs.Outcome.{ok}
-use Rattle.lingua.specs.Body.{Body, boolean, number, coherent}
+use Prim.Native.Nat.{ℕ, zero, suc, _+_}
+use native.Mathlib.Omega.{arith}
+use lib.ListN.{length}
+use Rattle.lingua.specs.Numbers.{most-calls}
+use Rattle.lingua.specs.Errors.{not-filled, overflow, yoke-not-satisfied, boolean-expected, no-coherence, yoke-expected}
+use Rattle.lingua.specs.Outcome.{ok, orFail}
+use Rattle.lingua.specs.Body.{Body, boolean, number, sameBody, coherent}
 use Rattle.lingua.specs.Value.{whole, fit-truth, fit-whole, inRange, asWhole, Composite, composite}
-use Rattle.lingua.specs.Expression.{Expression, Yoke, always, yoke, Instruction, skip, assign, set-yoke, sequence, branch, loop, handle}
+use Rattle.lingua.specs.Expression.{Expression, Yoke, always, yoke, Instruction, skip, assign, set-yoke, sequence, branch, loop, handle, call}
 use Rattle.lingua.specs.Evaluation.{eval, evalYoke, no-current}
-use Rattle.lingua.specs.Store.{Variable, variableAt, presentOf, presentBody, contents, withContent, withYoke, within, admitted, assigned, yokeHolds, yokeChanged, Reading, readingTaken}
-use Rattle.lingua.specs.Run.{State, Declaration, Profile, unfilled, started, takeReadings, run, lastState}
-use Rattle.lingua.specs.Typing.{Entry, Bodies, no-current-body, bodiesOf}
-use Rattle.lingua.specs.Meets.{yokeMet, yokeChecksMet, assignMet, testMet, onFilled, readingMet, runMet}
+use Rattle.lingua.specs.Store.{Variable, variableAt, presentOf, presentBody, contents, withContent, withYoke, within, admitted, assigned, copied, yokeHolds, yokeChanged, Reading, readingTaken}
+use Rattle.lingua.specs.Run.{State, withStore, Declaration, Procedure, procedureAt, unfilled, begun, exec, called, Profile, scopeDeclarations, scopeProgram, started, takeReadings, run, lastState, openCalls}
+use Rattle.lingua.specs.Typing.{Entry, Bodies, no-current-body, givenFit, bodiesOf, scopeBodies}
+use Rattle.lingua.specs.Meets.{yokeMet, yokeChecksMet, assignMet, testMet, errorIn, onFilled, copyMet, calledMet, readingMet, runMet}
 use Rattle.laws.specs.Coherent.{coherent-same}
-use Rattle.laws.specs.Classes.{overflow-runs, yoke-runs}
-use Rattle.laws.specs.Outcomes.{none-is-some}
-use Rattle.safety.specs.Answers.{bound, demanded, after, same-answer}
-use Rattle.safety.specs.Every.{Every, every-none, every-append, every-implies}
+use Rattle.laws.specs.Classes.{overflow-runs, yoke-runs, unfilled-runs}
+use Rattle.laws.specs.Outcomes.{none-is-some, and-left, and-right, same-body}
+use Rattle.safety.specs.Answers.{bound, some-answer, demanded, after, same-answer}
+use Rattle.safety.specs.Every.{Every, every-none, every-more, every-append, every-implies}
 use Rattle.safety.specs.Constants.{Fitting, ConstantsFit, ClosedYoke}
 use Rattle.safety.specs.Stored.{StoreKept, replaced, assigned-each, changed-each}
 use Rattle.safety.specs.Everywhere.{Everywhere, everywhere-implies, everywhere-both}
-use Rattle.safety.specs.Runs.{Stable, Keeps, KeepsReading, exec-keeps, readings-keep}
-use Rattle.safety.specs.Invariant.{WellMade, WellMadeProfile, declaredStore, StateKept, well-made-keeps, reading-keeps, start-kept, start-empty, declared-body}
+use Rattle.safety.specs.Runs.{Stable, Family, Pairwise, Passes, KeepsCall, Keeps, KeepsReading, Frame, Done, exec-keeps, called-keeps, readings-keep}
+use Rattle.safety.specs.Invariant.{WellMade, WellMadeProfile, scopeStore, StateKept, ScopesKept, well-made-keeps, copy-keeps, reading-keeps, start-kept, start-empty, declared-body}
 use Rattle.safety.specs.RunErrors.{RunErrors, gives, good-answer, answer-met, truth-met, truth-answer-met, unless-met, unless-run-error}
 use Rattle.safety.specs.TypeSound.{VariablesFit, Safe, derived-sound}
 use Rattle.safety.specs.Derivation.{Derived, DerivedYoke, DerivedRow}
-use Rattle.safety.specs.Quiet.{Quiet, QuietReading, on-true-met, exec-quiet, readings-quiet}
+use Rattle.safety.specs.Quiet.{QuietCopy, QuietCall, Quiet, QuietReading, on-true-met, exec-quiet, called-quiet, readings-quiet}
 
 -- ---- what the type check passes
 -- every yoke of a store, on its variable's declared body
 unfoldable pub YokesDerived : (Entry → Type 0) → Bodies → List Variable → Type 0
 YokesDerived H vars vs = (n : ℕ) → DerivedYoke H vars (variableAt vs n .yoke) (vars n)
 
--- declared yokes, and every instruction of the program; H holds of the entry of each expression row
-pub record TypedProfile (H : Entry → Type 0) (p : Profile) : Type 0 where
-  pub yokes : YokesDerived H (bodiesOf (p .declarations)) (declaredStore p)
-  pub instructions : Everywhere (DerivedRow H (bodiesOf (p .declarations))) (p .program)
+-- of a scope: its declared yokes, and every instruction that is run on its variables; H holds of the entry of each expression row
+pub record TypedScope (H : Entry → Type 0) (procs : ℕ → Bodies) (ds : List Declaration) (i : Instruction) : Type 0 where
+  pub yokes : YokesDerived H (bodiesOf ds) (map unfilled ds)
+  pub instructions : Everywhere (DerivedRow H procs (bodiesOf ds)) i
+
+abbrev pub TypedProfile : (Entry → Type 0) → Profile → Type 0
+TypedProfile H p = (a : ℕ) → TypedScope H (λ k. scopeBodies p (suc k)) (scopeDeclarations p a) (scopeProgram p a)
 
 -- ---- the states of a run
 -- what a run of a passed profile keeps: besides, every filled variable has its declared body
@@ -130,35 +136,81 @@ filled-met : (c : Option Composite) (f : Composite → List ℕ) → ((x : Compo
 filled-met none f h = every-none
 filled-met (some x) f h = h x refl
 
-module _ (H : Entry → Type 0) (ds : List Declaration) where
-  pub derived-keeps : (i : Instruction) → WellMade i × DerivedRow H (bodiesOf ds) i → Keeps (StateTyped H ds) i
-  unfolding Keeps StateKept WellMade DerivedRow
-  derived-keeps (skip r) h = tt
-  derived-keeps (assign r n e) h = λ s k ws q.
-      let p = bound (eval e (contents (s .store)) no-current) _ ws q in
-      let g = good-answer (derived-sound (bodiesOf ds) (contents (s .store)) (k .fit) e (h .0) no-current fit-truth (h .1) .good) (p .0) (p .1) in
-      record { kept = well-made-keeps (map unfilled ds) (assign r n e) (h .0) s (k .kept) ws q; yokes = assigned-yokes H (bodiesOf ds) (s .store) (k .yokes) n (p .0) ws (p .2); fit = assigned-fit (bodiesOf ds) (s .store) (k .fit) n (p .0) (g .0) (g .1) ws (p .2) }
-  derived-keeps (set-yoke r n y) h = λ s k ws q.
-      record { kept = well-made-keeps (map unfilled ds) (set-yoke r n y) (h .0) s (k .kept) ws q; yokes = changed-yokes H (bodiesOf ds) (s .store) (k .yokes) n y (h .1) ws q; fit = changed-fit (bodiesOf ds) (s .store) (k .fit) n y ws q }
-  derived-keeps (sequence r i j) h = tt
-  derived-keeps (branch r e i j) h = tt
-  derived-keeps (loop r e i) h = tt
-  derived-keeps (handle r n i) h = tt
+-- ---- copies
+-- each variable that a call gives has its parameter's body
+pub given-pairs : {Q : ℕ → ℕ → Type 0} (vars params : Bodies) → ((n m : ℕ) → vars n ≡ params m → Q n m) → (ns : List ℕ) (m : ℕ) → givenFit vars ns params m ≡ true → Pairwise Q ns m
+unfolding givenFit Pairwise
+given-pairs vars params f [] m e = tt
+given-pairs vars params f (n ∷ ns) m e = (
+  f n m (same-body (vars n) (params m) (and-left (sameBody (vars n) (params m)) (givenFit vars ns params (suc m)) e)),
+  given-pairs vars params f ns (suc m) (and-right (sameBody (vars n) (params m)) (givenFit vars ns params (suc m)) e),
+)
 
-  pub derived-quiet : (i : Instruction) → WellMade i × DerivedRow H (bodiesOf ds) i → Quiet (StateTyped H ds) i
-  unfolding Quiet WellMade DerivedRow StoreKept VariablesFit
-  derived-quiet (skip r) h = tt
-  derived-quiet (assign r n e) h = λ s k.
+-- of two lists the second's, which begin behind the first's
+behind-from : (vars params : Bodies) (vs rs : List ℕ) (m k : ℕ) → length vs + m ≡ k → givenFit vars (vs ++ rs) params m ≡ true → givenFit vars rs params k ≡ true
+unfolding givenFit
+behind-from vars params [] rs m k z e = subst (λ (j : ℕ). givenFit vars rs params j ≡ true) (let q : m ≡ k = omega arith in q) e
+behind-from vars params (v ∷ vs) rs m k z e =
+    behind-from vars params vs rs (suc m) k (omega arith) (and-right (sameBody (vars v) (params m)) (givenFit vars (vs ++ rs) params (suc m)) e)
+
+pub given-behind : (vars params : Bodies) (vs rs : List ℕ) → givenFit vars (vs ++ rs) params 0 ≡ true → givenFit vars rs params (length vs) ≡ true
+given-behind vars params vs rs e = behind-from vars params vs rs 0 (length vs) (omega arith) e
+
+module _ (H : Entry → Type 0) (p : Profile) where
+  -- what is known of a scope's states
+  unfoldable pub ScopesTyped : ℕ → State → Type 0
+  ScopesTyped a s = StateTyped H (scopeDeclarations p a) s
+
+  pub typed-copy : (a n b m : ℕ) → scopeBodies p a n ≡ scopeBodies p b m → Passes ScopesTyped a n b m
+  unfolding Passes ScopesTyped copied VariablesFit ScopesKept StateKept
+  typed-copy a n b m e s t h k ws q =
+      let x = some-answer (contents (s .store) n) not-filled (λ y. assigned (t .store) m y) ws q in
+      let v = h .fit n (x .0) (x .1) in
+      record { kept = copy-keeps p a n b m s t (h .kept) (k .kept) ws q; yokes = assigned-yokes H (scopeBodies p b) (t .store) (k .yokes) m (x .0) ws (x .2); fit = assigned-fit (scopeBodies p b) (t .store) (k .fit) m (x .0) (v .0 ∙ e) (v .1) ws (x .2) }
+
+  pub quiet-copy : (a n b m : ℕ) → scopeBodies p a n ≡ scopeBodies p b m → QuietCopy ScopesTyped a n b m
+  unfolding QuietCopy ScopesTyped copyMet VariablesFit
+  quiet-copy a n b m e s t h k = by (contents (s .store) n) refl
+    where
+      by : (c : Option Composite) → contents (s .store) n ≡ c → RunErrors (errorIn (orFail c not-filled) ++ onFilled c (λ x. assignMet (t .store) m x))
+      by none q = every-more unfilled-runs every-none
+      by (some x) q =
+          let v = h .fit n x q in
+          assign-safe H (scopeDeclarations p b) (t .store) (k .kept) (k .fit) (k .yokes) m x (v .1) (v .0 ∙ e)
+
+  pub derived-keeps : (a : ℕ) (i : Instruction) → WellMade i × DerivedRow H (λ k. scopeBodies p (suc k)) (scopeBodies p a) i → Keeps ScopesTyped a i
+  unfolding Keeps StateKept ScopesKept ScopesTyped WellMade DerivedRow
+  derived-keeps a (skip r) h = tt
+  derived-keeps a (assign r n e) h = λ s k ws q.
+      let o = bound (eval e (contents (s .store)) no-current) _ ws q in
+      let g = good-answer (derived-sound (scopeBodies p a) (contents (s .store)) (k .fit) e (h .0) no-current fit-truth (h .1) .good) (o .0) (o .1) in
+      record { kept = well-made-keeps p a (assign r n e) (h .0) s (k .kept) ws q; yokes = assigned-yokes H (scopeBodies p a) (s .store) (k .yokes) n (o .0) ws (o .2); fit = assigned-fit (scopeBodies p a) (s .store) (k .fit) n (o .0) (g .0) (g .1) ws (o .2) }
+  derived-keeps a (set-yoke r n y) h = λ s k ws q.
+      record { kept = well-made-keeps p a (set-yoke r n y) (h .0) s (k .kept) ws q; yokes = changed-yokes H (scopeBodies p a) (s .store) (k .yokes) n y (h .1) ws q; fit = changed-fit (scopeBodies p a) (s .store) (k .fit) n y ws q }
+  derived-keeps a (sequence r i j) h = tt
+  derived-keeps a (branch r e i j) h = tt
+  derived-keeps a (loop r e i) h = tt
+  derived-keeps a (handle r n i) h = tt
+  derived-keeps a (call r k vs rs) h =
+      record { in-all = given-pairs (scopeBodies p a) (scopeBodies p (suc k)) (λ n m e. typed-copy a n (suc k) m e) (vs ++ rs) 0 (h .1); out-all = given-pairs (scopeBodies p a) (scopeBodies p (suc k)) (λ n m e. typed-copy (suc k) m a n (sym e)) rs (length vs) (given-behind (scopeBodies p a) (scopeBodies p (suc k)) vs rs (h .1)) }
+
+  pub derived-quiet : (a : ℕ) (i : Instruction) → WellMade i × DerivedRow H (λ k. scopeBodies p (suc k)) (scopeBodies p a) i → Quiet ScopesTyped a i
+  unfolding Quiet ScopesTyped WellMade DerivedRow StoreKept VariablesFit
+  derived-quiet a (skip r) h = tt
+  derived-quiet a (assign r n e) h = λ s k.
+      let ds = scopeDeclarations p a in
       let c = derived-sound (bodiesOf ds) (contents (s .store)) (k .fit) e (h .0) no-current fit-truth (h .1) in
       every-append (c .meets) (answer-met (c .good) (λ x u f. assign-safe H ds (s .store) (k .kept) (k .fit) (k .yokes) n x f u))
-  derived-quiet (set-yoke r n y) h = λ s k.
+  derived-quiet a (set-yoke r n y) h = λ s k.
       filled-met (variableAt (s .store) n .content) _ (λ x e. let v = k .fit n x e in
-      yoke-checks-safe H ds (s .store) (k .kept) (k .fit) y (h .0) x (v .1)
-      (subst (λ (b : Body). DerivedYoke H (bodiesOf ds) y b) (sym (v .0)) (h .1)))
-  derived-quiet (sequence r i j) h = tt
-  derived-quiet (branch r e i j) h = λ s k. test-safe H ds (s .store) (k .kept) (k .fit) e (h .0) (h .1)
-  derived-quiet (loop r e i) h = λ s k. test-safe H ds (s .store) (k .kept) (k .fit) e (h .0) (h .1)
-  derived-quiet (handle r n i) h = tt
+      yoke-checks-safe H (scopeDeclarations p a) (s .store) (k .kept) (k .fit) y (h .0) x (v .1)
+      (subst (λ (b : Body). DerivedYoke H (scopeBodies p a) y b) (sym (v .0)) (h .1)))
+  derived-quiet a (sequence r i j) h = tt
+  derived-quiet a (branch r e i j) h = λ s k. test-safe H (scopeDeclarations p a) (s .store) (k .kept) (k .fit) e (h .0) (h .1)
+  derived-quiet a (loop r e i) h = λ s k. test-safe H (scopeDeclarations p a) (s .store) (k .kept) (k .fit) e (h .0) (h .1)
+  derived-quiet a (handle r n i) h = tt
+  derived-quiet a (call r k vs rs) h =
+      record { in-all = given-pairs (scopeBodies p a) (scopeBodies p (suc k)) (λ n m e. quiet-copy a n (suc k) m e) (vs ++ rs) 0 (h .1); out-all = given-pairs (scopeBodies p a) (scopeBodies p (suc k)) (λ n m e. quiet-copy (suc k) m a n (sym e)) rs (length vs) (given-behind (scopeBodies p a) (scopeBodies p (suc k)) vs rs (h .1)) }
 
 -- ---- readings of number variables
 unfoldable pub ReadsNumber : List Declaration → Reading → Type 0
@@ -179,31 +231,42 @@ module _ (H : Entry → Type 0) (ds : List Declaration) (r : Reading) where
 
 -- ---- whole runs
 module _ {H : Entry → Type 0} (p : Profile) (made : WellMadeProfile p) (passed : TypedProfile H p) where
-  both : Everywhere (λ i. WellMade i × DerivedRow H (bodiesOf (p .declarations)) i) (p .program)
-  both = everywhere-both (p .program) (made .instructions) (passed .instructions)
+  pub typed-family : Family (p .procedures) (ScopesTyped H p)
+  unfolding ScopesTyped begun
+  typed-family =
+      record { stable = λ a. typed-stable H (scopeDeclarations p a); begins = λ a k s h. record { kept = start-kept (made (suc k) .yokes); yokes = passed (suc k) .yokes; fit = start-fit (scopeDeclarations p (suc k)) }; back = λ a k s t h g. record { kept = h .kept; yokes = h .yokes; fit = h .fit } }
+
+  both : (a : ℕ) → Everywhere (λ i. WellMade i × DerivedRow H (λ k. scopeBodies p (suc k)) (scopeBodies p a) i) (scopeProgram p a)
+  both a = everywhere-both (scopeProgram p a) (made a .instructions) (passed a .instructions)
 
   pub start-typed : (budget : ℕ) → StateTyped H (p .declarations) (started p budget)
-  unfolding started
-  start-typed budget = record { kept = start-kept (made .yokes); yokes = passed .yokes; fit = start-fit (p .declarations) }
+  unfolding started begun
+  start-typed budget = record { kept = start-kept (made 0 .yokes); yokes = passed 0 .yokes; fit = start-fit (p .declarations) }
 
   pub readings-typed : (readings : List Reading) → Every (ReadsNumber (p .declarations)) readings → (budget : ℕ) → StateTyped H (p .declarations) (takeReadings 0 readings (started p budget))
   readings-typed readings ns budget =
       readings-keep (StateTyped H (p .declarations)) (typed-stable H (p .declarations)) 0 readings (every-implies (typed-reading H (p .declarations)) ns) (started p budget) (start-typed budget)
 
-  -- every instruction of the program keeps what is known of the states
-  pub program-keeps : Everywhere (Keeps (StateTyped H (p .declarations))) (p .program)
-  program-keeps = everywhere-implies (derived-keeps H (p .declarations)) both
+  -- every instruction of every scope keeps what is known of the states
+  pub program-keeps : (a : ℕ) → Everywhere (Keeps (ScopesTyped H p) a) (scopeProgram p a)
+  program-keeps a = everywhere-implies (derived-keeps H p a) (both a)
 
-  pub run-typed : (readings : List Reading) → Every (ReadsNumber (p .declarations)) readings → (budget : ℕ) → StateTyped H (p .declarations) (lastState (run p readings budget))
+  pub run-typed : (readings : List Reading) → Every (ReadsNumber (p .declarations)) readings → (budget : ℕ) → Done (ScopesTyped H p) 0 (run p readings budget)
   unfolding run
   run-typed readings ns budget =
-      exec-keeps (StateTyped H (p .declarations)) (typed-stable H (p .declarations)) (p .program) program-keeps (takeReadings 0 readings (started p budget)) (readings-typed readings ns budget)
+      exec-keeps (ScopesTyped H p) (p .procedures) typed-family 0 (called assigned exec (p .procedures) most-calls)
+      (called-keeps (ScopesTyped H p) (p .procedures) typed-family (λ k. program-keeps (suc k)) most-calls 0) (p .program) (program-keeps 0)
+      (takeReadings 0 readings (started p budget)) (unfold ScopesTyped in readings-typed readings ns budget)
 
   pub run-safe : (readings : List Reading) → Every (ReadsNumber (p .declarations)) readings → (budget : ℕ) → RunErrors (runMet p readings budget)
   unfolding runMet
   run-safe readings ns budget =
       let ds = p .declarations in
+      let ps = p .procedures in
+      let quiets : (a : ℕ) → Everywhere (Quiet (ScopesTyped H p) a) (scopeProgram p a) = λ a. everywhere-implies (derived-quiet H p a) (both a) in
       every-append
-      (readings-quiet (StateTyped H ds) (typed-stable H ds) 0 readings (every-implies (typed-reading H ds) ns) (every-implies (quiet-reading H ds) ns) (started p budget) (start-typed budget))
-      (exec-quiet (StateTyped H ds) (typed-stable H ds) (p .program) program-keeps (everywhere-implies (derived-quiet H ds) both)
-      (takeReadings 0 readings (started p budget)) (readings-typed readings ns budget))
+      (readings-quiet (StateTyped H ds) (typed-stable H ds) 0 readings (every-implies (typed-reading H (p .declarations)) ns) (every-implies (quiet-reading H ds) ns) (started p budget) (start-typed budget))
+      (exec-quiet (ScopesTyped H p) ps typed-family 0 (called assigned exec ps most-calls) (called-keeps (ScopesTyped H p) ps typed-family (λ k. program-keeps (suc k)) most-calls 0)
+      (calledMet ps most-calls) (called-quiet (ScopesTyped H p) ps typed-family (λ k. program-keeps (suc k)) (λ k. quiets (suc k)) most-calls 0)
+      (p .program) (program-keeps 0) (quiets 0)
+      (takeReadings 0 readings (started p budget)) (unfold ScopesTyped in readings-typed readings ns budget))

@@ -3,27 +3,29 @@
 use mathlib.Core.Path.{_≡_, refl, sym, ap, _∙_, subst}
 use mathlib.Core.Logic.{_⊎_, inl, inr}
 use mathlib.Core.Bool.{Bool, true, false}
-use mathlib.Core.List.{List, [], _∷_, _++_, List·Memᴰ, Memᴰ·append-left, Memᴰ·append-right}
+use mathlib.Core.Option.{Option, some, none}
+use mathlib.Core.List.{List, [], _∷_, _++_, List·Memᴰ, List·Memᴰ·head, Memᴰ·append-left, Memᴰ·append-right}
 use Prim.Native.Nat.{ℕ, zero, suc, _+_}
 use lib.Dec.{eqb}
-use Rattle.lingua.specs.Numbers.{reading-place}
-use Rattle.lingua.specs.Errors.{no-error, overflow, isAmong, isRunError, isTypeError}
-use Rattle.lingua.specs.Outcome.{ok, fail, Result, _>>=_}
+use lib.ListN.{length}
+use Rattle.lingua.specs.Numbers.{reading-place, most-calls}
+use Rattle.lingua.specs.Errors.{no-error, overflow, not-filled, too-deep, isAmong, isRunError, isTypeError}
+use Rattle.lingua.specs.Outcome.{ok, fail, Result, _>>=_, orFail}
 use Rattle.lingua.specs.Body.{number}
 use Rattle.lingua.specs.Value.{whole, inRange, Composite, composite}
-use Rattle.lingua.specs.Expression.{Expression, variable, Instruction, skip, assign, set-yoke, sequence, branch, loop, handle}
+use Rattle.lingua.specs.Expression.{Expression, variable, Instruction, skip, assign, set-yoke, sequence, branch, loop, handle, call}
 use Rattle.lingua.specs.Evaluation.{eval, evalTest, no-current}
-use Rattle.lingua.specs.Store.{Variable, contents, assigned, Reading, readingTaken}
-use Rattle.lingua.specs.Run.{State, Progress, going, out, withLeft, withError, settled, proceed, stepWith, step, unlessError, act, decided, handled, repeat, exec, Profile, started, takenUnless, takeReadings, run, lastState}
+use Rattle.lingua.specs.Store.{Variable, contents, assigned, copied, copiedIn, Reading, readingTaken}
+use Rattle.lingua.specs.Run.{State, Progress, going, out, withStore, withLeft, withError, settled, proceed, stepWith, step, unlessError, act, decided, handled, repeat, Calling, exec, Procedure, procedureAt, begun, cleanOnly, copiedOut, carried, returned, opened, called, Profile, started, takenUnless, takeReadings, run, lastState}
 use Rattle.lingua.specs.Typing.{Entry, checkProfile}
-use Rattle.lingua.specs.Meets.{onAnswer, onTrue, unlessMet, met, assignMet, testMet, stepMet, actMet, onActing, onGoing, onDecided, onHandled, repeatMet, execMet, readingMet, readingsMet, runMet}
+use Rattle.lingua.specs.Meets.{errorIn, onAnswer, onTrue, unlessMet, met, assignMet, testMet, stepMet, actMet, onActing, onGoing, onDecided, onHandled, onFilled, repeatMet, CallingMet, execMet, copyMet, copiesInMet, copiesOutMet, calledMet, readingMet, readingsMet, runMet}
 use Rattle.lingua.specs.Trees.{profileOf}
 use Rattle.lingua.specs.Format.{rowsOf}
 use Rattle.lingua.specs.Refusal.{lowest, pairRules, isNumberVariable}
 use Rattle.laws.specs.Classes.{run-no-type-error}
 use Rattle.safety.specs.Every.{Every, every-at}
 use Rattle.safety.specs.Passed.{accepted-safe}
-use Rattle.safety.specs.Failures.{In, fails, required-fails, answer-in, unless-in, true-in, eval-met, test-met, assign-met, change-met}
+use Rattle.safety.specs.Failures.{In, ok-is-fail, same-error, error-in, fails, required-fails, answer-in, unless-in, true-in, eval-met, test-met, assign-met, change-met}
 
 -- ---- runs
 -- the error that is recorded after a part of a run: the one before, none, or one that was met in it
@@ -67,7 +69,7 @@ act-recorded s f g k = go (eqb (s .error) no-error)
 proceed-recorded : (a : ℕ) (q : Progress) (f : State → Progress) (ms : List ℕ) (g : State → List ℕ) → Recorded a (lastState q .error) ms → ((t : State) → Recorded (t .error) (lastState (f t) .error) (g t))
     → Recorded a (lastState (proceed q f) .error) (ms ++ onGoing q g)
 proceed-recorded a (going s) f ms g h k = recorded-then ms h (k s)
-proceed-recorded a (out s) f ms g h k = recorded-then ms h (stays refl)
+proceed-recorded a (out s os) f ms g h k = recorded-then ms h (stays refl)
 
 decided-recorded : (o : Result Bool) (p : ℕ) (s : State) (f g : State → Progress) (ms : List ℕ) (fm gm : Unit {0} → List ℕ) → ((n : ℕ) → o ≡ fail n → In n ms)
     → Recorded (s .error) (lastState (f s) .error) (fm tt) → Recorded (s .error) (lastState (g s) .error) (gm tt) → Recorded (s .error) (lastState (decided o p s f g) .error) (ms ++ onDecided o fm gm)
@@ -110,16 +112,77 @@ skip-leaves s = go (eqb (s .error) no-error)
     go true = stepped (s .left)
     go false = refl
 
-pub exec-recorded : (i : Instruction) (s : State) → Recorded (s .error) (lastState (exec i s) .error) (execMet i s)
-unfolding exec execMet
-exec-recorded (skip r) s = stays (skip-leaves s)
-exec-recorded (assign r k a) s = act-recorded s _ _ (λ n. settled-recorded (withLeft s n) r _ _ (assignment-met (s .store) k a))
-exec-recorded (set-yoke r k y) s = act-recorded s _ _ (λ n. settled-recorded (withLeft s n) r _ _ (change-met (s .store) k y))
-exec-recorded (sequence r i j) s = proceed-recorded (s .error) (exec i s) _ (execMet i s) _ (exec-recorded i s) (λ t. exec-recorded j t)
-exec-recorded (branch r a i j) s =
-    act-recorded s _ _ (λ n. decided-recorded (evalTest a (contents (s .store))) r (withLeft s n) _ _ (testMet a (contents (s .store))) _ _ (test-met a (contents (s .store))) (exec-recorded i (withLeft s n)) (exec-recorded j (withLeft s n)))
-exec-recorded (loop r a i) s = repeat-recorded (suc (s .left)) a r (λ t. exec i t) (λ t. execMet i t) (λ t. exec-recorded i t) s
-exec-recorded (handle r m i) s = step-recorded s _ _ (λ n. handled-recorded (eqb (s .error) m) (withLeft s n) _ _ (exec-recorded i (withError (withLeft s n) no-error 0)))
+-- what calls do and meet
+unfoldable CallsRecorded : Calling → CallingMet → Type 0
+CallsRecorded calls callsMet = (r k : ℕ) (vs rs : List ℕ) (s : State) → Recorded (s .error) (lastState (calls r k vs rs s) .error) (callsMet r k vs rs s)
+
+module _ (calls : Calling) (callsMet : CallingMet) (recorded : CallsRecorded calls callsMet) where
+  exec-recorded-by : (i : Instruction) (s : State) → Recorded (s .error) (lastState (exec calls i s) .error) (execMet calls callsMet i s)
+  unfolding exec execMet CallsRecorded
+  exec-recorded-by (skip r) s = stays (skip-leaves s)
+  exec-recorded-by (assign r k a) s = act-recorded s _ _ (λ n. settled-recorded (withLeft s n) r _ _ (assignment-met (s .store) k a))
+  exec-recorded-by (set-yoke r k y) s = act-recorded s _ _ (λ n. settled-recorded (withLeft s n) r _ _ (change-met (s .store) k y))
+  exec-recorded-by (sequence r i j) s = proceed-recorded (s .error) (exec calls i s) _ (execMet calls callsMet i s) _ (exec-recorded-by i s) (λ t. exec-recorded-by j t)
+  exec-recorded-by (branch r a i j) s =
+      act-recorded s _ _ (λ n. decided-recorded (evalTest a (contents (s .store))) r (withLeft s n) _ _ (testMet a (contents (s .store))) _ _ (test-met a (contents (s .store))) (exec-recorded-by i (withLeft s n)) (exec-recorded-by j (withLeft s n)))
+  exec-recorded-by (loop r a i) s = repeat-recorded (suc (s .left)) a r (λ t. exec calls i t) (λ t. execMet calls callsMet i t) (λ t. exec-recorded-by i t) s
+  exec-recorded-by (handle r m i) s = step-recorded s _ _ (λ n. handled-recorded (eqb (s .error) m) (withLeft s n) _ _ (exec-recorded-by i (withError (withLeft s n) no-error 0)))
+  exec-recorded-by (call r k vs rs) s = act-recorded s _ _ (λ n. recorded r k vs rs (withLeft s n))
+
+-- ---- calls
+-- a copy's error: 7, or the assignment's
+copy-met : (from : List Variable) (k : ℕ) (to : List Variable) (m n : ℕ) → copied assigned from k to m ≡ fail n → In n (copyMet from k to m)
+unfolding copied copyMet
+copy-met from k to m n e = go (contents from k) e
+  where
+    go : (c : Option Composite) → (orFail c not-filled >>= λ x. assigned to m x) ≡ fail n → In n (errorIn (orFail c not-filled) ++ onFilled c (λ x. assignMet to m x))
+    go none q = Memᴰ·append-left [] (error-in (orFail {A = Composite} none not-filled) n (ap {B = Result Composite} fail (same-error q)))
+    go (some x) q = assign-met to m x n q
+
+copies-in-met : (from : List Variable) (ks : List ℕ) (m : ℕ) (to : List Variable) (n : ℕ) → copiedIn assigned from ks m to ≡ fail n → In n (copiesInMet from ks m to)
+unfolding copiedIn copiesInMet
+copies-in-met from [] m to n e = ok-is-fail e
+copies-in-met from (k ∷ ks) m to n e = go (fails (copied assigned from k to m) _ n e) (λ us q. copies-in-met from ks (suc m) us n q)
+  where
+    go : (copied assigned from k to m ≡ fail n) ⊎ ((us : List Variable) × (copied assigned from k to m ≡ ok us) × (copiedIn assigned from ks (suc m) us ≡ fail n))
+        → ((us : List Variable) → copiedIn assigned from ks (suc m) us ≡ fail n → In n (copiesInMet from ks (suc m) us))
+        → In n (copyMet from k to m ++ onAnswer (copied assigned from k to m) (λ next. copiesInMet from ks (suc m) next))
+    go (inl q) ih = Memᴰ·append-left (onAnswer (copied assigned from k to m) (λ next. copiesInMet from ks (suc m) next)) (copy-met from k to m n q)
+    go (inr p) ih = Memᴰ·append-right (copyMet from k to m) (answer-in (copied assigned from k to m) (p .0) (λ next. copiesInMet from ks (suc m) next) n (p .1) (ih (p .0) (p .2)))
+
+clean-recorded : (b : Bool) (s : State) (f : State → State) (ns : List ℕ) → Recorded (s .error) (f s .error) ns → Recorded (s .error) (cleanOnly b s f .error) (onTrue b ns)
+clean-recorded true s f ns h = h
+clean-recorded false s f ns h = stays refl
+
+copies-out-recorded : (r : ℕ) (from : List Variable) (m : ℕ) (ks : List ℕ) (s : State) → Recorded (s .error) (copiedOut assigned r from m ks s .error) (copiesOutMet r from m ks s)
+unfolding copiedOut copiesOutMet
+copies-out-recorded r from m [] s = stays refl
+copies-out-recorded r from m (k ∷ ks) s =
+    clean-recorded (eqb (s .error) no-error) s _ _
+    (recorded-then (copyMet from m (s .store) k) (settled-recorded s r (copied assigned from m (s .store) k) (copyMet from m (s .store) k) (copy-met from m (s .store) k))
+    (copies-out-recorded r from (suc m) ks (settled s r (copied assigned from m (s .store) k))))
+
+returned-recorded : (r m : ℕ) (rs : List ℕ) (s : State) (q : Progress) (ns : List ℕ) → Recorded (s .error) (lastState q .error) ns
+    → Recorded (s .error) (lastState (returned assigned r m rs s q) .error) (ns ++ onGoing q (λ t. copiesOutMet r (t .store) m rs (carried s t)))
+returned-recorded r m rs s (going t) ns h = recorded-then ns h (copies-out-recorded r (t .store) m rs (carried s t))
+returned-recorded r m rs s (out t os) ns h = recorded-then ns h (stays refl)
+
+opened-recorded : (o : Result (List Variable)) (r : ℕ) (s : State) (f : List Variable → Progress) (ms : List ℕ) (g : List Variable → List ℕ) → ((n : ℕ) → o ≡ fail n → In n ms)
+    → ((ws : List Variable) → Recorded (s .error) (lastState (f ws) .error) (g ws)) → Recorded (s .error) (lastState (opened o r s f) .error) (ms ++ onAnswer o g)
+opened-recorded (ok ws) r s f ms g h k = recorded-right ms (k ws)
+opened-recorded (fail n) r s f ms g h k = arises (Memᴰ·append-left [] (h n refl))
+
+called-recorded : (ps : List Procedure) (n : ℕ) → CallsRecorded (called assigned exec ps n) (calledMet ps n)
+unfolding called calledMet CallsRecorded
+called-recorded ps zero r k vs rs s = arises (List·Memᴰ·head refl)
+called-recorded ps (suc n) r k vs rs s =
+    opened-recorded (copiedIn assigned (s .store) (vs ++ rs) 0 (begun (procedureAt ps k .variables))) r s _ (copiesInMet (s .store) (vs ++ rs) 0 (begun (procedureAt ps k .variables))) _
+    (copies-in-met (s .store) (vs ++ rs) 0 (begun (procedureAt ps k .variables)))
+    (λ ws. returned-recorded r (length vs) rs s (exec (called assigned exec ps n) (procedureAt ps k .body) (withStore s ws)) _
+    (exec-recorded-by (called assigned exec ps n) (calledMet ps n) (called-recorded ps n) (procedureAt ps k .body) (withStore s ws)))
+
+pub exec-recorded : (ps : List Procedure) (n : ℕ) (i : Instruction) (s : State) → Recorded (s .error) (lastState (exec (called assigned exec ps n) i s) .error) (execMet (called assigned exec ps n) (calledMet ps n) i s)
+exec-recorded ps n i s = exec-recorded-by (called assigned exec ps n) (calledMet ps n) (called-recorded ps n) i s
 
 -- ---- readings
 reading-met : (vs : List Variable) (r : Reading) (n : ℕ) → readingTaken vs r ≡ fail n → In n (readingMet vs r)
@@ -151,7 +214,7 @@ pub run-recorded : (p : Profile) (readings : List Reading) (budget : ℕ)
     → (lastState (run p readings budget) .error ≡ no-error) ⊎ List·Memᴰ (lastState (run p readings budget) .error) (runMet p readings budget)
 unfolding run runMet started
 run-recorded p readings budget =
-    by (recorded-then (readingsMet 0 readings (started p budget)) (readings-recorded 0 readings (started p budget)) (exec-recorded (p .program) (takeReadings 0 readings (started p budget))))
+    by (recorded-then (readingsMet 0 readings (started p budget)) (readings-recorded 0 readings (started p budget)) (exec-recorded (p .procedures) most-calls (p .program) (takeReadings 0 readings (started p budget))))
   where
     by : {e : ℕ} {ns : List ℕ} → Recorded no-error e ns → (e ≡ no-error) ⊎ List·Memᴰ e ns
     by (stays q) = inl q

@@ -7,7 +7,7 @@ use Rattle.lingua.specs.Errors.{bad-buffer, bad-reading, type-error-found}
 use Rattle.lingua.specs.Value.{allOf}
 use Rattle.lingua.specs.Format.{rowsOf}
 use Rattle.lingua.specs.Inputs.{Inputs}
-use Rattle.lingua.specs.Refusal.{Rule, rule, lowest, fileRules, rowRules, wholeFileRules, pairRules, readingWrong, runRules}
+use Rattle.lingua.specs.Refusal.{Rule, rule, placeIn, rank, lowest, fileRules, rowRules, wholeFileRules, pairRules, readingWrong, runRules}
 use Rattle.laws.specs.Refusals.{lowest-skip, lowest-skip-last, lowest-first, Decides, decides, first-decides, second-decides, neither}
 use Rattle.safety.specs.Accepted.{none-applies}
 
@@ -22,12 +22,12 @@ module _ (i : Inputs) where
   readings = rule bad-reading wrong ∷ []
 
   files-first : Decides 15 files readings
-  unfolding pairRules wholeFileRules fileRules rowRules allOf
+  unfolding pairRules wholeFileRules fileRules rowRules allOf rank placeIn
   files-first = decides 15 files readings refl refl
 
   -- ---- rule 1
   pub unfit-refused : lowest (runRules false i) ≡ bad-buffer
-  unfolding runRules pairRules wholeFileRules fileRules rowRules allOf
+  unfolding runRules pairRules wholeFileRules fileRules rowRules allOf rank placeIn
   unfit-refused = lowest-first bad-buffer true (files ++ readings) refl refl
 
   -- ---- with buffers that fit, the files decide, and then the readings
@@ -39,7 +39,7 @@ module _ (i : Inputs) where
   files-refuse h = fitting ∙ first-decides files-first h
 
   pub readings-refuse : lowest files ≡ 0 → wrong ≡ true → lowest (runRules true i) ≡ bad-reading
-  unfolding allOf
+  unfolding allOf rank placeIn
   readings-refuse z w = fitting ∙ second-decides files-first z ∙ lowest-first bad-reading wrong [] w refl
 
   -- the files alone, where the readings are right
@@ -56,14 +56,14 @@ module _ (i : Inputs) where
   -- ---- rule 17, behind all others
   module _ (fits fails : Bool) where
     run-first : Decides 16 (runRules fits i) (rule type-error-found fails ∷ [])
-    unfolding runRules pairRules wholeFileRules fileRules rowRules allOf
+    unfolding runRules pairRules wholeFileRules fileRules rowRules allOf rank placeIn
     run-first = decides 16 (runRules fits i) (rule type-error-found fails ∷ []) refl refl
 
     pub run-refuses : (lowest (runRules fits i) ≡ 0 → ⊥) → lowest (runRules fits i ++ (rule type-error-found fails ∷ [])) ≡ lowest (runRules fits i)
     run-refuses h = first-decides run-first h
 
     pub fails-refuse : lowest (runRules fits i) ≡ 0 → fails ≡ true → lowest (runRules fits i ++ (rule type-error-found fails ∷ [])) ≡ type-error-found
-    unfolding allOf
+    unfolding allOf rank placeIn
     fails-refuse z e = second-decides run-first z ∙ lowest-first type-error-found fails [] e refl
 
     pub passed-refuse : fails ≡ false → lowest (runRules fits i ++ (rule type-error-found fails ∷ [])) ≡ lowest (runRules fits i)

@@ -3,7 +3,7 @@
 -- (`same-layout`, `same-passed`). Assumes nothing.
 use mathlib.Core.Path.{_≡_, refl}
 use mathlib.Core.Bool.{Bool, true, false}
-use mathlib.Core.List.{List, [], _∷_, map}
+use mathlib.Core.List.{List, [], _∷_, _++_, map}
 use mathlib.Core.Option.{Option, some, none}
 use Prim.Native.Nat.{ℕ, zero, suc, _+_}
 use Rattle.lingua.specs.Numbers.{instruction-place, declaration-place}
@@ -11,9 +11,9 @@ use Rattle.lingua.specs.Errors.{boolean-expected, list-expected, no-coherence, 
 use Rattle.lingua.specs.Outcome.{Outcome, ok, fail, Result, require, orFail, answerOf, both, allAnswers, _>>=_, _>>_}
 use Rattle.lingua.specs.Body.{Body, boolean, size, sameBody, isBoolean, elementBody}
 use Rattle.lingua.specs.Operation.{unaryBody, binaryBody}
-use Rattle.lingua.specs.Expression.{Expression, constant, variable, current, unary, binary, lazy, choice, all-list, Yoke, always, yoke, Instruction, skip, assign, set-yoke, sequence, branch, loop, handle}
-use Rattle.lingua.specs.Run.{Declaration, Profile}
-use Rattle.lingua.specs.Typing.{TypeError, typeError, Entry, Typed, Finding, fault, ownRule, typed, Bodies, no-current-body, currentBody, elementsAt, check, judged, checkYoke, checkTest, checkInstruction, checkDeclarations, bodiesOf, checkProfile}
+use Rattle.lingua.specs.Expression.{Expression, constant, variable, current, unary, binary, lazy, choice, all-list, Yoke, always, yoke, Instruction, skip, assign, set-yoke, sequence, branch, loop, handle, call}
+use Rattle.lingua.specs.Run.{Declaration, Scoped, Profile}
+use Rattle.lingua.specs.Typing.{TypeError, typeError, Entry, Typed, Finding, fault, ownRule, typed, Bodies, no-current-body, currentBody, elementsAt, check, judged, checkYoke, checkTest, givenFit, checkInstruction, checkDeclarations, bodiesOf, allDeclarations, scopeBodies, checkScoped, checkProfile}
 use Rattle.lingua.specs.Trees.{profileOf}
 use Rattle.lingua.specs.Format.{rowsOf}
 use Rattle.lingua.specs.Refusal.{typeCheckRefusal}
@@ -21,7 +21,7 @@ use Rattle.lingua.specs.Answers.{Answer, refused, answered, Verdict, passed, fa
 use Rattle.lingua.specs.Calls.{typeCheckVerdict, typeCheckUnless, typeCheckCall}
 use Rattle.lingua.specs.Computing.{computing}
 use Rattle.lingua.specs.Examples.{two-faults, truths}
-use Rattle.safety.specs.Former.{located, typedAt, formerCheck, formerYoke, formerTest, formerInstruction, formerDeclarations, formerProfile, formerUnless, formerCall}
+use Rattle.safety.specs.Former.{located, typedAt, formerCheck, formerYoke, formerTest, formerInstruction, formerDeclarations, formerScoped, formerProfile, formerUnless, formerCall}
 
 -- both have the same answer, or neither has one
 pub data Alike {E F A : Type 0} : Outcome E A → Outcome F A → Type 0 where
@@ -126,15 +126,16 @@ module _ (vars : Bodies) where
   unfolding checkTest formerTest
   test-alike e p = judged-alike isBoolean (typeError boolean-expected p) (check-alike e no-current-body)
 
-  instruction-alike : (i : Instruction) → Alike (checkInstruction vars i) (formerInstruction vars i)
+  instruction-alike : (procs : ℕ → Bodies) (i : Instruction) → Alike (checkInstruction procs vars i) (formerInstruction procs vars i)
   unfolding checkInstruction formerInstruction
-  instruction-alike (skip r) = answer-alike []
-  instruction-alike (assign r n e) = judged-alike (sameBody (vars n)) (typeError no-coherence (instruction-place + r)) (check-alike e no-current-body)
-  instruction-alike (set-yoke r n y) = yoke-alike y (vars n) (instruction-place + r)
-  instruction-alike (sequence r i j) = answer-alike []
-  instruction-alike (branch r e i j) = test-alike e (instruction-place + r)
-  instruction-alike (loop r e i) = test-alike e (instruction-place + r)
-  instruction-alike (handle r n i) = answer-alike []
+  instruction-alike procs (skip r) = answer-alike []
+  instruction-alike procs (assign r n e) = judged-alike (sameBody (vars n)) (typeError no-coherence (instruction-place + r)) (check-alike e no-current-body)
+  instruction-alike procs (set-yoke r n y) = yoke-alike y (vars n) (instruction-place + r)
+  instruction-alike procs (sequence r i j) = answer-alike []
+  instruction-alike procs (branch r e i j) = test-alike e (instruction-place + r)
+  instruction-alike procs (loop r e i) = test-alike e (instruction-place + r)
+  instruction-alike procs (handle r n i) = answer-alike []
+  instruction-alike procs (call r k vs rs) = unless-alike (givenFit vars (vs ++ rs) (procs k) 0) _ _ (answer-alike [])
 
   -- ---- one after the other
   declarations-alike : (d : ℕ) (ds : List Declaration) → Alike (allAnswers (checkDeclarations vars d ds)) (allAnswers (formerDeclarations vars d ds))
@@ -143,15 +144,19 @@ module _ (vars : Bodies) where
   declarations-alike d (v ∷ ds) =
       then-alike (yoke-alike (v .declared) (v .body) (declaration-place + d)) (λ es. then-alike (declarations-alike (suc d) ds) (λ ess. answer-alike (es ∷ ess)))
 
-  instructions-alike : (is : List Instruction) → Alike (allAnswers (map (λ i. checkInstruction vars i) is)) (allAnswers (map (λ i. formerInstruction vars i) is))
-  unfolding allAnswers
-  instructions-alike [] = answer-alike []
-  instructions-alike (i ∷ is) = then-alike (instruction-alike i) (λ es. then-alike (instructions-alike is) (λ ess. answer-alike (es ∷ ess)))
+scoped-alike : (p : Profile) (i : Scoped) → Alike (checkScoped p i) (formerScoped p i)
+unfolding checkScoped formerScoped
+scoped-alike p i = instruction-alike (scopeBodies p (i .scope)) (λ k. scopeBodies p (suc k)) (i .instruction)
+
+instructions-alike : (p : Profile) (is : List Scoped) → Alike (allAnswers (map (λ i. checkScoped p i) is)) (allAnswers (map (λ i. formerScoped p i) is))
+unfolding allAnswers
+instructions-alike p [] = answer-alike []
+instructions-alike p (i ∷ is) = then-alike (scoped-alike p i) (λ es. then-alike (instructions-alike p is) (λ ess. answer-alike (es ∷ ess)))
 
 pub profile-alike : (p : Profile) → Alike (checkProfile p) (formerProfile p)
 unfolding checkProfile formerProfile
 profile-alike p =
-    then-alike (declarations-alike (bodiesOf (p .declarations)) 0 (p .declarations)) (λ ds. then-alike (instructions-alike (bodiesOf (p .declarations)) (p .instructions)) (λ rs. answer-alike _))
+    then-alike (declarations-alike (bodiesOf (p .declarations)) 0 (allDeclarations p)) (λ ds. then-alike (instructions-alike p (p .instructions)) (λ rs. answer-alike _))
 
 -- the same profiles pass, with the same entries
 pub same-passes : (p : Profile) → answerOf (checkProfile p) ≡ answerOf (formerProfile p)

@@ -3,19 +3,19 @@
 -- `two-runs`, and `demand-3` with what it supposes on the claim's side. Of the checked run alone the invariant holds for every accepted
 -- pair: `checked-holds`. Assumes nothing.
 use mathlib.Core.Path.{_≡_, refl, sym, ap, ap₂, _∙_, subst}
-use mathlib.Core.Bool.{Bool, not, _&&_}
+use mathlib.Core.Bool.{Bool, true, not, _&&_}
 use mathlib.Core.List.{List, [], _∷_, _++_}
 use Prim.Native.Nat.{ℕ, zero, suc, _<_}
 use native.Mathlib.Omega.{arith}
 use lib.Dec.{eqb}
-use lib.ListN.{length}
+use lib.ListN.{length, take}
 use lib.IntN.{ℤ}
 use borrow.Author.Tests.{eq-eqb}
-use Rattle.lingua.specs.Numbers.{cells-length, states-length, variable-bodies-length, layout-length}
+use Rattle.lingua.specs.Numbers.{cells-length, states-length, variable-bodies-length, open-cells-length, open-states-length, present-bodies-length, layout-length}
 use Rattle.lingua.specs.Errors.{bad-buffer, type-error-found}
 use Rattle.lingua.specs.Outcome.{Outcome, ok, isOk}
-use Rattle.lingua.specs.Store.{bodiesIn, flagAt}
-use Rattle.lingua.specs.Run.{lastState}
+use Rattle.lingua.specs.Store.{presentIn}
+use Rattle.lingua.specs.Run.{lastState, openCalls}
 use Rattle.lingua.specs.Typing.{TypeError, Entry, checkProfile, layoutOf}
 use Rattle.lingua.specs.Meets.{runMet}
 use Rattle.lingua.specs.Trees.{profileOf}
@@ -23,14 +23,13 @@ use Rattle.lingua.specs.Format.{rowsOf}
 use Rattle.lingua.specs.Inputs.{Inputs, Buffers}
 use Rattle.lingua.specs.Refusal.{rule, lowest, pairRules, typeCheckRefusal, runFits, runRules, runRefusal, checkedRefusal, erasedRefusal}
 use Rattle.lingua.specs.Answers.{refused}
-use Rattle.lingua.specs.Calls.{CheckedCall, ErasedCall, readingsOf, ran, runOf, withBodies, checkedUnless, checkedCall, withLayout, erasedUnless, erasedCall, typeCheckVerdict, typeCheckUnless, typeCheckCall}
+use Rattle.lingua.specs.Calls.{CheckedCall, ErasedCall, readingsOf, registersOf, ran, runOf, withBodies, checkedUnless, checkedCall, withLayout, erasedUnless, erasedCall, typeCheckVerdict, typeCheckUnless, typeCheckCall}
 use Rattle.laws.specs.Refusals.{lowest-skip}
 use Rattle.safety.specs.RunErrors.{RunErrors}
 use Rattle.safety.specs.RunRules.{none-refuses, passed-refuse}
 use Rattle.safety.specs.Passed.{accepted-safe, rules-readings}
 use Rattle.safety.specs.Recorded.{NoTypeError, accepted-error}
-use Rattle.safety.specs.Invariant.{declaredStore}
-use Rattle.safety.specs.Memory.{HoldsValue, PresentHold, accepted-memory, passed-memory, passed-bodies}
+use Rattle.safety.specs.Memory.{PresentHold, OpenHold, ValuesHold, accepted-memory, accepted-bodies, open-memory, passed-memory, passed-open}
 
 -- ---- what the claim supposes
 -- a pair of files passes: no rule refuses it, and the type check finds no error
@@ -43,15 +42,22 @@ pub record Passes (prof lims : List ℕ) : Type 0 where
 pub record ListedLengths (b : Buffers) (bodies : List ℕ) (b′ : Buffers) (layout : List ℕ) : Type 0 where
   pub cells-are : length (b .cells) ≡ cells-length
   pub states-are : length (b .states) ≡ states-length
-  pub bodies-are : length bodies ≡ variable-bodies-length
+  pub open-cells-are : length (b .open-cells) ≡ open-cells-length
+  pub open-states-are : length (b .open-states) ≡ open-states-length
+  pub bodies-are : length bodies ≡ present-bodies-length
   pub cells′-are : length (b′ .cells) ≡ cells-length
   pub states′-are : length (b′ .states) ≡ states-length
+  pub open-cells′-are : length (b′ .open-cells) ≡ open-cells-length
+  pub open-states′-are : length (b′ .open-states) ≡ open-states-length
   pub layout-is : length layout ≡ layout-length
 
 -- ---- the claim
--- each declared variable whose flag is 1 fits, satisfies its current yoke and lies within the limits
-pub record FilledHold (i : Inputs) (cells : List ℤ) (states : List ℕ) : Type 0 where
-  pub holds : (n : ℕ) → n < length (profileOf (rowsOf (i .profile)) (rowsOf (i .limits)) .declarations) → flagAt states n ≡ 1 → HoldsValue (rowsOf (i .profile)) (rowsOf (i .limits)) cells states n
+-- each of the profile's variables whose flag is 1 holds a value of its declared body, satisfies its current yoke and lies within the limits; so
+-- do those of each open call, of one of the profile's procedures, and behind the open calls all is zero. The present bodies are the checked
+-- run's: all are the declared ones
+pub record FilledHold (i : Inputs) (b : Buffers) (bodies : List ℕ) : Type 0 where
+  pub own : ValuesHold (rowsOf (i .profile)) (profileOf (rowsOf (i .profile)) (rowsOf (i .limits)) .declarations) (b .cells) (b .states) (take variable-bodies-length bodies)
+  pub opens : OpenHold (profileOf (rowsOf (i .profile)) (rowsOf (i .limits))) (ValuesHold (rowsOf (i .profile))) (b .open-cells) (b .open-states) bodies
 
 module _ (i : Inputs) (budget : ℕ) (b : Buffers) (bodies : List ℕ) (c : CheckedCall) (b′ : Buffers) (layout : List ℕ) (d : ErasedCall) where
   -- one number refuses both, and each leaves its own memory as it was
@@ -59,30 +65,27 @@ module _ (i : Inputs) (budget : ℕ) (b : Buffers) (bodies : List ℕ) (c : Chec
     pub number : ℕ
     pub refuses : checkedRefusal i b bodies ≡ number
     pub some : 0 < number
-    pub checked : c ≡ record { answer = refused number; cells = b .cells; states = b .states; bodies = bodies }
-    pub erased : d ≡ record { answer = refused number; cells = b′ .cells; states = b′ .states; layout = layout }
+    pub checked : c ≡ record { answer = refused number; registers = b; bodies = bodies }
+    pub erased : d ≡ record { answer = refused number; registers = b′; layout = layout }
 
   -- neither is refused
   pub record BothRan : Type 0 where
     pub refuses-none : checkedRefusal i b bodies ≡ 0
-    -- alike in end, error, place and steps, in all cells and in all state words
+    -- alike in end, error, place and steps, and in all cells and state words, those of the open calls included
     pub same-answer : d .answer ≡ c .answer
-    pub same-cells : d .cells ≡ c .cells
-    pub same-states : d .states ≡ c .states
+    pub same-registers : d .registers ≡ c .registers
     -- each is the definition's run, whatever its memory held, and the erased run leaves the type check's layout table
     pub entries : List Entry
     pub passed : checkProfile (profileOf (rowsOf (i .profile)) (rowsOf (i .limits))) ≡ ok entries
-    pub checked : c ≡ withBodies (ran budget (runOf i budget)) (bodiesIn (lastState (runOf i budget) .store))
+    pub checked : c ≡ withBodies (ran budget (runOf i budget)) (presentIn (lastState (runOf i budget) .store) (openCalls (runOf i budget)))
     pub erased : d ≡ withLayout (ran budget (runOf i budget)) (layoutOf entries)
     pub layout-as-checked : d .layout ≡ typeCheckCall (i .profile) (i .limits) layout .layout
-    -- no variable has another body than the declared one
-    pub declared-bodies : c .bodies ≡ bodiesIn (declaredStore (profileOf (rowsOf (i .profile)) (rowsOf (i .limits))))
     -- no type error is met, and none recorded
     pub meets : RunErrors (runMet (profileOf (rowsOf (i .profile)) (rowsOf (i .limits))) (readingsOf (i .variables) (i .numbers)) budget)
     pub recorded : NoTypeError (lastState (runOf i budget) .error)
-    -- what is filled in either memory
-    pub checked-filled : FilledHold i (c .cells) (c .states)
-    pub erased-filled : FilledHold i (d .cells) (d .states)
+    -- what is filled in either memory; no variable has another body than the declared one
+    pub checked-filled : FilledHold i (c .registers) (c .bodies)
+    pub erased-filled : FilledHold i (d .registers) (c .bodies)
 
   -- document 01: both runs are refused by the same number, or neither is
   pub data TwoRuns : Type 0 where
@@ -95,9 +98,9 @@ module _ (i : Inputs) (budget : ℕ) (b : Buffers) (bodies : List ℕ) (c : Chec
 
 -- ---- one number refuses both
 -- rule 1 does not apply to present bodies of the listed length
-pub checked-shares : (i : Inputs) (b : Buffers) (bodies : List ℕ) → length bodies ≡ variable-bodies-length → checkedRefusal i b bodies ≡ runRefusal i b
+pub checked-shares : (i : Inputs) (b : Buffers) (bodies : List ℕ) → length bodies ≡ present-bodies-length → checkedRefusal i b bodies ≡ runRefusal i b
 unfolding checkedRefusal runRefusal
-checked-shares i b bodies l = ap (λ (t : Bool). lowest (runRules (t && runFits i b) i)) (eq-eqb (length bodies) variable-bodies-length l)
+checked-shares i b bodies l = ap (λ (t : Bool). lowest (runRules (t && runFits i b) i)) (eq-eqb (length bodies) present-bodies-length l)
 
 -- rule 17 does not apply to a pair that passes, nor rule 1 to a layout table of the listed length
 pub erased-shares : (i : Inputs) (b : Buffers) (layout : List ℕ) → length layout ≡ layout-length
@@ -107,11 +110,18 @@ erased-shares i b layout l es e =
     ap (λ (t : Bool). lowest (runRules (t && runFits i b) i ++ (rule type-error-found (not (isOk (checkProfile (profileOf (rowsOf (i .profile)) (rowsOf (i .limits)))))) ∷ []))) (eq-eqb (length layout) layout-length l)
     ∙ passed-refuse i (runFits i b) _ (ap (λ (o : Outcome TypeError (List Entry)). not (isOk o)) e)
 
--- of the cells and the state words the rules see the lengths alone
-same-lengths : (i : Inputs) (b b′ : Buffers) → length (b .cells) ≡ length (b′ .cells) → length (b .states) ≡ length (b′ .states) → runRefusal i b ≡ runRefusal i b′
-unfolding runRefusal runFits
-same-lengths i b b′ c s =
-    ap₂ (λ (n m : ℕ). lowest (runRules (eqb (length (i .variables)) (length (i .numbers)) && eqb n cells-length && eqb m states-length) i)) c s
+-- of the registers the rules see the lengths alone, and these are as listed in both
+fits-listed : (i : Inputs) (b : Buffers) → length (b .cells) ≡ cells-length → length (b .states) ≡ states-length → length (b .open-cells) ≡ open-cells-length → length (b .open-states) ≡ open-states-length
+    → runFits i b ≡ (eqb (length (i .variables)) (length (i .numbers)) && true && true && true && true)
+unfolding runFits
+fits-listed i b c s oc os =
+    rw (eq-eqb (length (b .cells)) cells-length c, eq-eqb (length (b .states)) states-length s, eq-eqb (length (b .open-cells)) open-cells-length oc, eq-eqb (length (b .open-states)) open-states-length os)
+
+same-lengths : (i : Inputs) (b : Buffers) (bodies : List ℕ) (b′ : Buffers) (layout : List ℕ) → ListedLengths b bodies b′ layout → runRefusal i b ≡ runRefusal i b′
+unfolding runRefusal
+same-lengths i b bodies b′ layout l =
+    ap (λ (t : Bool). lowest (runRules t i))
+    (fits-listed i b (l .cells-are) (l .states-are) (l .open-cells-are) (l .open-states-are) ∙ sym (fits-listed i b′ (l .cells′-are) (l .states′-are) (l .open-cells′-are) (l .open-states′-are)))
 
 -- ---- the layout table of a pair that passes
 pub passed-layout : (prof lims layout : List ℕ) (p : Passes prof lims) → length layout ≡ layout-length → typeCheckCall prof lims layout .layout ≡ layoutOf (p .entries)
@@ -124,26 +134,27 @@ passed-layout prof lims layout p l =
 -- ---- the claim about the definitions' calls
 module _ (i : Inputs) (budget : ℕ) (b : Buffers) (bodies : List ℕ) (b′ : Buffers) (layout : List ℕ) (p : Passes (i .profile) (i .limits)) (listed : ListedLengths b bodies b′ layout) where
   ran-both : checkedRefusal i b bodies ≡ 0 → BothRan i budget b bodies (checkedUnless 0 i budget b bodies) b′ layout (erasedUnless 0 i budget b′ layout)
-  unfolding ran runOf checkedUnless erasedUnless
+  unfolding ran registersOf runOf checkedUnless erasedUnless
   ran-both z =
       let readings = readingsOf (i .variables) (i .numbers) in
       let numeric = rules-readings i b (sym (checked-shares i b bodies (listed .bodies-are)) ∙ z) in
-      let holds = passed-memory (i .profile) (i .limits) (p .accepted) (p .entries) (p .checked) readings numeric budget in
+      let own = passed-memory (i .profile) (i .limits) (p .accepted) (p .entries) (p .checked) readings numeric budget in
+      let same = accepted-bodies (i .profile) (i .limits) (p .accepted) readings budget in
+      let filled : FilledHold i (registersOf (runOf i budget)) (presentIn (lastState (runOf i budget) .store) (openCalls (runOf i budget))) =
+      record { own = record { values = own .values; declared = same ∙ own .declared }; opens = passed-open (i .profile) (i .limits) (p .accepted) (p .entries) (p .checked) readings numeric budget } in
       record {
         refuses-none = z;
         same-answer = refl;
-        same-cells = refl;
-        same-states = refl;
+        same-registers = refl;
         entries = p .entries;
         passed = p .checked;
         checked = refl;
         erased = ap (withLayout (ran budget (runOf i budget))) (passed-layout (i .profile) (i .limits) layout p (listed .layout-is));
         layout-as-checked = refl;
-        declared-bodies = passed-bodies (i .profile) (i .limits) (p .accepted) (p .entries) (p .checked) readings numeric budget;
         meets = accepted-safe (i .profile) (i .limits) (p .accepted) (p .entries) (p .checked) readings numeric budget;
         recorded = accepted-error (i .profile) (i .limits) (p .accepted) (p .entries) (p .checked) readings numeric budget;
-        checked-filled = record { holds = holds };
-        erased-filled = record { holds = holds };
+        checked-filled = filled;
+        erased-filled = filled;
       }
 
   by-number : (k : ℕ) → checkedRefusal i b bodies ≡ k → TwoRuns i budget b bodies (checkedUnless k i budget b bodies) b′ layout (erasedUnless k i budget b′ layout)
@@ -157,7 +168,7 @@ module _ (i : Inputs) (budget : ℕ) (b : Buffers) (bodies : List ℕ) (b′ : B
       let k : ℕ = checkedRefusal i b bodies in
       let same : k ≡ erasedRefusal i b′ layout =
       checked-shares i b bodies (listed .bodies-are)
-      ∙ same-lengths i b b′ (listed .cells-are ∙ sym (listed .cells′-are)) (listed .states-are ∙ sym (listed .states′-are))
+      ∙ same-lengths i b bodies b′ layout listed
       ∙ sym (erased-shares i b′ layout (listed .layout-is) (p .entries) (p .checked)) in
       subst (λ (j : ℕ). TwoRuns i budget b bodies (checkedUnless k i budget b bodies) b′ layout (erasedUnless j i budget b′ layout)) same (by-number k refl)
 
@@ -174,17 +185,24 @@ module _ (i : Inputs) (budget : ℕ) (b : Buffers) (bodies : List ℕ) (b′ : B
   demand-3 e e′ = record { claim = two-runs e e′ }
 
 -- ---- the invariant about one call of the checked run, by its contract: every accepted pair, whether or not it passes
--- what is said of each declared variable, where the call is not refused
+-- what is said of each declared variable and of those of each open call, where the call is not refused
 pub record CheckedHolds (i : Inputs) (b : Buffers) (bodies : List ℕ) (c : CheckedCall) : Type 0 where
-  pub holds : checkedRefusal i b bodies ≡ 0 → PresentHold (rowsOf (i .profile)) (rowsOf (i .limits)) (c .cells) (c .states) (c .bodies)
+  pub holds : checkedRefusal i b bodies ≡ 0
+      → PresentHold (rowsOf (i .profile)) (profileOf (rowsOf (i .profile)) (rowsOf (i .limits)) .declarations) (c .registers .cells) (c .registers .states) (take variable-bodies-length (c .bodies))
+  pub open-holds : checkedRefusal i b bodies ≡ 0
+      → OpenHold (profileOf (rowsOf (i .profile)) (rowsOf (i .limits))) (PresentHold (rowsOf (i .profile))) (c .registers .open-cells) (c .registers .open-states) (c .bodies)
 
 pub checked-holds : (i : Inputs) (budget : ℕ) (b : Buffers) (bodies : List ℕ) (c : CheckedCall) → c ≡ checkedCall i budget b bodies → CheckedHolds i b bodies c
-unfolding checkedCall checkedUnless ran runOf checkedRefusal
+unfolding checkedCall checkedUnless ran registersOf runOf checkedRefusal
 checked-holds i budget b bodies c e =
     record {
       holds = λ z.
-          let accepted = none-refuses i _ z .0 in
-          let whole = e ∙ ap (λ (k : ℕ). checkedUnless k i budget b bodies) z in
-          subst (λ (d : CheckedCall). PresentHold (rowsOf (i .profile)) (rowsOf (i .limits)) (d .cells) (d .states) (d .bodies)) (sym whole)
-          (accepted-memory (i .profile) (i .limits) accepted (readingsOf (i .variables) (i .numbers)) budget);
+          subst (λ (d : CheckedCall). PresentHold (rowsOf (i .profile)) (profileOf (rowsOf (i .profile)) (rowsOf (i .limits)) .declarations) (d .registers .cells) (d .registers .states) (take variable-bodies-length (d .bodies))) (sym (whole z))
+          (accepted-memory (i .profile) (i .limits) (none-refuses i _ z .0) (readingsOf (i .variables) (i .numbers)) budget);
+      open-holds = λ z.
+          subst (λ (d : CheckedCall). OpenHold (profileOf (rowsOf (i .profile)) (rowsOf (i .limits))) (PresentHold (rowsOf (i .profile))) (d .registers .open-cells) (d .registers .open-states) (d .bodies)) (sym (whole z))
+          (open-memory (i .profile) (i .limits) (none-refuses i _ z .0) (readingsOf (i .variables) (i .numbers)) budget);
     }
+  where
+    whole : checkedRefusal i b bodies ≡ 0 → c ≡ checkedUnless 0 i budget b bodies
+    whole z = (unfold checkedCall in e) ∙ ap (λ (k : ℕ). checkedUnless k i budget b bodies) z
