@@ -13,7 +13,7 @@ use Rattle.lingua.specs.Rows.{word16}
 use Rattle.lingua.specs.Format.{File, profile, blockCount, marker, blockAt, everyBelow, lengthWrong, markerWrong, headerFits, headerWrong, blockCheckWrong, modelOf, emptyBlock}
 use Rattle.lingua.specs.Errors.{no-error, bad-length, bad-marker, bad-header, bad-check}
 use Rattle.lingua.specs.Value.{allOf}
-use Rattle.lingua.specs.Refusal.{lowest, fileRules}
+use Rattle.lingua.specs.Refusal.{rank, placeIn, lowest, fileRules}
 use Rattle.laws.specs.Refusals.{lowest-nil, lowest-skip, lowest-first}
 use Rattle.laws.specs.Tests.{every-false, every-more}
 use Rattle.laws.specs.Written.{length-marker}
@@ -105,22 +105,22 @@ header-none f file e = ap (λ (n : ℕ). not (everyBelow n (λ k. headerFits f f
 -- ---- the lowest of the four
 module _ (f : File) (file : List ℕ) where
   pub refused-length : lengthWrong f file ≡ true → lowest (fileRules f file) ≡ bad-length
-  unfolding fileRules allOf
+  unfolding fileRules allOf rank placeIn
   refused-length a = lowest-first bad-length (lengthWrong f file) _ a refl
 
   pub refused-marker : lengthWrong f file ≡ false → markerWrong f file ≡ true → lowest (fileRules f file) ≡ bad-marker
-  unfolding fileRules allOf
+  unfolding fileRules allOf rank placeIn
   refused-marker a b = lowest-skip bad-length (lengthWrong f file) _ a ∙ lowest-first bad-marker (markerWrong f file) _ b refl
 
   pub refused-header : lengthWrong f file ≡ false → markerWrong f file ≡ false → headerWrong f file ≡ true → lowest (fileRules f file) ≡ bad-header
-  unfolding fileRules allOf
+  unfolding fileRules allOf rank placeIn
   refused-header a b d =
       lowest-skip bad-length (lengthWrong f file) _ a ∙ lowest-skip bad-marker (markerWrong f file) _ b
       ∙ lowest-first bad-header (headerWrong f file) _ d refl
 
   pub refused-check : lengthWrong f file ≡ false → markerWrong f file ≡ false → headerWrong f file ≡ false → blockCheckWrong file ≡ true
       → lowest (fileRules f file) ≡ bad-check
-  unfolding fileRules allOf
+  unfolding fileRules allOf rank placeIn
   refused-check a b d e =
       lowest-skip bad-length (lengthWrong f file) _ a ∙ lowest-skip bad-marker (markerWrong f file) _ b
       ∙ lowest-skip bad-header (headerWrong f file) _ d ∙ lowest-first bad-check (blockCheckWrong file) _ e refl

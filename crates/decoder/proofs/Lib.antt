@@ -1,4 +1,6 @@
 pub mod Counting
+pub mod Scoped
+pub mod Grouped
 pub mod Runs
 pub mod Decoding
 pub mod Short

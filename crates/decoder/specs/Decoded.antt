@@ -8,7 +8,7 @@ use Rattle.lingua.specs.Body.{Body, boolean, number, word}
 use Rattle.lingua.specs.Operation.{Unary, negation, make-record, select, make-list, top, pop, remove, Binary, add, subtract, multiply, divide, less, equal, glue, expand, change, push}
 use Rattle.lingua.specs.Operations.{unaryMeaning, binaryMeaning}
 use Rattle.lingua.specs.Expression.{Connective, conjunction, disjunction}
-use Rattle.lingua.specs.Rows.{kindAt, wideAt, numberAt, bytesAt, RowKind, numbered, usedOf, TypeRow, simple-type, list-type, record-type, expand-type, unknown-type, typeKinds, typeAt, Constant, boolean-constant, number-constant, word-constant, ExpressionRow, constant-row, variable-row, current-row, unary-row, binary-row, lazy-row, choice-row, all-list-row, unknown-expression, expressionKinds, expressionAt, InstructionRow, skip-row, assign-row, set-yoke-row, sequence-row, branch-row, loop-row, handle-row, unknown-instruction, instructionKinds, instructionAt}
+use Rattle.lingua.specs.Rows.{kindAt, wideAt, numberAt, bytesAt, RowKind, numbered, usedOf, TypeRow, simple-type, list-type, record-type, expand-type, unknown-type, typeKinds, typeAt, Constant, boolean-constant, number-constant, word-constant, ExpressionRow, constant-row, variable-row, current-row, unary-row, binary-row, lazy-row, choice-row, all-list-row, unknown-expression, expressionKinds, expressionAt, InstructionRow, skip-row, assign-row, set-yoke-row, sequence-row, branch-row, loop-row, handle-row, call-row, unknown-instruction, instructionKinds, instructionAt}
 use Rattle.lingua.specs.Rules.{unaryAttribute, binaryAttribute}
 use Rattle.decoder.specs.declared.decode.Simple.{Simple}
 use Rattle.decoder.specs.declared.decode.Simple.the-variants as simple
@@ -146,6 +146,7 @@ instructionMeaning (does.Sequence i j) = sequence-row i j
 instructionMeaning (does.Branch e i j) = branch-row e i j
 instructionMeaning (does.Loop e i) = loop-row e i
 instructionMeaning (does.Handle n i) = handle-row n i
+instructionMeaning (does.Call k b c) = call-row k b c
 
 unfoldable pub instructionDecoded : DecodedInstruction → InstructionRow
 instructionDecoded decoded-instruction.Unknown = unknown-instruction

@@ -1,4 +1,5 @@
 pub mod Tables
+pub mod Headers
 pub mod Decoded
 pub mod Reads
 pub mod Mentions

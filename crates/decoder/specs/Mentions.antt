@@ -6,7 +6,7 @@ use Prim.Native.Nat.{ℕ}
 use lib.ListN.{take}
 use Rattle.lingua.specs.Rows.{TypeRow, ExpressionRow, InstructionRow, operands, parts, evaluated, yokeSet}
 use Rattle.lingua.specs.Rules.{attributesFit, typeAttributes, expressionAttributes, handledErrors}
-use Rattle.lingua.specs.References.{typeParts, expressionVariables, instructionVariables}
+use Rattle.lingua.specs.References.{typeParts, expressionVariables, instructionVariables, onCall}
 use Rattle.decoder.specs.Decoded.{typeMeaning, expressionMeaning, instructionMeaning}
 use Rattle.decoder.specs.Reads.{readsRow}
 use Rattle.decoder.specs.declared.mentions.UpToThree.{UpToThree}
@@ -42,3 +42,4 @@ pub record InstructionAlike (row : CodeInstruction) (x : InstructionRow) : Type 
   pub evaluated : evaluated (instructionMeaning row) ≡ evaluated x
   pub assigned : instructionVariables (instructionMeaning row) ≡ instructionVariables x
   pub yoke : yokeSet (instructionMeaning row) ≡ yokeSet x
+  pub calls : (f : ℕ → ℕ → ℕ → Bool) → onCall (instructionMeaning row) f ≡ onCall x f

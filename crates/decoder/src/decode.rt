@@ -39,7 +39,8 @@ pub enum ExpressionRow {
     AllList(usize),
 }
 
-// An instruction row: variables, expressions, yokes and parts are given by number.
+// An instruction row: variables, expressions, yokes and parts are given by number. A call has its procedure, then the variables given by
+// value and by reference, four bits each.
 pub enum InstructionRow {
     Skip,
     Assign(usize, usize),
@@ -48,6 +49,7 @@ pub enum InstructionRow {
     Branch(usize, usize, usize),
     Loop(usize, usize),
     Handle(usize, usize),
+    Call(usize, usize, usize),
 }
 
 // The bytes that a known row uses, and the row.
@@ -153,6 +155,7 @@ pub fn instruction_at(rows: &[u8], i: usize) -> DecodedInstruction
         5 => DecodedInstruction::Known(6, InstructionRow::Branch(a, b, c)),
         6 => DecodedInstruction::Known(4, InstructionRow::Loop(a, b)),
         7 => DecodedInstruction::Known(4, InstructionRow::Handle(a, b)),
+        8 => DecodedInstruction::Known(6, InstructionRow::Call(a, b, c)),
         _ => DecodedInstruction::Unknown,
     }
 }

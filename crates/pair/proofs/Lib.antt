@@ -1,3 +1,4 @@
+pub mod Ranks
 pub mod Returns
 pub mod Pairs
 pub mod Given

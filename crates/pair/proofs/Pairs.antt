@@ -1,10 +1,10 @@
--- The lowest rule of both files: the lower of the two files' own, then the rules of both together. Assumes nothing.
+-- The first rule of both files: the earlier of the two files' own, then the rules of both together. Assumes nothing.
 use mathlib.Core.Path.{_≡_, refl, sym, ap, ap₂, _∙_, subst}
 use mathlib.Core.Bool.{Bool, true, false, not, _&&_}
 use mathlib.Core.List.{List, [], _∷_, _++_, append-assoc, append-nil}
 use Prim.Native.Nat.{ℕ, zero, suc, _<_, _≤_}
 use native.Mathlib.Omega.{arith}
-use lib.Dec.{eqb, ltb}
+use lib.Dec.{eqb}
 use lib.ListN.{length, take}
 use borrow.Author.Tests.{eq-eqb, ne-eqb, lt-ltb, le-ltb}
 use Rattle.lingua.specs.Numbers.{declaration-section, type-section, limit-section}
@@ -13,8 +13,8 @@ use Rattle.lingua.specs.Outcome.{if_then_else_}
 use Rattle.lingua.specs.Value.{allOf}
 use Rattle.lingua.specs.Rows.{tableCount}
 use Rattle.lingua.specs.Format.{File, profile, limits, modelOf, rowsOf}
-use Rattle.lingua.specs.Refusal.{Rule, rule, lowest, fileRules, rowRules, wholeFileRules, limitWrong, pairRules}
-use Rattle.laws.specs.Refusals.{lowest-nil, lowest-skip, lowest-first, Decides, first, second, decides}
+use Rattle.lingua.specs.Refusal.{Rule, rule, rank, placeIn, lowest, fileRules, rowRules, wholeFileRules, limitWrong, pairRules}
+use Rattle.laws.specs.Refusals.{before, lowest-nil, lowest-skip, lowest-first, Decides, first, second, decides}
 use Rattle.laws.specs.Lowest.{lesser, lowest-append}
 use Rattle.safety.specs.Accepted.{AcceptedRows, accepted-rows}
 use Rattle.pair.proofs.Returns.{none-of-either, header-there}
@@ -25,7 +25,7 @@ use Rattle.rules.specs.Types.{BodiesBelow}
 use Rattle.pair.specs.declared.Pair.{Pair}
 use Rattle.pair.specs.Pair.{PairIs}
 
--- ---- the lower of two refusals
+-- ---- the earlier of two refusals
 pub lower-first : (a b : ℕ) → (a ≡ 0 → ⊥) → b ≡ 0 → a ≡ lesser a b
 unfolding lesser
 lower-first zero b h e = absurd (h refl)
@@ -37,24 +37,24 @@ unfolding lesser
 lower-none zero b e = refl
 lower-none (suc a) b e = absurd (let z : ⊥ = omega (arith, e) in z)
 
-pub lower-less : (a b : ℕ) → (a ≡ 0 → ⊥) → (b ≡ 0 → ⊥) → a < b → a ≡ lesser a b
+pub lower-less : (a b : ℕ) → (a ≡ 0 → ⊥) → (b ≡ 0 → ⊥) → rank a < rank b → a ≡ lesser a b
 unfolding lesser
 lower-less zero b h k l = absurd (h refl)
 lower-less (suc a) zero h k l = absurd (k refl)
-lower-less (suc a) (suc b) h k l = rw (lt-ltb a b (omega arith))
+lower-less (suc a) (suc b) h k l = rw (lt-ltb (rank (suc a)) (rank (suc b)) l)
 
-pub lower-other : (a b : ℕ) → (a ≡ 0 → ⊥) → (b ≡ 0 → ⊥) → b ≤ a → b ≡ lesser a b
+pub lower-other : (a b : ℕ) → (a ≡ 0 → ⊥) → (b ≡ 0 → ⊥) → rank b ≤ rank a → b ≡ lesser a b
 unfolding lesser
 lower-other zero b h k l = absurd (h refl)
 lower-other (suc a) zero h k l = absurd (k refl)
-lower-other (suc a) (suc b) h k l = rw (le-ltb a b (omega arith))
+lower-other (suc a) (suc b) h k l = rw (le-ltb (rank (suc a)) (rank (suc b)) l)
 
 -- none of both is none of each
 pub none-of-two : (a b : ℕ) → lesser a b ≡ 0 → (a ≡ 0) × (b ≡ 0)
 unfolding lesser
 none-of-two zero b e = (refl, e)
 none-of-two (suc a) zero e = absurd (let z : ⊥ = omega (arith, e) in z)
-none-of-two (suc a) (suc b) e = absurd (by (ltb a b) e)
+none-of-two (suc a) (suc b) e = absurd (by (before (suc a) (suc b)) e)
   where
     by : (t : Bool) → (if t then suc a else suc b) ≡ 0 → ⊥
     by true e = omega (arith, e)
@@ -72,12 +72,12 @@ unfolding pairRules
 pair-parts prof lims = sym (append-assoc (wholeFileRules profile prof) (wholeFileRules limits lims) (both prof lims))
 
 own-lowest : (prof lims : List ℕ) → lowest (own prof lims) ≡ lesser (lowest (wholeFileRules profile prof)) (lowest (wholeFileRules limits lims))
-unfolding wholeFileRules fileRules rowRules allOf
+unfolding wholeFileRules fileRules rowRules allOf rank placeIn
 own-lowest prof lims = lowest-append (wholeFileRules profile prof) (wholeFileRules limits lims) refl
 
-own-decides : (prof lims : List ℕ) → Decides 13 (own prof lims) (both prof lims)
-unfolding wholeFileRules fileRules rowRules allOf
-own-decides prof lims = decides 13 (own prof lims) (both prof lims) refl refl
+own-decides : (prof lims : List ℕ) → Decides 19 (own prof lims) (both prof lims)
+unfolding wholeFileRules fileRules rowRules allOf rank placeIn
+own-decides prof lims = decides 19 (own prof lims) (both prof lims) refl refl
 
 module _ (prof lims : List ℕ) (p l : ℕ) (hp : p ≡ lowest (wholeFileRules profile prof)) (hl : l ≡ lowest (wholeFileRules limits lims)) where
   lesser-own : lesser p l ≡ lowest (own prof lims)
@@ -86,19 +86,19 @@ module _ (prof lims : List ℕ) (p l : ℕ) (hp : p ≡ lowest (wholeFileRules p
   pub pair-own : (n : ℕ) → n ≡ lesser p l → (n ≡ 0 → ⊥) → n ≡ lowest (pairRules prof lims)
   pair-own n e h = rw (pair-parts prof lims) (go (own-decides prof lims))
     where
-      go : Decides 13 (own prof lims) (both prof lims) → n ≡ lowest (own prof lims ++ both prof lims)
+      go : Decides 19 (own prof lims) (both prof lims) → n ≡ lowest (own prof lims ++ both prof lims)
       go (second z d) = absurd (h (e ∙ lesser-own ∙ z))
       go (first a b d) = e ∙ lesser-own ∙ sym d
 
   pair-both : lesser p l ≡ 0 → lowest (pairRules prof lims) ≡ lowest (both prof lims)
   pair-both z = rw (pair-parts prof lims) (go (own-decides prof lims))
     where
-      go : Decides 13 (own prof lims) (both prof lims) → lowest (own prof lims ++ both prof lims) ≡ lowest (both prof lims)
+      go : Decides 19 (own prof lims) (both prof lims) → lowest (own prof lims ++ both prof lims) ≡ lowest (both prof lims)
       go (second y d) = d
       go (first a b d) = absurd (let k : ⊥ = omega (arith, sym lesser-own ∙ z) in k)
 
   pub pair-models : lesser p l ≡ 0 → (modelOf prof ≡ modelOf lims → ⊥) → models-differ ≡ lowest (pairRules prof lims)
-  unfolding allOf
+  unfolding allOf rank placeIn
   pair-models z h = sym (pair-both z ∙ lowest-first models-differ _ (rule bad-limit (limitWrong (rowsOf prof) (rowsOf lims)) ∷ []) (ap not (ne-eqb (modelOf prof) (modelOf lims) h)) refl)
 
   past-models : lesser p l ≡ 0 → modelOf prof ≡ modelOf lims → lowest (pairRules prof lims) ≡ lowest (rule bad-limit (limitWrong (rowsOf prof) (rowsOf lims)) ∷ [])

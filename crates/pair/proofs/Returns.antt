@@ -14,7 +14,7 @@ use Rattle.lingua.specs.Errors.{bad-buffer}
 use Rattle.lingua.specs.Value.{allOf, pad}
 use Rattle.lingua.specs.Rows.{rowCount, tableCount}
 use Rattle.lingua.specs.Format.{File, profile, limits, blockCount, blocksFor, modelOf, rowsOf, fileOf, fileLength}
-use Rattle.lingua.specs.Refusal.{lowest, fileRules, rowRules, wholeFileRules, readRefusal, writeRefusal}
+use Rattle.lingua.specs.Refusal.{rank, placeIn, lowest, fileRules, rowRules, wholeFileRules, readRefusal, writeRefusal}
 use Rattle.lingua.specs.Answers.{readMeaning, writeMeaning}
 use Rattle.lingua.specs.declared.ReadAnswer.the-variants as read-answer
 use Rattle.lingua.specs.declared.WriteAnswer.the-variants as write-answer
@@ -32,7 +32,7 @@ use Rattle.laws.specs.Refusals.{lowest-skip, lowest-first, Decides, first, seco
 
 -- ---- a file's own rules, then its rows'
 by-parts : (f : File) (file : List ℕ) → Decides 5 (fileRules f file) (rowRules f (rowsOf file))
-unfolding fileRules rowRules allOf
+unfolding fileRules rowRules allOf rank placeIn
 by-parts profile file = decides 5 (fileRules profile file) (rowRules profile (rowsOf file)) refl refl
 by-parts limits file = decides 5 (fileRules limits file) (rowRules limits (rowsOf file)) refl refl
 
@@ -63,7 +63,7 @@ none-of-either f file e = go (by-parts f file)
 
 -- ---- the reader
 above-one : (f : File) (file : List ℕ) → allAbove 1 (wholeFileRules f file) ≡ true
-unfolding wholeFileRules fileRules rowRules allOf
+unfolding wholeFileRules fileRules rowRules allOf rank placeIn
 above-one profile file = refl
 above-one limits file = refl
 
@@ -93,7 +93,7 @@ read-done f file buffer out model count l e p q r = rw (refusal-is f file buffer
 
 -- ---- the writer
 rows-above : (f : File) (rows : List ℕ) → allAbove 1 (rowRules f rows) ≡ true
-unfolding rowRules allOf
+unfolding rowRules allOf rank placeIn
 rows-above profile rows = refl
 rows-above limits rows = refl
 
@@ -181,8 +181,8 @@ taken-length t f file areas bodies h z =
 pub rows-written : (t : Taken) (f : File) (file areas bodies out : List ℕ) (n : ℕ) → TakenIs t f file areas bodies → t .refusal ≡ 0 → n ≡ rows-length → out ≡ pad n 0 (take (t .length) areas) → out ≡ pad rows-length 0 (rowsOf file)
 rows-written t f file areas bodies out n h z l e = e ∙ ap₂ (λ (k : ℕ) (rows : List ℕ). pad k 0 rows) l (h .taken z .rows)
 
--- the file of accepted rows has at most seventeen blocks
-pub file-short : (f : File) (rows : List ℕ) → lowest (rowRules f rows) ≡ 0 → fileLength f (rowCount rows) ≤ 8704
+-- the file of accepted rows has at most twenty-two blocks
+pub file-short : (f : File) (rows : List ℕ) → lowest (rowRules f rows) ≡ 0 → fileLength f (rowCount rows) ≤ 11264
 unfolding fileLength blocksFor
 file-short profile rows e = omega (arith, accepted-rows profile rows e)
 file-short limits rows e = omega arith

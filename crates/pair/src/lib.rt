@@ -1,4 +1,4 @@
-// Both files taken whole: the lowest number over both, or their rows and the bodies of the profile's types.
+// Both files taken whole: the first number in order over both, or their rows and the bodies of the profile's types.
 use crate::file::take;
 use blocks::words::word16_at;
 use decoder::tables::Table;
@@ -6,16 +6,19 @@ use decoder::tables::Tables;
 use decoder::tables::no_tables;
 use lingua::FileKind;
 use lingua::errors::BAD_LIMIT;
+use lingua::errors::BAD_PARAMETERS;
 use lingua::errors::MODELS_DIFFER;
 use lingua::errors::NO_ERROR;
+use lingua::errors::REPEATED_REFERENCE;
 use profile::agreement::limit_wrong;
 ghost use mathlib.Core.Path.{_≡_};
+ghost use Rattle.lingua.specs.Refusal.{rank};
 ghost use Rattle.laws.specs.Lowest.{lesser};
 ghost use Rattle.pair.specs.Pair.{Room, PairIs};
 
 pub mod file; // file.rt: one file
 
-// The lowest rule of both files, 0 where none applies; then their rows are so many bytes, the profile's in these tables, and the limits in
+// The first rule of both files, 0 where none applies; then their rows are so many bytes, the profile's in these tables, and the limits in
 // this one.
 pub struct Pair {
     pub refusal: u8,
@@ -25,7 +28,23 @@ pub struct Pair {
     pub named: Table,
 }
 
-// The lower of two refusals, where 0 is none.
+// Where a refusal stands in the order: 18 and 19 come behind 13, and 14 to 17 behind them.
+fn rank(n: u8) -> u8
+    ensures { λ r. ⌜ r ≡ rank n ⌝ }
+{
+    if n < MODELS_DIFFER {
+        return n;
+    }
+    if n < BAD_PARAMETERS {
+        return n + 2;
+    }
+    if n <= REPEATED_REFERENCE {
+        return n - 4;
+    }
+    20
+}
+
+// The earlier of two refusals, where 0 is none.
 fn lower(a: u8, b: u8) -> u8
     ensures { λ r. ⌜ r ≡ lesser a b ⌝ }
 {
@@ -35,7 +54,7 @@ fn lower(a: u8, b: u8) -> u8
     if b == 0 {
         return a;
     }
-    if a < b {
+    if rank(a) < rank(b) {
         return a;
     }
     b

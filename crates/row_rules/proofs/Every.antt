@@ -77,6 +77,22 @@ module _ (a b c d : Bool) where
   pub fourth-4 : a ≡ true → b ≡ true → c ≡ true → not d ≡ not (a && b && c && d)
   fourth-4 p q r = rw (p, q, r)
 
+module _ (a b c d e : Bool) where
+  pub fifth-1 : a ≡ false → true ≡ not (a && b && c && d && e)
+  fifth-1 p = rw p
+
+  pub fifth-2 : a ≡ true → b ≡ false → true ≡ not (a && b && c && d && e)
+  fifth-2 p q = rw (p, q)
+
+  pub fifth-3 : a ≡ true → b ≡ true → c ≡ false → true ≡ not (a && b && c && d && e)
+  fifth-3 p q r = rw (p, q, r)
+
+  pub fifth-4 : a ≡ true → b ≡ true → c ≡ true → d ≡ false → true ≡ not (a && b && c && d && e)
+  fifth-4 p q r s = rw (p, q, r, s)
+
+  pub fifth-5 : a ≡ true → b ≡ true → c ≡ true → d ≡ true → not e ≡ not (a && b && c && d && e)
+  fifth-5 p q r s = rw (p, q, r, s)
+
 pub and-left : (a b : Bool) → (a && b) ≡ true → a ≡ true
 and-left true b e = refl
 and-left false b e = e

@@ -1,6 +1,6 @@
 -- What makes the tests of form and counts: the bytes that a row uses, and what each test needs of a row. Assumes nothing.
 use mathlib.Core.Path.{_≡_, refl, sym, ap, _∙_, subst}
-use mathlib.Core.Bool.{true, false, not, _&&_}
+use mathlib.Core.Bool.{Bool, true, false, not, _&&_}
 use mathlib.Core.List.{List, [], _∷_}
 use mathlib.Core.Logic.{⊎-elim}
 use mathlib.Core.Option.{Option, some, none}
@@ -10,11 +10,12 @@ use native.Mathlib.Omega.{arith}
 use lib.Dec.{eqb, ltb, leb·zero}
 use lib.ListN.{getD, drop}
 use borrow.Author.Tests.{ne-eqb, lt-ltb, le-ltb, le-leb, lt-leb}
+use Rattle.lingua.specs.Numbers.{scopeTable}
 use Rattle.lingua.specs.Rows.{numbered, usedOf, typeKinds, expressionKinds, instructionKinds, sectionAt, kindAt, bytesAt, rowIn, tableCount, pairCount, nameRow}
 use Rattle.lingua.specs.Format.{File, profile, limits, allZero, everyBelow}
 use Rattle.lingua.specs.Compute.{sameText}
 use Rattle.lingua.specs.Trees.{nameAt}
-use Rattle.lingua.specs.Rules.{namedSection, isName, isNew, nameWrong, usedBytes, sectionBelongs, bytesFit, rowFits, paired, between, countWrong}
+use Rattle.lingua.specs.Rules.{isName, isNew, namesFit, usedBytes, sectionBelongs, bytesFit, rowFits, paired, between, countWrong}
 use Rattle.decoder.specs.Tables.{IsTable, AreTables}
 use Rattle.decoder.specs.declared.tables.Table.{Table}
 use Rattle.decoder.specs.declared.tables.Tables.{Tables}
@@ -58,9 +59,24 @@ module _ (s k : ℕ) where
   unfolding usedBytes
   used-limit e = rw e
 
-pub used-none : (s k : ℕ) → (s ≡ 1 → ⊥) → (s ≡ 2 → ⊥) → (s ≡ 3 → ⊥) → (s ≡ 4 → ⊥) → (s ≡ 5 → ⊥) → 0 ≡ usedNumber (usedBytes s k)
+  pub used-procedure : s ≡ 6 → usedNumber (getD (some 8 ∷ some 4 ∷ some 6 ∷ []) k none) ≡ usedNumber (usedBytes s k)
+  unfolding usedBytes
+  used-procedure e = rw e
+
+pub used-none : (s k : ℕ) → (s ≡ 1 → ⊥) → (s ≡ 2 → ⊥) → (s ≡ 3 → ⊥) → (s ≡ 4 → ⊥) → (s ≡ 5 → ⊥) → (s ≡ 6 → ⊥) → 0 ≡ usedNumber (usedBytes s k)
 unfolding usedBytes usedNumber
-used-none s k a b c d e = rw (ne-eqb s 1 a, ne-eqb s 2 b, ne-eqb s 3 c, ne-eqb s 4 d, ne-eqb s 5 e)
+used-none s k a b c d e f = rw (ne-eqb s 1 a, ne-eqb s 2 b, ne-eqb s 3 c, ne-eqb s 4 d, ne-eqb s 5 e, ne-eqb s 6 f)
+
+-- the kinds of a procedure
+pub procedure-other : (k : ℕ) → (k ≡ 0 → ⊥) → (k ≡ 1 → ⊥) → (k ≡ 2 → ⊥) → 0 ≡ usedNumber (getD (some 8 ∷ some 4 ∷ some 6 ∷ []) k none)
+unfolding usedNumber
+procedure-other zero p q r = absurd (p refl)
+procedure-other (suc zero) p q r = absurd (q refl)
+procedure-other (suc (suc zero)) p q r = absurd (r refl)
+procedure-other (suc (suc (suc k))) p q r = refl
+
+pub procedure-kind : (k n : ℕ) → k ≡ n → usedNumber (getD (some 8 ∷ some 4 ∷ some 6 ∷ []) n none) ≡ usedNumber (getD (some 8 ∷ some 4 ∷ some 6 ∷ []) k none)
+procedure-kind k n e = ap (λ (m : ℕ). usedNumber (getD (some 8 ∷ some 4 ∷ some 6 ∷ []) m none)) (sym e)
 
 pub fit-none : (o : Option ℕ) (bytes : List ℕ) → usedNumber o ≡ 0 → bytesFit o bytes ≡ false
 unfolding bytesFit usedNumber
@@ -101,9 +117,9 @@ unfolding paired rowIn
 pairs-from rows s t h = rw (h .start, h .count)
 
 -- ---- counts
-pub counts-profile : (rows : List ℕ) (t : Tables) → AreTables rows t → countWrong profile rows ≡ not (between 1 16 (t .declarations .count / 2) && between 1 32 (t .types .count) && between 0 512 (t .expressions .count) && between 1 256 (t .instructions .count))
+pub counts-profile : (rows : List ℕ) (t : Tables) → AreTables rows t → countWrong profile rows ≡ not (between 1 16 (t .declarations .count / 2) && between 1 32 (t .types .count) && between 0 512 (t .expressions .count) && between 1 256 (t .instructions .count) && between 0 8 (t .procedures .count))
 unfolding countWrong pairCount
-counts-profile rows t h = rw (h .declarations .count, h .types .count, h .expressions .count, h .instructions .count)
+counts-profile rows t h = rw (h .declarations .count, h .types .count, h .expressions .count, h .instructions .count, h .procedures)
 
 pub counts-limits : (rows : List ℕ) (t : Tables) → AreTables rows t → ltb 16 (t .limits .count / 2) ≡ countWrong limits rows
 unfolding countWrong pairCount
@@ -117,9 +133,13 @@ pub new-from : (rows : List ℕ) (s : ℕ) (t : Table) (d : ℕ) → IsTable row
 unfolding isNew nameAt nameRow rowIn
 new-from rows s t d h = rw (h .start)
 
-pub names-from : (f : File) (rows : List ℕ) (t : Table) → IsTable rows (namedSection f) t → nameWrong f rows ≡ not (everyBelow (t .count / 2) (λ d. isName (bytesAt rows (t .start + 2 * d)) && isNew rows (t .section) d))
-unfolding nameWrong pairCount nameAt nameRow rowIn
-names-from f rows t h = rw (h .start, h .count, h .section)
+pub names-from : (rows : List ℕ) (t : Table) → IsTable rows (t .section) t → namesFit rows (t .section) ≡ everyBelow (t .count / 2) (λ d. isName (bytesAt rows (t .start + 2 * d)) && isNew rows (t .section) d)
+unfolding namesFit pairCount nameAt nameRow rowIn
+names-from rows t h = rw (h .start, h .count)
+
+-- the names of a scope, from its table's number
+pub scope-names : (rows : List ℕ) (s : ℕ) (t : Table) (b : Bool) → IsTable rows (scopeTable s) t → b ≡ namesFit rows (t .section) → b ≡ namesFit rows (scopeTable s)
+scope-names rows s t b h e = e ∙ ap (namesFit rows) (h .section)
 
 -- ---- a row of a section
 pub row-at : (rows : List ℕ) (s : ℕ) (t : Table) (r : ℕ) → IsTable rows s t → rowIn rows s r ≡ t .start + r

@@ -1,9 +1,10 @@
-// Rule 7: how many rows each section has.
+// Rule 7: how many rows each section has, and how many procedures there are.
 use decoder::tables::Tables;
 use lingua::FileKind;
 use lingua::sizes::MOST_EXPRESSIONS;
 use lingua::sizes::MOST_INSTRUCTIONS;
 use lingua::sizes::MOST_LIMITS;
+use lingua::sizes::MOST_PROCEDURES;
 use lingua::sizes::MOST_TYPES;
 use lingua::sizes::MOST_VARIABLES;
 ghost use mathlib.Core.Path.{_≡_};
@@ -43,5 +44,8 @@ fn profile_count_wrong(t: Tables) -> bool
     if !in_between(0, MOST_EXPRESSIONS, t.expressions.count) {
         return true;
     }
-    !in_between(1, MOST_INSTRUCTIONS, t.instructions.count)
+    if !in_between(1, MOST_INSTRUCTIONS, t.instructions.count) {
+        return true;
+    }
+    !in_between(0, MOST_PROCEDURES, t.procedures.count)
 }

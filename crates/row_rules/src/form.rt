@@ -1,5 +1,6 @@
 // Rule 6: the form of rows, each by itself and in their order.
 use crate::counts::in_between;
+use crate::pairs::procedures_paired;
 use decoder::decode::DecodedExpression;
 use decoder::decode::DecodedInstruction;
 use decoder::decode::DecodedType;
@@ -17,6 +18,7 @@ use lingua::sizes::DECLARATION_SECTION;
 use lingua::sizes::EXPRESSION_SECTION;
 use lingua::sizes::INSTRUCTION_SECTION;
 use lingua::sizes::LIMIT_SECTION;
+use lingua::sizes::PROCEDURE_SECTION;
 use lingua::sizes::ROW_BYTES;
 use lingua::sizes::TYPE_SECTION;
 ghost use mathlib.Core.Path.{_≡_};
@@ -32,12 +34,12 @@ ghost use Rattle.decoder.specs.Tables.{IsTable, AreTables};
 ghost use Rattle.row_rules.specs.Form.{usedNumber};
 ghost use Rattle.decoder.specs.Decoded.{typeUses, expressionUses, instructionUses};
 
-// Limits stand alone in limits files.
+// Limits stand alone in limits files; a profile has the sections before them, and the procedures behind.
 fn section_belongs(file: FileKind, section: u8) -> bool
     ensures { λ r. ⌜ r ≡ sectionBelongs (fileMeaning file) section ⌝ }
 {
     match file {
-        FileKind::Profile => in_between(1, 4, section as usize),
+        FileKind::Profile => in_between(1, 4, section as usize) || section == PROCEDURE_SECTION,
         FileKind::Limits => section == LIMIT_SECTION,
     }
 }
@@ -49,6 +51,18 @@ fn used_by_pair(kind: u8, first: u8, second: u8) -> usize
     match kind {
         0 => first as usize + 1,
         1 => second as usize + 1,
+        _ => 0,
+    }
+}
+
+// The same in a procedure: its variables' rows, and kind 2, which begins it.
+fn used_by_procedure(kind: u8) -> usize
+    ensures { λ r. ⌜ r ≡ usedNumber (getD (some 8 ∷ some 4 ∷ some 6 ∷ []) kind none) ⌝ }
+{
+    match kind {
+        0 => 9,
+        1 => 5,
+        2 => 7,
         _ => 0,
     }
 }
@@ -99,6 +113,9 @@ fn used_bytes(rows: &[u8], i: usize, section: u8) -> usize
     }
     if section == LIMIT_SECTION {
         return used_by_pair(kind_at(rows, i), 8, 8);
+    }
+    if section == PROCEDURE_SECTION {
+        return used_by_procedure(kind_at(rows, i));
     }
     0
 }
@@ -178,5 +195,8 @@ pub fn form_wrong(file: FileKind, rows: &[u8], t: Tables) -> bool
         return true;
     }
     let limits = t.limits;
-    !is_paired(rows, limits)
+    if !is_paired(rows, limits) {
+        return true;
+    }
+    !procedures_paired(rows, t)
 }

@@ -4,3 +4,4 @@ pub mod constants; // constants.rt: rule 9
 pub mod counts; // counts.rt: rule 7
 pub mod form; // form.rt: rule 6
 pub mod names; // names.rt: rule 8
+pub mod pairs; // pairs.rt: rule 6 on the pairs of procedures

@@ -1,17 +1,20 @@
-// Rule 8: names of declarations and of limits.
+// Rule 8: names of declarations, a procedure's too, and of limits.
 use decoder::fields::bytes_at;
 use decoder::fields::padded;
+use decoder::procedures::scope_table;
 use decoder::tables::Table;
 use decoder::tables::Tables;
 use lingua::FileKind;
 ghost use mathlib.Core.Path.{_≡_};
-ghost use mathlib.Core.List.{List};
-ghost use Prim.Native.Nat.{ℕ, _+_, _*_, _/_, _<_};
+ghost use Prim.Native.Nat.{_+_, _*_, _/_, _≤_, _<_};
 ghost use lib.ListN.{length};
+ghost use Rattle.lingua.specs.Numbers.{most-procedures};
 ghost use Rattle.lingua.specs.Answers.{fileMeaning};
+ghost use Rattle.lingua.specs.Format.{profile};
 ghost use Rattle.lingua.specs.Compute.{sameText};
-ghost use Rattle.lingua.specs.Rules.{isName, isNew, namedSection, nameWrong};
+ghost use Rattle.lingua.specs.Rules.{isName, isNew, namesFit, nameWrong};
 ghost use Rattle.decoder.specs.Tables.{IsTable, AreTables};
+ghost use Rattle.row_rules.specs.Form.{FewProcedures};
 
 // 1 to 8 capital letters, zeros after.
 fn is_name(bytes: &[u8]) -> bool
@@ -56,32 +59,51 @@ fn is_new(rows: &[u8], t: Table, d: usize) -> bool
     true
 }
 
-// The table whose rows have names.
-fn named(file: FileKind, t: Tables) -> Table
-    ensures { λ r. ⌜ ((rows : List ℕ) → AreTables rows t → IsTable rows (namedSection (fileMeaning file)) r) ⌝ }
+// The names of a table: each is a name, and new.
+fn names_fit(rows: &[u8], t: Table) -> bool
+    requires { ⌜ IsTable (now rows) (t .section) t ⌝ }
+    ensures { λ r. ⌜ r ≡ namesFit (now (rows .entry)) (t .section) ⌝ }
 {
-    match file {
-        FileKind::Profile => t.declarations,
-        FileKind::Limits => t.limits,
+    let start = t.start;
+    let count = t.count / 2;
+    let mut d = 0;
+    while d < count {
+        if !is_name(bytes_at(rows, start + 2 * d)) {
+            return false;
+        }
+        if !is_new(rows, t, d) {
+            return false;
+        }
+        d += 1;
     }
+    true
+}
+
+// The profile's own variables, and each procedure's by themselves.
+fn profile_name_wrong(rows: &[u8], t: Tables) -> bool
+    requires { ⌜ AreTables (now rows) t ⌝ }
+    requires { ⌜ t .procedures .count ≤ most-procedures ⌝ }
+    ensures { λ r. ⌜ r ≡ nameWrong profile (now (rows .entry)) ⌝ }
+{
+    let procedures = t.procedures;
+    let count = procedures.count;
+    let mut s = 0;
+    while s <= count {
+        if !names_fit(rows, scope_table(t, s)) {
+            return true;
+        }
+        s += 1;
+    }
+    false
 }
 
 pub fn name_wrong(file: FileKind, rows: &[u8], t: Tables) -> bool
     requires { ⌜ AreTables (now rows) t ⌝ }
+    requires { ⌜ FewProcedures (fileMeaning file) t ⌝ }
     ensures { λ r. ⌜ r ≡ nameWrong (fileMeaning file) (now (rows .entry)) ⌝ }
 {
-    let table = named(file, t);
-    let start = table.start;
-    let count = table.count / 2;
-    let mut d = 0;
-    while d < count {
-        if !is_name(bytes_at(rows, start + 2 * d)) {
-            return true;
-        }
-        if !is_new(rows, table, d) {
-            return true;
-        }
-        d += 1;
+    match file {
+        FileKind::Profile => profile_name_wrong(rows, t),
+        FileKind::Limits => !names_fit(rows, t.limits),
     }
-    false
 }

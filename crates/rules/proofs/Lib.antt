@@ -1,4 +1,5 @@
 pub mod Refers
+pub mod Calling
 pub mod Usage
 pub mod Reading
 pub mod Lowest

@@ -4,25 +4,28 @@ use mathlib.Core.Path.{_≡_, refl, sym, ap, ap₂, _∙_, fun-ext}
 use mathlib.Core.Bool.{Bool, true, false, not, _&&_, _||_}
 use mathlib.Core.List.{List, [], _∷_, _++_}
 use mathlib.Core.Logic.{⊎-elim}
-use Prim.Native.Nat.{ℕ, zero, suc, _+_, _<_}
+use Prim.Native.Nat.{ℕ, zero, suc, _+_, _/_, _≤_, _<_}
 use native.Mathlib.Nat.{not-suc-le-zero, zero-add}
 use native.Mathlib.Omega.{arith}
 use lib.Dec.{ltb}
 use lib.ListN.{length, getD, set}
 use lib.Seq.{getD-set-same, getD-set-other}
 use borrow.Author.Tests.{ltb-true}
-use Rattle.lingua.specs.Numbers.{declaration-section, type-section, expression-section, instruction-section}
+use Rattle.lingua.specs.Numbers.{type-section, expression-section, instruction-section, scopeTable}
 use Rattle.lingua.specs.Value.{allOf}
 use Rattle.lingua.specs.Expression.{Expression}
-use Rattle.lingua.specs.Rows.{aAt, tableCount, pairCount, detailRow, typeRow, parts, ExpressionRow, constant-row, variable-row, current-row, unary-row, binary-row, lazy-row, choice-row, all-list-row, unknown-expression, expressionRow, operands, instructionRow, evaluated, yokeRoot, yokeSet}
+use Rattle.lingua.specs.Rows.{aAt, tableCount, pairCount, detailRow, procedureCount, ExpressionRow, constant-row, variable-row, current-row, unary-row, binary-row, lazy-row, choice-row, all-list-row, unknown-expression, expressionRow, operands, instructionRow, evaluated, yokeRoot, yokeSet}
 use Rattle.lingua.specs.Trees.{below, lower, no-expression, expressionOf, expressionIn, expressionTree, tabulateFrom, tabulate}
 use Rattle.lingua.specs.Typing.{joined}
 use Rattle.lingua.specs.Format.{everyBelow}
-use Rattle.lingua.specs.References.{allBelow, typeParts, instructionVariables, expressionRefers, readsVariable, readsCurrent, declaredYoke, declarationRefers, instructionRefers, referenceWrong, yokeRoots, plainRoots, placeWrong}
+use Rattle.lingua.specs.References.{allBelow, readsVariable, readsCurrent, yokeIn, declarationRefers, declarationsRefer, referenceWrong, declaredRoots, yokeRoots, plainRoots, placeWrong}
+use Rattle.decoder.specs.Tables.{IsTable}
 use Rattle.decoder.specs.Reads.{reads, readsRow, Marked}
+use Rattle.decoder.specs.declared.tables.Table.{Table}
 use Rattle.decoder.proofs.Counting.{order}
-use Rattle.row_rules.proofs.Every.{every-at, and-left, and-right, first-true, last-true}
+use Rattle.row_rules.proofs.Every.{every-at, and-left, and-right}
 use Rattle.decoder.proofs.Short.{all-ext, all-append}
+use Rattle.rules.specs.Accepted.{rows-right, rows-refer, own-roots}
 use Rattle.rules.proofs.Usage.{joined-snoc}
 
 -- ---- trees
@@ -144,34 +147,27 @@ unfolding everyBelow tabulate tabulateFrom joined allOf
 all-joined p f zero = refl
 all-joined p f (suc n) = ap (allOf p) (joined-snoc f 0 n ∙ ap (λ (k : ℕ). joined (tabulateFrom 0 n f) ++ f k) (zero-add n)) ∙ all-append p (joined (tabulateFrom 0 n f)) (f n) ∙ ap (λ (b : Bool). b && allOf p (f n)) (all-joined p f n)
 
-pub places-are : (rows : List ℕ) → placeWrong rows ≡ not (everyBelow (pairCount rows declaration-section) (λ d. allOf (λ r. not (reads true (expressionTree rows r))) (yokeRoot (declaredYoke rows d))) && everyBelow (tableCount rows instruction-section) (λ i. allOf (λ r. not (reads true (expressionTree rows r))) (yokeSet (instructionRow rows i))) && everyBelow (tableCount rows instruction-section) (λ i. allOf (λ r. not (reads false (expressionTree rows r))) (evaluated (instructionRow rows i))))
+pub places-are : (rows : List ℕ) → placeWrong rows ≡ not (everyBelow (suc (procedureCount rows)) (λ s. allOf (λ r. not (reads true (expressionTree rows r))) (declaredRoots rows s)) && everyBelow (tableCount rows instruction-section) (λ i. allOf (λ r. not (reads true (expressionTree rows r))) (yokeSet (instructionRow rows i))) && everyBelow (tableCount rows instruction-section) (λ i. allOf (λ r. not (reads false (expressionTree rows r))) (evaluated (instructionRow rows i))))
 unfolding placeWrong yokeRoots plainRoots reads
 places-are rows = rw (all-append, all-joined, all-joined, all-joined)
 
+-- a scope's roots, one declaration after another
+pub scope-roots : (rows : List ℕ) (p : ℕ → Bool) (s : ℕ) (t : Table) → IsTable rows (scopeTable s) t → allOf p (declaredRoots rows s) ≡ everyBelow (t .count / 2) (λ d. allOf p (yokeRoot (yokeIn rows (scopeTable s) d)))
+unfolding declaredRoots pairCount
+scope-roots rows p s t h = all-joined p (λ d. yokeRoot (yokeIn rows (scopeTable s) d)) (tableCount rows (scopeTable s) / 2) ∙ rw (h .count)
+
 -- rule 10 keeps roots below the number of expression rows
-declarations-hold : (rows : List ℕ) → referenceWrong rows ≡ false → everyBelow (pairCount rows declaration-section) (λ d. declarationRefers rows d) ≡ true
-unfolding referenceWrong
-declarations-hold rows h = first-true (everyBelow (pairCount rows declaration-section) (λ d. declarationRefers rows d)) (everyBelow (tableCount rows type-section) (λ r. allBelow r (typeParts (typeRow rows r)))) (everyBelow (tableCount rows expression-section) (λ r. expressionRefers rows r)) (everyBelow (tableCount rows instruction-section) (λ r. instructionRefers rows r)) h
-
-instructions-hold : (rows : List ℕ) → referenceWrong rows ≡ false → everyBelow (tableCount rows instruction-section) (λ r. instructionRefers rows r) ≡ true
-unfolding referenceWrong
-instructions-hold rows h = last-true (everyBelow (pairCount rows declaration-section) (λ d. declarationRefers rows d)) (everyBelow (tableCount rows type-section) (λ r. allBelow r (typeParts (typeRow rows r)))) (everyBelow (tableCount rows expression-section) (λ r. expressionRefers rows r)) (everyBelow (tableCount rows instruction-section) (λ r. instructionRefers rows r)) h
-
 module _ (rows : List ℕ) (h : referenceWrong rows ≡ false) where
-  pub declared-below : (d : ℕ) → d < pairCount rows declaration-section → allBelow (tableCount rows expression-section) (yokeRoot (declaredYoke rows d)) ≡ true
-  unfolding declarationRefers
-  declared-below d l =
-      and-right (ltb (aAt rows (detailRow rows declaration-section d)) (tableCount rows type-section)) (allBelow (tableCount rows expression-section) (yokeRoot (declaredYoke rows d)))
-      (every-at (λ d. declarationRefers rows d) (pairCount rows declaration-section) d (declarations-hold rows h) l)
-
-  instruction-below : (i : ℕ) → i < tableCount rows instruction-section → allBelow (tableCount rows expression-section) (evaluated (instructionRow rows i) ++ yokeSet (instructionRow rows i)) ≡ true
-  unfolding instructionRefers
-  instruction-below i l =
-      and-right (allBelow i (parts (instructionRow rows i)) && allBelow (pairCount rows declaration-section) (instructionVariables (instructionRow rows i))) (allBelow (tableCount rows expression-section) (evaluated (instructionRow rows i) ++ yokeSet (instructionRow rows i)))
-      (every-at (λ r. instructionRefers rows r) (tableCount rows instruction-section) i (instructions-hold rows h) l)
+  pub declared-below : (s : ℕ) (t : Table) (d : ℕ) → IsTable rows (scopeTable s) t → s ≤ procedureCount rows → d < t .count / 2 → allBelow (tableCount rows expression-section) (yokeRoot (yokeIn rows (scopeTable s) d)) ≡ true
+  unfolding declarationsRefer declarationRefers pairCount
+  declared-below s t d i ls ld =
+      and-right (ltb (aAt rows (detailRow rows (scopeTable s) d)) (tableCount rows type-section)) (allBelow (tableCount rows expression-section) (yokeRoot (yokeIn rows (scopeTable s) d)))
+      (every-at (λ d. declarationRefers rows (scopeTable s) d) (tableCount rows (scopeTable s) / 2) d
+      (every-at (λ s. declarationsRefer rows s) (suc (procedureCount rows)) s (rows-refer rows (rows-right rows h) .scopes) (omega arith))
+      (omega (arith, i .count)))
 
   both-below : (i : ℕ) → i < tableCount rows instruction-section → (allBelow (tableCount rows expression-section) (evaluated (instructionRow rows i)) && allBelow (tableCount rows expression-section) (yokeSet (instructionRow rows i))) ≡ true
-  both-below i l = sym (all-append (λ r. ltb r (tableCount rows expression-section)) (evaluated (instructionRow rows i)) (yokeSet (instructionRow rows i))) ∙ instruction-below i l
+  both-below i l = sym (all-append (λ r. ltb r (tableCount rows expression-section)) (evaluated (instructionRow rows i)) (yokeSet (instructionRow rows i))) ∙ own-roots rows (rows-right rows h) i l
 
   pub evaluated-below : (i : ℕ) → i < tableCount rows instruction-section → allBelow (tableCount rows expression-section) (evaluated (instructionRow rows i)) ≡ true
   evaluated-below i l = and-left (allBelow (tableCount rows expression-section) (evaluated (instructionRow rows i))) (allBelow (tableCount rows expression-section) (yokeSet (instructionRow rows i))) (both-below i l)

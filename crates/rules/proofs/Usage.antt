@@ -15,9 +15,11 @@ use borrow.Author.Tests.{eq-eqb, ne-eqb}
 use Rattle.lingua.specs.Trees.{tabulateFrom, tabulate}
 use Rattle.lingua.specs.Typing.{joined}
 use Rattle.lingua.specs.Format.{everyBelow}
-use Rattle.lingua.specs.Numbers.{declaration-section, expression-section, instruction-section}
-use Rattle.lingua.specs.Rows.{tableCount, pairCount, InstructionRow, expressionRow, instructionRow, operands, evaluated, yokeRoot, yokeSet}
-use Rattle.lingua.specs.References.{occurrences, declaredYoke, yokeRoots, plainRoots, expressionUses}
+use Rattle.lingua.specs.Numbers.{expression-section, instruction-section, scopeTable}
+use Rattle.lingua.specs.Rows.{tableCount, pairCount, procedureCount, InstructionRow, expressionRow, instructionRow, operands, evaluated, yokeRoot, yokeSet}
+use Rattle.lingua.specs.References.{occurrences, yokeIn, declaredRoots, yokeRoots, plainRoots, expressionUses}
+use Rattle.decoder.specs.Tables.{IsTable}
+use Rattle.decoder.specs.declared.tables.Table.{Table}
 use Rattle.decoder.specs.Mentions.{mentionedBy, InstructionAlike}
 use Rattle.decoder.specs.Decoded.{instructionMeaning}
 use Rattle.rules.specs.Uses.{Counted}
@@ -139,6 +141,32 @@ pub once-to : {b : Bool} {n m : ℕ} {xs ys : List ℕ} → n ≡ m → xs ≡ y
 once-to p q h = rw (p, q) at h
 
 -- the code notes uses in the definition's order
-pub uses-order : (rows : List ℕ) → joined (tabulate (pairCount rows declaration-section) (λ d. yokeRoot (declaredYoke rows d))) ++ joined (tabulate (tableCount rows instruction-section) (λ r. yokeSet (instructionRow rows r))) ++ joined (tabulate (tableCount rows instruction-section) (λ r. evaluated (instructionRow rows r))) ++ joined (tabulate (tableCount rows expression-section) (λ r. operands (expressionRow rows r))) ≡ expressionUses rows
+pub uses-order : (rows : List ℕ) → joined (tabulate (suc (procedureCount rows)) (λ s. declaredRoots rows s)) ++ joined (tabulate (tableCount rows instruction-section) (λ r. yokeSet (instructionRow rows r))) ++ joined (tabulate (tableCount rows instruction-section) (λ r. evaluated (instructionRow rows r))) ++ joined (tabulate (tableCount rows expression-section) (λ r. operands (expressionRow rows r))) ≡ expressionUses rows
 unfolding expressionUses yokeRoots plainRoots
 uses-order rows = append-assoc (yokeRoots rows) (plainRoots rows) (joined (tabulate (tableCount rows expression-section) (λ r. operands (expressionRow rows r))))
+
+-- the roots of a scope, by its table
+pub roots-from : (rows : List ℕ) (s : ℕ) (t : Table) → IsTable rows (scopeTable s) t → joined (tabulate (pairCount rows (t .section)) (λ d. yokeRoot (yokeIn rows (t .section) d))) ≡ declaredRoots rows s
+unfolding declaredRoots
+roots-from rows s t h = rw (h .section)
+
+-- ---- single rows one after another
+tabulate-snoc : {A : Type 0} (f : ℕ → A) (i n : ℕ) → tabulateFrom i (suc n) f ≡ tabulateFrom i n f ++ (f (i + n) ∷ [])
+unfolding tabulateFrom
+tabulate-snoc f i zero = ap (λ (k : ℕ). f k ∷ []) (sym (add-zero i))
+tabulate-snoc f i (suc n) = ap (λ l. f i ∷ l) (tabulate-snoc f (suc i) n ∙ ap (λ (k : ℕ). tabulateFrom (suc i) n f ++ (f k ∷ [])) (suc-add i n ∙ sym (add-suc i n)))
+
+tabulate-more : {A : Type 0} (f : ℕ → A) (n : ℕ) → tabulate (n + 1) f ≡ tabulate n f ++ (f n ∷ [])
+unfolding tabulate
+tabulate-more f n = rw (add-one n) (tabulate-snoc f 0 n ∙ ap (λ (k : ℕ). tabulateFrom 0 n f ++ (f k ∷ [])) (zero-add n))
+
+module _ (f : ℕ → ℕ) (uses xs : List ℕ) where
+  pub rows-none : Counted uses xs → Counted uses (xs ++ tabulate 0 f)
+  unfolding tabulate tabulateFrom
+  rows-none h = counted-to h (sym (append-nil xs))
+
+  pub rows-more : (n y : ℕ) → y ≡ f n → Counted uses (xs ++ tabulate n f ++ (y ∷ [])) → Counted uses (xs ++ tabulate (n + 1) f)
+  rows-more n y e h = counted-to h (append-assoc xs (tabulate n f) (y ∷ []) ∙ ap (λ (l : List ℕ). xs ++ l) (ap (λ (k : ℕ). tabulate n f ++ (k ∷ [])) e ∙ sym (tabulate-more f n)))
+
+  pub rows-all : (i n : ℕ) → i ≡ n → Counted uses (xs ++ tabulate i f) → Counted uses (xs ++ tabulate n f)
+  rows-all i n e h = rw e at h

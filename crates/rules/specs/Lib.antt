@@ -3,3 +3,4 @@ pub mod Unrolled
 pub mod Accepted
 pub mod Types
 pub mod Refusals
+pub mod Calls

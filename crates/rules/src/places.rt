@@ -9,21 +9,22 @@ use decoder::mentions::instruction_in;
 use decoder::mentions::operands;
 use decoder::mentions::yoke_root;
 use decoder::mentions::yoke_set;
+use decoder::procedures::scope_table;
 use decoder::tables::Table;
 use decoder::tables::Tables;
 use lingua::sizes::MOST_EXPRESSIONS;
 ghost use mathlib.Core.Path.{_≡_};
 ghost use mathlib.Core.Bool.{true, false, not, _&&_};
 ghost use mathlib.Core.List.{List};
-ghost use Prim.Native.Nat.{ℕ, _+_, _*_, _≤_, _<_};
+ghost use Prim.Native.Nat.{ℕ, suc, _+_, _*_, _≤_, _<_};
 ghost use lib.Dec.{ltb};
 ghost use lib.ListN.{getD};
-ghost use Rattle.lingua.specs.Numbers.{declaration-section, expression-section, instruction-section, most-expressions};
+ghost use Rattle.lingua.specs.Numbers.{expression-section, instruction-section, most-expressions};
 ghost use Rattle.lingua.specs.Value.{allOf};
-ghost use Rattle.lingua.specs.Rows.{tableCount, pairCount, expressionRow, instructionRow, evaluated, yokeRoot, yokeSet};
+ghost use Rattle.lingua.specs.Rows.{tableCount, procedureCount, expressionRow, instructionRow, evaluated, yokeSet};
 ghost use Rattle.lingua.specs.Trees.{expressionTree};
 ghost use Rattle.lingua.specs.Format.{everyBelow};
-ghost use Rattle.lingua.specs.References.{declaredYoke, referenceWrong, placeWrong};
+ghost use Rattle.lingua.specs.References.{declaredRoots, referenceWrong, placeWrong};
 ghost use Rattle.decoder.specs.Tables.{IsTable, AreTables, Sized};
 ghost use Rattle.decoder.specs.Mentions.{listed};
 ghost use Rattle.decoder.specs.Decoded.{expressionMeaning};
@@ -111,13 +112,15 @@ fn readers(rows: &[u8], t: Table, variable: bool) -> [bool; MOST_EXPRESSIONS]
     marks
 }
 
-// No declared yoke reads a variable.
-fn declared_fit(rows: &[u8], t: Tables, marks: &[bool; MOST_EXPRESSIONS]) -> bool
+// No yoke that a scope declares reads a variable.
+fn declared_fit(rows: &[u8], t: Tables, marks: &[bool; MOST_EXPRESSIONS], s: usize) -> bool
     requires { ⌜ PlacesMarked (now rows) t true (now marks) ⌝ }
-    ensures { λ b. ⌜ b ≡ everyBelow (pairCount (now (rows .entry)) declaration-section) (λ d. allOf (λ r. not (reads true (expressionTree (now (rows .entry)) r))) (yokeRoot (declaredYoke (now (rows .entry)) d))) ⌝ }
+    requires { ⌜ s ≤ t .procedures .count ⌝ }
+    ensures { λ b. ⌜ b ≡ allOf (λ r. not (reads true (expressionTree (now (rows .entry)) r))) (declaredRoots (now (rows .entry)) s) ⌝ }
 {
-    let start = t.declarations.start;
-    let count = t.declarations.count / 2;
+    let own = scope_table(t, s);
+    let start = own.start;
+    let count = own.count / 2;
     let expressions = t.expressions.count;
     let mut d = 0;
     while d < count {
@@ -129,6 +132,22 @@ fn declared_fit(rows: &[u8], t: Tables, marks: &[bool; MOST_EXPRESSIONS]) -> boo
             return false;
         }
         d += 1;
+    }
+    true
+}
+
+// Those of the profile and of each procedure.
+fn scopes_fit(rows: &[u8], t: Tables, marks: &[bool; MOST_EXPRESSIONS]) -> bool
+    requires { ⌜ PlacesMarked (now rows) t true (now marks) ⌝ }
+    ensures { λ b. ⌜ b ≡ everyBelow (suc (procedureCount (now (rows .entry)))) (λ s. allOf (λ r. not (reads true (expressionTree (now (rows .entry)) r))) (declaredRoots (now (rows .entry)) s)) ⌝ }
+{
+    let count = t.procedures.count;
+    let mut s = 0;
+    while s <= count {
+        if !declared_fit(rows, t, marks, s) {
+            return false;
+        }
+        s += 1;
     }
     true
 }
@@ -185,7 +204,7 @@ pub fn place_wrong(rows: &[u8], t: Tables) -> bool
 {
     let expressions = t.expressions;
     let variables = readers(rows, expressions, true);
-    if !declared_fit(rows, t, &variables) {
+    if !scopes_fit(rows, t, &variables) {
         return true;
     }
     if !set_fit(rows, t, &variables) {

@@ -1,6 +1,8 @@
-// The lowest of rules 6 to 13 that applies to a file's rows. Rules are asked in order, so that each may rely on those below.
+// The first of rules 6 to 13, 18 and 19 that applies to a file's rows. Rules are asked in order, so that each may rely on those before.
+use crate::parameters::parameters_wrong;
 use crate::places::place_wrong;
 use crate::references::reference_wrong;
+use crate::repeats::references_wrong;
 use crate::types::type_wrong;
 use crate::uses::use_wrong;
 use decoder::tables::Tables;
@@ -9,11 +11,13 @@ use lingua::errors::BAD_CONSTANT;
 use lingua::errors::BAD_COUNT;
 use lingua::errors::BAD_FORM;
 use lingua::errors::BAD_NAME;
+use lingua::errors::BAD_PARAMETERS;
 use lingua::errors::BAD_REFERENCE;
 use lingua::errors::BAD_TYPE;
 use lingua::errors::BAD_USE;
 use lingua::errors::MISPLACED;
 use lingua::errors::NO_ERROR;
+use lingua::errors::REPEATED_REFERENCE;
 use row_rules::constants::constant_wrong;
 use row_rules::counts::count_wrong;
 use row_rules::form::form_wrong;
@@ -25,7 +29,7 @@ ghost use Rattle.lingua.specs.Answers.{fileMeaning};
 ghost use Rattle.decoder.specs.Tables.{AreTables};
 ghost use Rattle.rules.specs.Refusals.{Linkable, Linked, Judged};
 
-// Rules 10 to 13, which only a profile has.
+// Rules 10 to 13, 18 and 19, which only a profile has.
 fn link_refusal(rows: &[u8], t: Tables, bodies: &mut [u8]) -> u8
     requires { ⌜ Linkable (now rows) t (now bodies) ⌝ }
     ensures { λ r. ⌜ Linked r (now (rows .entry)) (now (bodies .exit)) ⌝ }
@@ -42,6 +46,12 @@ fn link_refusal(rows: &[u8], t: Tables, bodies: &mut [u8]) -> u8
     let types = t.types;
     if type_wrong(rows, types, bodies) {
         return BAD_TYPE;
+    }
+    if parameters_wrong(rows, t) {
+        return BAD_PARAMETERS;
+    }
+    if references_wrong(rows, t) {
+        return REPEATED_REFERENCE;
     }
     NO_ERROR
 }

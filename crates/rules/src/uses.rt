@@ -1,4 +1,4 @@
-// Rule 11: each expression row and each instruction row but the last is used once.
+// Rule 11: each expression row and each instruction row but the last is used once; a procedure uses its body.
 // Uses are counted in one pass over the rows, up to 2: more makes no difference.
 use decoder::fields::b_at;
 use decoder::mentions::Mention;
@@ -8,19 +8,21 @@ use decoder::mentions::instruction_in;
 use decoder::mentions::mentioned;
 use decoder::mentions::operands;
 use decoder::mentions::yoke_root;
+use decoder::procedures::procedure_at;
+use decoder::procedures::scope_table;
 use decoder::tables::Table;
 use decoder::tables::Tables;
 use lingua::sizes::MOST_EXPRESSIONS;
 ghost use mathlib.Core.Path.{_≡_};
 ghost use mathlib.Core.List.{List, [], _∷_, _++_};
-ghost use Prim.Native.Nat.{ℕ, _+_, _≤_, pred};
+ghost use Prim.Native.Nat.{ℕ, suc, _+_, _≤_, pred};
 ghost use lib.Dec.{eqb};
-ghost use Rattle.lingua.specs.Numbers.{declaration-section, expression-section, instruction-section, most-expressions, most-instructions};
-ghost use Rattle.lingua.specs.Rows.{tableCount, pairCount, expressionRow, instructionRow, operands, yokeRoot};
+ghost use Rattle.lingua.specs.Numbers.{expression-section, instruction-section, most-expressions, most-procedures};
+ghost use Rattle.lingua.specs.Rows.{tableCount, pairCount, procedureCount, bodyRow, expressionRow, instructionRow, operands, yokeRoot};
 ghost use Rattle.lingua.specs.Trees.{tabulate};
 ghost use Rattle.lingua.specs.Typing.{joined};
 ghost use Rattle.lingua.specs.Format.{everyBelow};
-ghost use Rattle.lingua.specs.References.{declaredYoke, occurrences, expressionUses, instructionUses, useWrong};
+ghost use Rattle.lingua.specs.References.{yokeIn, declaredRoots, occurrences, expressionUses, instructionUses, useWrong};
 ghost use Rattle.decoder.specs.Tables.{IsTable, AreTables, Sized};
 ghost use Rattle.decoder.specs.Mentions.{listed, mentionedBy};
 ghost use Rattle.rules.specs.Uses.{Counted};
@@ -57,17 +59,30 @@ fn note_all(uses: &mut [u8; MOST_EXPRESSIONS], f: UpToThree)
     note(uses, f.z);
 }
 
-// The expression rows of declared yokes.
+// The expression rows of the yokes that a table declares.
 fn note_declared(uses: &mut [u8; MOST_EXPRESSIONS], rows: &[u8], t: Table)
-    requires { ⌜ IsTable (now rows) declaration-section t ⌝ }
-    ensures { λ _. ⌜ ((xs : List ℕ) → Counted (now (uses .entry)) xs → Counted (now (uses .exit)) (xs ++ joined (tabulate (pairCount (now (rows .entry)) declaration-section) (λ d. yokeRoot (declaredYoke (now (rows .entry)) d))))) ⌝ }
+    requires { ⌜ IsTable (now rows) (t .section) t ⌝ }
+    ensures { λ _. ⌜ ((xs : List ℕ) → Counted (now (uses .entry)) xs → Counted (now (uses .exit)) (xs ++ joined (tabulate (pairCount (now (rows .entry)) (t .section)) (λ d. yokeRoot (yokeIn (now (rows .entry)) (t .section) d))))) ⌝ }
 {
-    let start = t.start;
     let count = t.count / 2;
     let mut d = 0;
     while d < count {
-        note_all(uses, yoke_root(b_at(rows, start + (2 * d + 1))));
+        note_all(uses, yoke_root(b_at(rows, t.start + (2 * d + 1))));
         d += 1;
+    }
+}
+
+// Those of the profile and of each procedure.
+fn note_scopes(uses: &mut [u8; MOST_EXPRESSIONS], rows: &[u8], t: Tables)
+    requires { ⌜ AreTables (now rows) t ⌝ }
+    requires { ⌜ t .procedures .count ≤ most-procedures ⌝ }
+    ensures { λ _. ⌜ ((xs : List ℕ) → Counted (now (uses .entry)) xs → Counted (now (uses .exit)) (xs ++ joined (tabulate (suc (procedureCount (now (rows .entry)))) (λ s. declaredRoots (now (rows .entry)) s)))) ⌝ }
+{
+    let count = t.procedures.count;
+    let mut s = 0;
+    while s <= count {
+        note_declared(uses, rows, scope_table(t, s));
+        s += 1;
     }
 }
 
@@ -96,6 +111,21 @@ fn note_operands(uses: &mut [u8; MOST_EXPRESSIONS], rows: &[u8], t: Table)
     }
 }
 
+// The bodies of procedures.
+fn note_bodies(uses: &mut [u8; MOST_EXPRESSIONS], rows: &[u8], t: Tables)
+    requires { ⌜ AreTables (now rows) t ⌝ }
+    requires { ⌜ t .procedures .count ≤ most-procedures ⌝ }
+    ensures { λ _. ⌜ ((xs : List ℕ) → Counted (now (uses .entry)) xs → Counted (now (uses .exit)) (xs ++ tabulate (procedureCount (now (rows .entry))) (λ k. bodyRow (now (rows .entry)) k))) ⌝ }
+{
+    let count = t.procedures.count;
+    let mut k = 0;
+    while k < count {
+        let procedure = procedure_at(rows, t, k);
+        note(uses, procedure.body);
+        k += 1;
+    }
+}
+
 // Whether each row below n is used once.
 fn all_once(uses: &[u8; MOST_EXPRESSIONS], n: usize) -> bool
     requires { ⌜ n ≤ most-expressions ⌝ }
@@ -113,14 +143,13 @@ fn all_once(uses: &[u8; MOST_EXPRESSIONS], n: usize) -> bool
 
 fn expressions_once(rows: &[u8], t: Tables) -> bool
     requires { ⌜ AreTables (now rows) t ⌝ }
-    requires { ⌜ t .expressions .count ≤ most-expressions ⌝ }
+    requires { ⌜ Sized t ⌝ }
     ensures { λ b. ⌜ b ≡ everyBelow (tableCount (now (rows .entry)) expression-section) (λ r. eqb (occurrences r (expressionUses (now (rows .entry)))) 1) ⌝ }
 {
     let mut uses = [0u8; MOST_EXPRESSIONS];
-    let declarations = t.declarations;
     let instructions = t.instructions;
     let expressions = t.expressions;
-    note_declared(&mut uses, rows, declarations);
+    note_scopes(&mut uses, rows, t);
     note_mentioned(&mut uses, rows, instructions, Mention::Yoke);
     note_mentioned(&mut uses, rows, instructions, Mention::Evaluated);
     note_operands(&mut uses, rows, expressions);
@@ -128,14 +157,16 @@ fn expressions_once(rows: &[u8], t: Tables) -> bool
 }
 
 // The last instruction row is the program, and no row names it.
-fn instructions_once(rows: &[u8], t: Table) -> bool
-    requires { ⌜ IsTable (now rows) instruction-section t ⌝ }
-    requires { ⌜ (1 ≤ t .count) × (t .count ≤ most-instructions) ⌝ }
+fn instructions_once(rows: &[u8], t: Tables) -> bool
+    requires { ⌜ AreTables (now rows) t ⌝ }
+    requires { ⌜ Sized t ⌝ }
     ensures { λ b. ⌜ b ≡ everyBelow (pred (tableCount (now (rows .entry)) instruction-section)) (λ r. eqb (occurrences r (instructionUses (now (rows .entry)))) 1) ⌝ }
 {
     let mut uses = [0u8; MOST_EXPRESSIONS];
-    note_mentioned(&mut uses, rows, t, Mention::Part);
-    all_once(&uses, t.count - 1)
+    let instructions = t.instructions;
+    note_mentioned(&mut uses, rows, instructions, Mention::Part);
+    note_bodies(&mut uses, rows, t);
+    all_once(&uses, instructions.count - 1)
 }
 
 pub fn use_wrong(rows: &[u8], t: Tables) -> bool
@@ -146,6 +177,5 @@ pub fn use_wrong(rows: &[u8], t: Tables) -> bool
     if !expressions_once(rows, t) {
         return true;
     }
-    let instructions = t.instructions;
-    !instructions_once(rows, instructions)
+    !instructions_once(rows, t)
 }

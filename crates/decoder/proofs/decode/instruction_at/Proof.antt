@@ -50,8 +50,12 @@ unfolding numbered instructionKinds instructionDecoded instructionMeaning instru
 returns-7 c = instruction-arm (c .before .before .before .before .before .before .args .rows .now) (c .before .before .before .before .before .before .args .i) (c .before .before .before .before .kind-at .result) (c .before .before .before .a-at .result) (c .before .before .b-at .result) (c .before .c-at .result) (c .before .before .before .before .kind-at .ensures) (c .before .before .before .a-at .ensures .0) (c .before .before .b-at .ensures .0) (c .before .c-at .ensures .0) 7 _ (λ a b c. decoded-instruction.Known 4 (does.Handle a b)) (c .match .keys7) refl refl refl
 
 returns-8 : tie.Need-returns-8
+unfolding numbered instructionKinds instructionDecoded instructionMeaning instructionUses
+returns-8 c = instruction-arm (c .before .before .before .before .before .before .args .rows .now) (c .before .before .before .before .before .before .args .i) (c .before .before .before .before .kind-at .result) (c .before .before .before .a-at .result) (c .before .before .b-at .result) (c .before .c-at .result) (c .before .before .before .before .kind-at .ensures) (c .before .before .before .a-at .ensures .0) (c .before .before .b-at .ensures .0) (c .before .c-at .ensures .0) 8 _ (λ a b c. decoded-instruction.Known 6 (does.Call a b c)) (c .match .keys8) refl refl refl
+
+returns-9 : tie.Need-returns-9
 unfolding instructionKinds
-returns-8 c = instruction-unknown (c .before .before .before .before .before .before .args .rows .now) (c .before .before .before .before .before .before .args .i) (c .before .before .before .before .kind-at .result) (c .before .before .before .before .kind-at .ensures) _ (c .match .rest)
+returns-9 c = instruction-unknown (c .before .before .before .before .before .before .args .rows .now) (c .before .before .before .before .before .before .args .i) (c .before .before .before .before .kind-at .result) (c .before .before .before .before .kind-at .ensures) _ (c .match .rest)
 
 pub instruction-at-spec : {M : Type 1} → statement M
 instruction-at-spec =
@@ -68,4 +72,5 @@ instruction-at-spec =
     returns-5
     returns-6
     returns-7
-    returns-8)
+    returns-8
+    returns-9)

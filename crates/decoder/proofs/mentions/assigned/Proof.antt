@@ -13,15 +13,16 @@ use Rattle.decoder.proofs.mentions.assigned.Statement.{statement}
 use Rattle.decoder.proofs.mentions.assigned.Tie as tie
 
 -- no other row names a variable
-others : (row : InstructionRow) → OneOf (0 ∷ 3 ∷ 4 ∷ 5 ∷ 6 ∷ []) (tagOf the-type row) → instructionVariables (instructionMeaning row) ≡ []
+others : (row : InstructionRow) → OneOf (0 ∷ 3 ∷ 4 ∷ 5 ∷ 6 ∷ 7 ∷ []) (tagOf the-type row) → instructionVariables (instructionMeaning row) ≡ []
 unfolding instructionVariables instructionMeaning
 others row.Skip h = refl
-others (row.Assign n e) h = absurd (miss (0 ∷ 3 ∷ 4 ∷ 5 ∷ 6 ∷ []) 1 tt h)
-others (row.SetYoke n y) h = absurd (miss (0 ∷ 3 ∷ 4 ∷ 5 ∷ 6 ∷ []) 2 tt h)
+others (row.Assign n e) h = absurd (miss (0 ∷ 3 ∷ 4 ∷ 5 ∷ 6 ∷ 7 ∷ []) 1 tt h)
+others (row.SetYoke n y) h = absurd (miss (0 ∷ 3 ∷ 4 ∷ 5 ∷ 6 ∷ 7 ∷ []) 2 tt h)
 others (row.Sequence i j) h = refl
 others (row.Branch e i j) h = refl
 others (row.Loop e i) h = refl
 others (row.Handle n i) h = refl
+others (row.Call k b c) h = refl
 
 enum-known-row : tie.Need-enum-known-row
 enum-known-row c = search needs

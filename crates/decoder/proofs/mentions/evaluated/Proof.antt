@@ -13,15 +13,16 @@ use Rattle.decoder.proofs.mentions.evaluated.Statement.{statement}
 use Rattle.decoder.proofs.mentions.evaluated.Tie as tie
 
 -- no other row evaluates anything
-others : (row : InstructionRow) → OneOf (0 ∷ 2 ∷ 3 ∷ 6 ∷ []) (tagOf the-type row) → evaluated (instructionMeaning row) ≡ []
+others : (row : InstructionRow) → OneOf (0 ∷ 2 ∷ 3 ∷ 6 ∷ 7 ∷ []) (tagOf the-type row) → evaluated (instructionMeaning row) ≡ []
 unfolding evaluated instructionMeaning
 others row.Skip h = refl
-others (row.Assign n e) h = absurd (miss (0 ∷ 2 ∷ 3 ∷ 6 ∷ []) 1 tt h)
+others (row.Assign n e) h = absurd (miss (0 ∷ 2 ∷ 3 ∷ 6 ∷ 7 ∷ []) 1 tt h)
 others (row.SetYoke n y) h = refl
 others (row.Sequence i j) h = refl
-others (row.Branch e i j) h = absurd (miss (0 ∷ 2 ∷ 3 ∷ 6 ∷ []) 4 tt h)
-others (row.Loop e i) h = absurd (miss (0 ∷ 2 ∷ 3 ∷ 6 ∷ []) 5 tt h)
+others (row.Branch e i j) h = absurd (miss (0 ∷ 2 ∷ 3 ∷ 6 ∷ 7 ∷ []) 4 tt h)
+others (row.Loop e i) h = absurd (miss (0 ∷ 2 ∷ 3 ∷ 6 ∷ 7 ∷ []) 5 tt h)
 others (row.Handle n i) h = refl
+others (row.Call k b c) h = refl
 
 enum-known-row : tie.Need-enum-known-row
 enum-known-row c = search needs

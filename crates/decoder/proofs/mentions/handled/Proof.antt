@@ -13,7 +13,7 @@ use Rattle.decoder.proofs.mentions.handled.Statement.{statement}
 use Rattle.decoder.proofs.mentions.handled.Tie as tie
 
 -- no other row names an error
-others : (row : InstructionRow) → OneOf (0 ∷ 1 ∷ 2 ∷ 3 ∷ 4 ∷ 5 ∷ []) (tagOf the-type row) → handledErrors (instructionMeaning row) ≡ []
+others : (row : InstructionRow) → OneOf (0 ∷ 1 ∷ 2 ∷ 3 ∷ 4 ∷ 5 ∷ 7 ∷ []) (tagOf the-type row) → handledErrors (instructionMeaning row) ≡ []
 unfolding handledErrors instructionMeaning
 others row.Skip h = refl
 others (row.Assign n e) h = refl
@@ -21,7 +21,8 @@ others (row.SetYoke n y) h = refl
 others (row.Sequence i j) h = refl
 others (row.Branch e i j) h = refl
 others (row.Loop e i) h = refl
-others (row.Handle n i) h = absurd (miss (0 ∷ 1 ∷ 2 ∷ 3 ∷ 4 ∷ 5 ∷ []) 6 tt h)
+others (row.Handle n i) h = absurd (miss (0 ∷ 1 ∷ 2 ∷ 3 ∷ 4 ∷ 5 ∷ 7 ∷ []) 6 tt h)
+others (row.Call k b c) h = refl
 
 enum-known-row : tie.Need-enum-known-row
 enum-known-row c = search needs

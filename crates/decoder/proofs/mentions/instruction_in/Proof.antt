@@ -1,7 +1,7 @@
 -- `instruction_in` meets its contract: the decoded row names what the row names, and an unknown row names nothing. Assumes nothing.
 use Rattle.lingua.specs.Rows.{parts, evaluated, yokeSet}
 use Rattle.lingua.specs.Rules.{handledErrors}
-use Rattle.lingua.specs.References.{instructionVariables}
+use Rattle.lingua.specs.References.{instructionVariables, onCall}
 use Rattle.decoder.specs.Decoded.{instructionMeaning}
 use Rattle.decoder.proofs.Decoding.{instruction-unknown-of, instruction-known-of}
 use borrow.Author.Needs.{needs}
@@ -28,6 +28,7 @@ returns c = record {
   evaluated = instruction-unknown-of evaluated (c .before .before .before .before .before .args .rows .now) (c .before .before .before .before .before .args .t) (c .before .before .before .before .before .args .r) (c .before .before .before .before .before .pre .0) (c .before .before .instruction-at .result) (c .before .before .instruction-at .ensures) (c .enum-told .given .1);
   assigned = instruction-unknown-of instructionVariables (c .before .before .before .before .before .args .rows .now) (c .before .before .before .before .before .args .t) (c .before .before .before .before .before .args .r) (c .before .before .before .before .before .pre .0) (c .before .before .instruction-at .result) (c .before .before .instruction-at .ensures) (c .enum-told .given .1);
   yoke = instruction-unknown-of yokeSet (c .before .before .before .before .before .args .rows .now) (c .before .before .before .before .before .args .t) (c .before .before .before .before .before .args .r) (c .before .before .before .before .before .pre .0) (c .before .before .instruction-at .result) (c .before .before .instruction-at .ensures) (c .enum-told .given .1);
+  calls = λ f. instruction-unknown-of (λ x. onCall x f) (c .before .before .before .before .before .args .rows .now) (c .before .before .before .before .before .args .t) (c .before .before .before .before .before .args .r) (c .before .before .before .before .before .pre .0) (c .before .before .instruction-at .result) (c .before .before .instruction-at .ensures) (c .enum-told .given .1);
 }
 
 returns-2 : tie.Need-returns-2
@@ -37,6 +38,7 @@ returns-2 c = record {
   evaluated = instruction-known-of evaluated (c .before .before .before .before .before .before .args .rows .now) (c .before .before .before .before .before .before .args .t) (c .before .before .before .before .before .before .args .r) (c .before .before .before .before .before .before .pre .0) (c .before .before .before .instruction-at .result) (c .before .before .before .instruction-at .ensures) _ _ (c .before .d .given .1);
   assigned = instruction-known-of instructionVariables (c .before .before .before .before .before .before .args .rows .now) (c .before .before .before .before .before .before .args .t) (c .before .before .before .before .before .before .args .r) (c .before .before .before .before .before .before .pre .0) (c .before .before .before .instruction-at .result) (c .before .before .before .instruction-at .ensures) _ _ (c .before .d .given .1);
   yoke = instruction-known-of yokeSet (c .before .before .before .before .before .before .args .rows .now) (c .before .before .before .before .before .before .args .t) (c .before .before .before .before .before .before .args .r) (c .before .before .before .before .before .before .pre .0) (c .before .before .before .instruction-at .result) (c .before .before .before .instruction-at .ensures) _ _ (c .before .d .given .1);
+  calls = λ f. instruction-known-of (λ x. onCall x f) (c .before .before .before .before .before .before .args .rows .now) (c .before .before .before .before .before .before .args .t) (c .before .before .before .before .before .before .args .r) (c .before .before .before .before .before .before .pre .0) (c .before .before .before .instruction-at .result) (c .before .before .before .instruction-at .ensures) _ _ (c .before .d .given .1);
 }
 
 pub instruction-in-spec : {M : Type 1} → statement M

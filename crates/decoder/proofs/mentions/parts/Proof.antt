@@ -13,15 +13,16 @@ use Rattle.decoder.proofs.mentions.parts.Statement.{statement}
 use Rattle.decoder.proofs.mentions.parts.Tie as tie
 
 -- no other row has parts
-others : (row : InstructionRow) → OneOf (0 ∷ 1 ∷ 2 ∷ []) (tagOf the-type row) → parts (instructionMeaning row) ≡ []
+others : (row : InstructionRow) → OneOf (0 ∷ 1 ∷ 2 ∷ 7 ∷ []) (tagOf the-type row) → parts (instructionMeaning row) ≡ []
 unfolding parts instructionMeaning
 others row.Skip h = refl
 others (row.Assign n e) h = refl
 others (row.SetYoke n y) h = refl
-others (row.Sequence i j) h = absurd (miss (0 ∷ 1 ∷ 2 ∷ []) 3 tt h)
-others (row.Branch e i j) h = absurd (miss (0 ∷ 1 ∷ 2 ∷ []) 4 tt h)
-others (row.Loop e i) h = absurd (miss (0 ∷ 1 ∷ 2 ∷ []) 5 tt h)
-others (row.Handle n i) h = absurd (miss (0 ∷ 1 ∷ 2 ∷ []) 6 tt h)
+others (row.Sequence i j) h = absurd (miss (0 ∷ 1 ∷ 2 ∷ 7 ∷ []) 3 tt h)
+others (row.Branch e i j) h = absurd (miss (0 ∷ 1 ∷ 2 ∷ 7 ∷ []) 4 tt h)
+others (row.Loop e i) h = absurd (miss (0 ∷ 1 ∷ 2 ∷ 7 ∷ []) 5 tt h)
+others (row.Handle n i) h = absurd (miss (0 ∷ 1 ∷ 2 ∷ 7 ∷ []) 6 tt h)
+others (row.Call k b c) h = refl
 
 enum-known-row : tie.Need-enum-known-row
 enum-known-row c = search needs

@@ -13,15 +13,16 @@ use Rattle.decoder.proofs.mentions.yoke_set.Statement.{statement}
 use Rattle.decoder.proofs.mentions.yoke_set.Tie as tie
 
 -- no other row sets a yoke
-others : (row : InstructionRow) → OneOf (0 ∷ 1 ∷ 3 ∷ 4 ∷ 5 ∷ 6 ∷ []) (tagOf the-type row) → yokeSet (instructionMeaning row) ≡ []
+others : (row : InstructionRow) → OneOf (0 ∷ 1 ∷ 3 ∷ 4 ∷ 5 ∷ 6 ∷ 7 ∷ []) (tagOf the-type row) → yokeSet (instructionMeaning row) ≡ []
 unfolding yokeSet instructionMeaning
 others row.Skip h = refl
 others (row.Assign n e) h = refl
-others (row.SetYoke n y) h = absurd (miss (0 ∷ 1 ∷ 3 ∷ 4 ∷ 5 ∷ 6 ∷ []) 2 tt h)
+others (row.SetYoke n y) h = absurd (miss (0 ∷ 1 ∷ 3 ∷ 4 ∷ 5 ∷ 6 ∷ 7 ∷ []) 2 tt h)
 others (row.Sequence i j) h = refl
 others (row.Branch e i j) h = refl
 others (row.Loop e i) h = refl
 others (row.Handle n i) h = refl
+others (row.Call k b c) h = refl
 
 enum-known-row : tie.Need-enum-known-row
 enum-known-row c = search needs

@@ -6,7 +6,7 @@ use Prim.Native.Nat.{ℕ}
 use lib.ListN.{getD}
 use Rattle.lingua.specs.Rows.{kindAt}
 use Rattle.row_rules.specs.Form.{usedNumber}
-use Rattle.row_rules.proofs.Forms.{used-declaration, used-type, used-expression, used-instruction, used-limit, used-none}
+use Rattle.row_rules.proofs.Forms.{used-declaration, used-type, used-expression, used-instruction, used-limit, used-procedure, used-none}
 use borrow.Author.Needs.{needs}
 use Rattle.row_rules.proofs.form.used_bytes.Statement.{statement}
 use Rattle.row_rules.proofs.form.used_bytes.Tie as tie
@@ -56,8 +56,17 @@ used-by-pair-requires-2 c κs = search needs
 returns-5 : tie.Need-returns-5
 returns-5 c = c .used-by-pair2 .ensures ∙ (ap (λ (k : ℕ). usedNumber (getD (some 8 ∷ some 8 ∷ []) k none)) (c .before .kind-at2 .ensures) ∙ used-limit (c .before .before .before .before .before .before .before .before .args .section) (kindAt (c .before .before .before .before .before .before .before .before .args .rows .now) (c .before .before .before .before .before .before .before .before .args .i)) (c .before .before .if5 .taken))
 
+kind-at-requires-3 : tie.Need-kind-at-requires-3
+kind-at-requires-3 c κs = search needs
+
+used-by-procedure-requires : tie.Need-used-by-procedure-requires
+used-by-procedure-requires c κs = search needs
+
 returns-6 : tie.Need-returns-6
-returns-6 c = used-none (c .before .before .before .before .before .before .args .section) (kindAt (c .before .before .before .before .before .before .args .rows .now) (c .before .before .before .before .before .before .args .i)) (c .before .before .before .before .if1 .left) (c .before .before .before .if2 .left) (c .before .before .if3 .left) (c .before .if4 .left) (c .if5 .left)
+returns-6 c = c .used-by-procedure .ensures ∙ (ap (λ (k : ℕ). usedNumber (getD (some 8 ∷ some 4 ∷ some 6 ∷ []) k none)) (c .before .kind-at3 .ensures) ∙ used-procedure (c .before .before .before .before .before .before .before .before .before .args .section) (kindAt (c .before .before .before .before .before .before .before .before .before .args .rows .now) (c .before .before .before .before .before .before .before .before .before .args .i)) (c .before .before .if6 .taken))
+
+returns-7 : tie.Need-returns-7
+returns-7 c = used-none (c .before .before .before .before .before .before .before .args .section) (kindAt (c .before .before .before .before .before .before .before .args .rows .now) (c .before .before .before .before .before .before .before .args .i)) (c .before .before .before .before .before .if1 .left) (c .before .before .before .before .if2 .left) (c .before .before .before .if3 .left) (c .before .before .if4 .left) (c .before .if5 .left) (c .if6 .left)
 
 pub used-bytes-spec : {M : Type 1} → statement M
 used-bytes-spec =
@@ -78,4 +87,7 @@ used-bytes-spec =
     kind-at-requires-2
     used-by-pair-requires-2
     returns-5
-    returns-6)
+    kind-at-requires-3
+    used-by-procedure-requires
+    returns-6
+    returns-7)

@@ -1,80 +1,43 @@
--- `name_wrong` meets its contract: every name that was passed is a name and new. Assumes nothing.
-use mathlib.Core.Path.{_≡_, sym, ap, _∙_}
-use mathlib.Core.Bool.{true, not, _&&_}
-use Prim.Native.Nat.{ℕ, _+_, _*_, _-_, _/_, _≤_}
-use native.Mathlib.Omega.{arith}
-use borrow.Author.Needs.{needs}
-use borrow.Author.Tests.{not-true, not-false}
+-- `name_wrong` meets its contract, by the kind of file. Assumes nothing.
+use mathlib.Core.Path.{ap, _∙_}
+use mathlib.Core.Bool.{not}
+use Rattle.lingua.specs.Numbers.{limit-section}
 use Rattle.lingua.specs.Answers.{fileMeaning}
-use Rattle.lingua.specs.Rows.{bytesAt}
-use Rattle.lingua.specs.Format.{everyBelow}
-use Rattle.lingua.specs.Rules.{isName, isNew, namedSection}
-use Rattle.row_rules.proofs.Every.{every-none, every-more, every-fails, every-all, both-left, both-right}
-use Rattle.row_rules.proofs.Forms.{names-from, own-section}
+use Rattle.lingua.specs.Rules.{namesFit, nameWrong}
+use Rattle.row_rules.specs.Form.{FewProcedures}
+use Rattle.row_rules.proofs.Forms.{own-section}
+use borrow.Author.Needs.{needs}
 use Rattle.row_rules.proofs.names.name_wrong.Statement.{statement}
 use Rattle.row_rules.proofs.names.name_wrong.Tie as tie
 
-abbrev Inv-loop : tie.InvT-loop
-Inv-loop rows table start count d₀ d = (d ≤ count) × (everyBelow d (λ k. isName (bytesAt rows (start + 2 * k)) && isNew rows (table .section) k) ≡ true)
+enum-told : tie.Need-enum-told
+enum-told c = search needs
 
-abbrev μ-loop : tie.MeasureT-loop
-μ-loop rows table start count d₀ d = count - d
+profile-name-wrong-requires : tie.Need-profile-name-wrong-requires
+unfolding fileMeaning FewProcedures
+profile-name-wrong-requires c κs = (c .before .before .before .pre .0, rw (c .enum-told .given .1) at (c .before .before .before .pre .1))
 
-named-requires : tie.Need-named-requires Inv-loop μ-loop
-named-requires c κs = search needs
+enum-told-2 : tie.Need-enum-told-2
+enum-told-2 c = search needs
 
-loop-holds : tie.Need-loop-holds Inv-loop μ-loop
-loop-holds c = (omega arith, every-none (λ (k : ℕ). isName (bytesAt (c .before .before .before .args .rows .now) (c .before .named .result .start + 2 * k)) && isNew (c .before .before .before .args .rows .now) (c .before .named .result .section) k))
+names-fit-requires : tie.Need-names-fit-requires
+names-fit-requires c κs = own-section (c .before .before .before .args .rows .now) limit-section (c .before .before .before .args .t .limits) (c .before .before .before .pre .0 .limits)
 
-mul-bytes-at : tie.Need-mul-bytes-at Inv-loop μ-loop
-mul-bytes-at c = omega (arith, (c .before .before .before .named .ensures (c .before .before .before .before .before .args .rows .now) (c .before .before .before .before .before .pre)))
+returns : tie.Need-returns
+unfolding fileMeaning
+returns c = rw (c .before .enum-told .given .1) (c .profile-name-wrong .ensures)
 
-add-bytes-at : tie.Need-add-bytes-at Inv-loop μ-loop
-add-bytes-at c = omega (arith, (c .before .before .before .named .ensures (c .before .before .before .before .before .args .rows .now) (c .before .before .before .before .before .pre)))
-
-bytes-at-requires : tie.Need-bytes-at-requires Inv-loop μ-loop
-bytes-at-requires c κs = omega (arith, (c .before .before .before .named .ensures (c .before .before .before .before .before .args .rows .now) (c .before .before .before .before .before .pre)))
-
-is-name-requires : tie.Need-is-name-requires Inv-loop μ-loop
-is-name-requires c κs = omega arith
-
-returns : tie.Need-returns Inv-loop μ-loop
-returns c = sym (names-from (fileMeaning (c .before .before .before .before .before .before .before .before .args .file)) (c .before .before .before .before .before .before .before .before .args .rows .now) (c .before .before .before .before .before .before .named .result) (c .before .before .before .before .before .before .named .ensures (c .before .before .before .before .before .before .before .before .args .rows .now) (c .before .before .before .before .before .before .before .before .pre)) ∙ ap not (every-fails (λ (k : ℕ). isName (bytesAt (c .before .before .before .before .before .before .before .before .args .rows .now) (c .before .before .before .before .before .before .named .result .start + 2 * k)) && isNew (c .before .before .before .before .before .before .before .before .args .rows .now) (c .before .before .before .before .before .before .named .result .section) k) (c .before .before .before .before .before .before .named .result .count / 2) (c .before .before .before .before .loop .d) (c .before .before .before .loop-test .taken) (both-left _ _ (ap isName (sym (c .before .before .bytes-at .ensures .0)) ∙ sym (c .before .is-name .ensures) ∙ not-true (c .before .is-name .result) (c .if1 .taken)))))
-
-is-new-requires : tie.Need-is-new-requires Inv-loop μ-loop
-is-new-requires c κs = (own-section (c .before .before .before .before .before .before .before .before .args .rows .now) (namedSection (fileMeaning (c .before .before .before .before .before .before .before .before .args .file))) (c .before .before .before .before .before .before .named .result) (c .before .before .before .before .before .before .named .ensures (c .before .before .before .before .before .before .before .before .args .rows .now) (c .before .before .before .before .before .before .before .before .pre)), c .before .before .before .loop-test .taken)
-
-returns-2 : tie.Need-returns-2 Inv-loop μ-loop
-returns-2 c = sym (names-from (fileMeaning (c .before .before .before .before .before .before .before .before .before .before .args .file)) (c .before .before .before .before .before .before .before .before .before .before .args .rows .now) (c .before .before .before .before .before .before .before .before .named .result) (c .before .before .before .before .before .before .before .before .named .ensures (c .before .before .before .before .before .before .before .before .before .before .args .rows .now) (c .before .before .before .before .before .before .before .before .before .before .pre)) ∙ ap not (every-fails (λ (k : ℕ). isName (bytesAt (c .before .before .before .before .before .before .before .before .before .before .args .rows .now) (c .before .before .before .before .before .before .before .before .named .result .start + 2 * k)) && isNew (c .before .before .before .before .before .before .before .before .before .before .args .rows .now) (c .before .before .before .before .before .before .before .before .named .result .section) k) (c .before .before .before .before .before .before .before .before .named .result .count / 2) (c .before .before .before .before .before .before .loop .d) (c .before .before .before .before .before .loop-test .taken) (both-right _ _ (ap isName (sym (c .before .before .before .before .bytes-at .ensures .0)) ∙ sym (c .before .before .before .is-name .ensures) ∙ not-false (c .before .before .before .is-name .result) (c .before .before .if1 .left)) ∙ (sym (c .before .is-new .ensures) ∙ not-true (c .before .is-new .result) (c .if2 .taken)))))
-
-add-d : tie.Need-add-d Inv-loop μ-loop
-add-d c = omega arith
-
-loop-less : tie.Need-loop-less Inv-loop μ-loop
-loop-less c = omega arith
-
-loop-again : tie.Need-loop-again Inv-loop μ-loop
-loop-again c = (omega arith, every-more (λ (k : ℕ). isName (bytesAt (c .before .before .before .before .before .before .before .before .before .before .args .rows .now) (c .before .before .before .before .before .before .before .before .named .result .start + 2 * k)) && isNew (c .before .before .before .before .before .before .before .before .before .before .args .rows .now) (c .before .before .before .before .before .before .before .before .named .result .section) k) (c .before .before .before .before .before .before .loop .d) (c .before .before .before .before .before .before .loop .inv .1) (both-right _ _ (ap isName (sym (c .before .before .before .before .bytes-at .ensures .0)) ∙ sym (c .before .before .before .is-name .ensures) ∙ not-false (c .before .before .before .is-name .result) (c .before .before .if1 .left)) ∙ (sym (c .before .is-new .ensures) ∙ not-false (c .before .is-new .result) (c .if2 .left))))
-
-returns-3 : tie.Need-returns-3 Inv-loop μ-loop
-returns-3 c = ap not (every-all (λ (k : ℕ). isName (bytesAt (c .before .before .before .before .before .args .rows .now) (c .before .before .before .named .result .start + 2 * k)) && isNew (c .before .before .before .before .before .args .rows .now) (c .before .before .before .named .result .section) k) (c .before .loop .d) (c .before .before .before .named .result .count / 2) (c .before .loop .inv .1) (omega arith)) ∙ sym (names-from (fileMeaning (c .before .before .before .before .before .args .file)) (c .before .before .before .before .before .args .rows .now) (c .before .before .before .named .result) (c .before .before .before .named .ensures (c .before .before .before .before .before .args .rows .now) (c .before .before .before .before .before .pre)))
+returns-2 : tie.Need-returns-2
+unfolding fileMeaning nameWrong
+returns-2 c = rw (c .before .enum-told2 .given .1) (ap not (c .names-fit .ensures ∙ ap (namesFit (c .before .before .before .before .args .rows .now)) (c .before .before .before .before .pre .0 .limits .section)))
 
 pub name-wrong-spec : {M : Type 1} → statement M
 name-wrong-spec =
     tie.close
     (tie.spec
-    Inv-loop
-    μ-loop
-    named-requires
-    loop-holds
-    mul-bytes-at
-    add-bytes-at
-    bytes-at-requires
-    is-name-requires
+    enum-told
+    profile-name-wrong-requires
+    enum-told-2
+    names-fit-requires
     returns
-    is-new-requires
-    returns-2
-    add-d
-    loop-less
-    loop-again
-    returns-3)
+    returns-2)

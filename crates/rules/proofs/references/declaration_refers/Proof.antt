@@ -24,7 +24,7 @@ a-at-requires : tie.Need-a-at-requires
 a-at-requires c κs = search needs
 
 returns : tie.Need-returns
-returns c = sym (declaration-is (c .before .before .before .before .before .args .rows .now) (c .before .before .before .before .before .args .t) (c .before .before .before .before .before .pre .0) (c .before .before .before .before .before .args .d) ∙ both-left _ _ (le-ltb (aAt (c .before .before .before .before .before .args .rows .now) (c .before .before .before .before .before .args .t .declarations .start + (2 * c .before .before .before .before .before .args .d + 1))) (c .before .before .before .before .before .args .t .types .count) (omega arith)))
+returns c = sym (declaration-is (c .before .before .before .before .before .args .rows .now) (c .before .before .before .before .before .args .t) (c .before .before .before .before .before .pre .0) (c .before .before .before .before .before .args .own) (c .before .before .before .before .before .args .d) (c .before .before .before .before .before .pre .1 .0) ∙ both-left _ _ (le-ltb (aAt (c .before .before .before .before .before .args .rows .now) (c .before .before .before .before .before .args .own .start + (2 * c .before .before .before .before .before .args .d + 1))) (c .before .before .before .before .before .args .t .types .count) (omega arith)))
 
 b-at-requires : tie.Need-b-at-requires
 b-at-requires c κs = search needs
@@ -36,7 +36,7 @@ all-within-requires : tie.Need-all-within-requires
 all-within-requires c κs = search needs
 
 returns-2 : tie.Need-returns-2
-returns-2 c = sym (declaration-is (c .before .before .before .before .before .before .before .before .args .rows .now) (c .before .before .before .before .before .before .before .before .args .t) (c .before .before .before .before .before .before .before .before .pre .0) (c .before .before .before .before .before .before .before .before .args .d) ∙ both-right _ _ (lt-ltb (aAt (c .before .before .before .before .before .before .before .before .args .rows .now) (c .before .before .before .before .before .before .before .before .args .t .declarations .start + (2 * c .before .before .before .before .before .before .before .before .args .d + 1))) (c .before .before .before .before .before .before .before .before .args .t .types .count) (omega arith)) ∙ within-below (c .before .before .before .before .before .before .before .before .args .t .expressions .count) (c .before .yoke-root .ensures ∙ ap yokeRoot (c .before .before .b-at .ensures .0)) (c .all-within .ensures))
+returns-2 c = sym (declaration-is (c .before .before .before .before .before .before .before .before .args .rows .now) (c .before .before .before .before .before .before .before .before .args .t) (c .before .before .before .before .before .before .before .before .pre .0) (c .before .before .before .before .before .before .before .before .args .own) (c .before .before .before .before .before .before .before .before .args .d) (c .before .before .before .before .before .before .before .before .pre .1 .0) ∙ both-right _ _ (lt-ltb (aAt (c .before .before .before .before .before .before .before .before .args .rows .now) (c .before .before .before .before .before .before .before .before .args .own .start + (2 * c .before .before .before .before .before .before .before .before .args .d + 1))) (c .before .before .before .before .before .before .before .before .args .t .types .count) (omega arith)) ∙ within-below (c .before .before .before .before .before .before .before .before .args .t .expressions .count) (c .before .yoke-root .ensures ∙ ap yokeRoot (c .before .before .b-at .ensures .0)) (c .all-within .ensures))
 
 pub declaration-refers-spec : {M : Type 1} → statement M
 declaration-refers-spec =

@@ -1,5 +1,5 @@
 -- `rows_refusal` meets its contract: the first rule that applies is the lowest. Assumes nothing.
-use Rattle.rules.proofs.Lowest.{refused-6, refused-7, refused-8, refused-9, refused-later, later-profile, later-limits, is-profile, is-limits, only-profile, refused-judged}
+use Rattle.rules.proofs.Lowest.{refused-6, refused-7, refused-8, refused-9, refused-later, later-profile, later-limits, is-profile, is-limits, only-profile, few-procedures, refused-judged}
 use mathlib.Core.Path.{_≡_, sym, _∙_, subst}
 use mathlib.Core.Bool.{false}
 use native.Mathlib.Omega.{arith}
@@ -25,7 +25,8 @@ returns-2 c =
     refused-judged (fileMeaning (c .before .before .before .before .before .before .args .file)) (c .before .before .before .before .before .before .args .rows .now) (refused-7 (fileMeaning (c .before .before .before .before .before .before .args .file)) (c .before .before .before .before .before .before .args .rows .now) (c .before .before .before .form-wrong .ensures) (c .before .count-wrong .ensures (c .before .before .before .before .before .before .args .rows .now) (c .before .before .before .before .before .before .pre .0)) (c .before .before .if1 .left) (c .if2 .taken)) (omega arith)
 
 name-wrong-requires : tie.Need-name-wrong-requires
-name-wrong-requires c κs = c .before .before .before .before .before .before .pre .0
+name-wrong-requires c κs =
+    (c .before .before .before .before .before .before .pre .0, few-procedures (fileMeaning (c .before .before .before .before .before .before .args .file)) (c .before .before .before .before .before .before .args .rows .now) (c .before .before .before .before .before .before .args .t) (c .before .before .before .before .before .before .pre .0) (sym (c .before .count-wrong .ensures (c .before .before .before .before .before .before .args .rows .now) (c .before .before .before .before .before .before .pre .0)) ∙ c .if2 .left))
 
 returns-3 : tie.Need-returns-3
 returns-3 c =
