@@ -11,23 +11,23 @@ use lib.IntN.{ℤ}
 use mir.Syntax.{w32}
 use mir.Val.{toZ}
 use borrow.Author.Tests.{eqb-true, eqb-false, lt-ltb, le-ltb}
-use Rattle.lingua.specs.Numbers.{declaration-section, type-section, limit-section, row-bytes}
+use Rattle.lingua.specs.Numbers.{declaration-section, type-section, limit-section, row-bytes, scopeTable}
 use Rattle.lingua.specs.Outcome.{ok, Result}
 use Rattle.lingua.specs.Body.{Body, isNumber}
 use Rattle.lingua.specs.Compute.{sameText}
 use Rattle.lingua.specs.Store.{Limit}
 use Rattle.lingua.specs.Rows.{word32, aAt, bAt, bytesAt, tableStart, tableCount, rowIn, pairCount, nameRow, detailRow}
-use Rattle.lingua.specs.Trees.{typeBody, declaredBody, nameAt}
-use Rattle.lingua.specs.References.{declaredYoke}
+use Rattle.lingua.specs.Trees.{typeBody, bodyIn, nameAt}
+use Rattle.lingua.specs.References.{yokeIn}
 use Rattle.lingua.specs.Refusal.{isNumberBody, isNumberVariable}
-use Rattle.safety.specs.Accepted.{AcceptedRows, declared-type}
+use Rattle.safety.specs.Accepted.{AcceptedRows, scope-type}
 use Rattle.decoder.specs.Tables.{IsTable}
 use Rattle.decoder.specs.declared.tables.Table.{Table}
 use Rattle.body.specs.Encode.{Holds}
 use Rattle.body.proofs.Tags.{is-number, not-number}
 use Rattle.rules.specs.Accepted.{counts}
 use Rattle.rules.specs.Types.{bodyAt, BodiesBelow}
-use Rattle.profile.specs.Variables.{DeclaredIs}
+use Rattle.profile.specs.Variables.{HasScope, own-table, DeclaredIs, declared-in}
 
 -- ---- rows of pairs
 module _ (rows : List ℕ) (s : ℕ) (t : Table) (is : IsTable rows s t) where
@@ -52,22 +52,29 @@ module _ (rows : List ℕ) (s : ℕ) (t : Table) (is : IsTable rows s t) where
   unfolding nameAt
   same-name d name cs b e h = h ∙ ap (λ (l : List ℕ). sameText l name) (e ∙ ap (bytesAt rows) (name-place d))
 
-pub yoke-is : (rows : List ℕ) (t : Table) (d r : ℕ) → IsTable rows declaration-section t → r ≡ bAt rows (t .start + (2 * d + 1)) → r ≡ declaredYoke rows d
-unfolding declaredYoke
-yoke-is rows t d r is e = e ∙ ap (bAt rows) (detail-place rows declaration-section t is d)
+-- a scope's table by its own number
+module _ (rows : List ℕ) (t : Table) (scope : HasScope rows t) (d : ℕ) where
+  pub scope-detail : t .start + (2 * d + 1) ≡ detailRow rows (t .section) d
+  scope-detail = detail-place rows (t .section) t (own-table (scope .table)) d
+
+  pub yoke-is : (r : ℕ) → r ≡ bAt rows (t .start + (2 * d + 1)) → r ≡ yokeIn rows (t .section) d
+  unfolding yokeIn
+  yoke-is r e = e ∙ ap (bAt rows) scope-detail
 
 -- ---- a variable's body
-module _ (rows bodies : List ℕ) (accepted : AcceptedRows rows) (t : Table) (is : IsTable rows declaration-section t) (held : BodiesBelow rows bodies (tableCount rows type-section)) (d : ℕ) (l : d < t .count / 2) where
-  type-there : aAt rows (detailRow rows declaration-section d) < tableCount rows type-section
-  type-there = declared-type rows accepted d (omega (arith, pairs rows declaration-section t is))
+module _ (rows bodies : List ℕ) (accepted : AcceptedRows rows) (t : Table) (scope : HasScope rows t) (held : BodiesBelow rows bodies (tableCount rows type-section)) (d : ℕ) (l : d < t .count / 2) where
+  type-there : aAt rows (detailRow rows (t .section) d) < tableCount rows type-section
+  type-there =
+      subst (λ (s : ℕ). aAt rows (detailRow rows s d) < tableCount rows type-section) (sym (scope .table .section))
+      (scope-type rows accepted (scope .scope) (scope .there) d (omega (arith, pairs rows (scopeTable (scope .scope)) t (scope .table))))
 
-  pub type-inside : (r : ℕ) → r ≡ aAt rows (detailRow rows declaration-section d) → 96 * r + 96 ≤ length bodies
+  pub type-inside : (r : ℕ) → r ≡ aAt rows (detailRow rows (t .section) d) → 96 * r + 96 ≤ length bodies
   type-inside r e = omega (arith, type-there, held .long, counts rows (accepted .counts) .types .most)
 
-  pub declared-is : (r : ℕ) (x : List ℕ) → r ≡ aAt rows (detailRow rows declaration-section d) → x ≡ bodyAt bodies r → DeclaredIs rows d x
-  unfolding declaredBody
+  pub declared-is : (r : ℕ) (x : List ℕ) → r ≡ aAt rows (detailRow rows (t .section) d) → x ≡ bodyAt bodies r → DeclaredIs rows (t .section) d x
+  unfolding bodyIn
   declared-is r x e q =
-      let h = held .each (aAt rows (detailRow rows declaration-section d)) type-there in
+      let h = held .each (aAt rows (detailRow rows (t .section) d)) type-there in
       record { body = h .body; is = h .is; holds = subst (λ (y : List ℕ). Holds y (h .body)) (sym (q ∙ ap (bodyAt bodies) e)) (h .holds) }
 
 number-flag : (x : List ℕ) (b : Body) → Holds x b → eqb (getD x 0 0) 2 ≡ isNumber b
@@ -81,9 +88,10 @@ pub no-variable-there : (rows : List ℕ) (t : Table) (d : ℕ) → IsTable rows
 unfolding isNumberVariable
 no-variable-there rows t d is h = rw (le-ltb d (pairCount rows declaration-section) (omega (arith, pairs rows declaration-section t is)))
 
-pub number-there : (rows : List ℕ) (t : Table) (d : ℕ) (x : List ℕ) → IsTable rows declaration-section t → d < t .count / 2 → DeclaredIs rows d x → eqb (getD x 0 0) 2 ≡ isNumberVariable rows d
+pub number-there : (rows : List ℕ) (t : Table) (d : ℕ) (x : List ℕ) → IsTable rows declaration-section t → d < t .count / 2 → DeclaredIs rows (t .section) d x → eqb (getD x 0 0) 2 ≡ isNumberVariable rows d
 unfolding isNumberVariable
-number-there rows t d x is h v =
+number-there rows t d x is h w =
+    let v = declared-in is w in
     number-flag x (v .body) (v .holds)
     ∙ rw (lt-ltb d (pairCount rows declaration-section) (omega (arith, pairs rows declaration-section t is)), v .is)
 

@@ -4,16 +4,16 @@ use mathlib.Core.Path.{_≡_, refl, sym, ap, ap₂, _∙_, subst}
 use mathlib.Core.Bool.{Bool, true, false, Bool·beq}
 use mathlib.Core.List.{List, [], _∷_, _++_}
 use Prim.Native.Nat.{ℕ, zero, suc, _<_}
-use Rattle.lingua.specs.Numbers.{declaration-section, expression-section, instruction-section}
+use Rattle.lingua.specs.Numbers.{expression-section, instruction-section, scopeTable}
 use Rattle.lingua.specs.Errors.{isError}
-use Rattle.lingua.specs.Expression.{Expression, settledBy, constant, variable, current, unary, binary, lazy, choice, all-list, Instruction, skip, assign, set-yoke, sequence, branch, loop, handle}
+use Rattle.lingua.specs.Expression.{Expression, settledBy, constant, variable, current, unary, binary, lazy, choice, all-list, Instruction, skip, assign, set-yoke, sequence, branch, loop, handle, call}
 use Rattle.lingua.specs.Operations.{unaryMeaning, binaryMeaning}
-use Rattle.lingua.specs.Rows.{rowIn, tableCount, pairCount, ExpressionRow, expressionRow, operands, InstructionRow, instructionRow, parts, evaluated, yokeRoot, yokeSet}
-use Rattle.lingua.specs.Trees.{lower, no-expression, expressionOf, expressionTree, yokeTree, instructionOf, instructionTree}
+use Rattle.lingua.specs.Rows.{rowIn, tableCount, pairCount, procedureCount, ExpressionRow, expressionRow, operands, InstructionRow, call-row, instructionRow, parts, evaluated, yokeRoot, yokeSet}
+use Rattle.lingua.specs.Trees.{lower, no-expression, expressionOf, expressionTree, yokeTree, givenValues, givenReferences, instructionOf, instructionTree, instructionScope, expressionScope}
 use Rattle.lingua.specs.Rules.{handledErrors}
-use Rattle.lingua.specs.References.{expressionVariables, instructionVariables}
+use Rattle.lingua.specs.References.{expressionVariables, instructionVariables, allDifferent}
 use Rattle.safety.specs.Every.{Every, every-none, every-more}
-use Rattle.safety.specs.Accepted.{AcceptedRows, instruction-roots}
+use Rattle.safety.specs.Accepted.{AcceptedRows, Parameters, operands-below, expression-variables, parts-below, instruction-roots, instruction-variables, call-procedure, given-variables, references-differ, parameters-of}
 use Rattle.decoder.specs.declared.decode.ExpressionRow.the-variants as code
 use Rattle.decoder.specs.declared.decode.ExpressionRow.{ExpressionRow as CodeRow}
 use Rattle.decoder.specs.declared.decode.InstructionRow.the-variants as does
@@ -21,7 +21,7 @@ use Rattle.decoder.specs.declared.decode.InstructionRow.{InstructionRow as Code
 use Rattle.decoder.specs.declared.decode.Simple.{Simple}
 use Rattle.decoder.specs.Decoded.{connective, expressionMeaning, instructionMeaning}
 use Rattle.profile.specs.Row.{valueOf, constantOf, RowSays}
-use Rattle.rules.specs.Accepted.{expression-operands, expression-variables, instruction-parts, instruction-variables, handled-errors}
+use Rattle.rules.specs.Accepted.{handled-errors}
 use Rattle.profile.specs.Constants.{ConstantRow, constant-row-is}
 use Rattle.rules.specs.Unrolled.{lower-is, expression-unrolled, instruction-unrolled}
 
@@ -38,10 +38,10 @@ settles false = refl
 pub settled-by : (s t u : Bool) → Bool·beq s t ≡ u → Bool·beq s (settledBy (connective t)) ≡ u
 settled-by s t u e = ap (λ (r : Bool). Bool·beq s r) (settles t) ∙ e
 
--- operands are lower rows, a variable is declared, and a constant is in range
+-- operands are lower rows, a variable is declared in the row's scope, and a constant is in range
 unfoldable pub RowFacts : List ℕ → ℕ → CodeRow → Type 0
 RowFacts rows r (code.Constant k) = ConstantRow rows r
-RowFacts rows r (code.Variable n) = n < pairCount rows declaration-section
+RowFacts rows r (code.Variable n) = n < pairCount rows (scopeTable (expressionScope rows r))
 RowFacts rows r code.Current = Unit {0}
 RowFacts rows r (code.Unary o a) = a < r
 RowFacts rows r (code.Binary o a b) = (a < r) × (b < r)
@@ -50,7 +50,7 @@ RowFacts rows r (code.Choice a b c) = (a < r) × (b < r) × (c < r)
 RowFacts rows r (code.AllList a) = a < r
 
 facts-by : (rows : List ℕ) (r : ℕ) (c : CodeRow) → ((k : Simple) → RowSays rows r (code.Constant k) → ConstantRow rows r) → RowSays rows r c → Every (λ a. a < r) (operands (expressionMeaning rows (rowIn rows expression-section r) c))
-    → Every (λ n. n < pairCount rows declaration-section) (expressionVariables (expressionMeaning rows (rowIn rows expression-section r) c)) → RowFacts rows r c
+    → Every (λ n. n < pairCount rows (scopeTable (expressionScope rows r))) (expressionVariables (expressionMeaning rows (rowIn rows expression-section r) c)) → RowFacts rows r c
 unfolding RowFacts expressionMeaning operands expressionVariables
 facts-by rows r (code.Constant k) f s o v = f k s
 facts-by rows r (code.Variable n) f s o (every-more h v) = h
@@ -65,8 +65,8 @@ pub row-facts : (rows : List ℕ) → AcceptedRows rows → (r : ℕ) → r < ta
 row-facts rows accepted r l c s =
     facts-by rows r c
     (constant-row-is rows accepted r l) s
-    (subst (λ (e : ExpressionRow). Every (λ a. a < r) (operands e)) (sym (s .says)) (expression-operands rows (accepted .references) r l))
-    (subst (λ (e : ExpressionRow). Every (λ n. n < pairCount rows declaration-section) (expressionVariables e)) (sym (s .says)) (expression-variables rows (accepted .references) r l))
+    (subst (λ (e : ExpressionRow). Every (λ a. a < r) (operands e)) (sym (s .says)) (operands-below rows accepted r l))
+    (subst (λ (e : ExpressionRow). Every (λ n. n < pairCount rows (scopeTable (expressionScope rows r))) (expressionVariables e)) (sym (s .says)) (expression-variables rows accepted r l))
 
 -- the tree by those of the operands
 unfoldable pub rowTree : List ℕ → ℕ → CodeRow → Expression
@@ -100,37 +100,54 @@ row-tree rows r c s f =
     ∙ (ap (λ (e : ExpressionRow). expressionOf r e (lower r (λ a. expressionTree rows a) (no-expression r))) (sym (s .says)) ∙ tree-by rows r c s f)
 
 -- ---- instructions
--- parts are lower rows, a variable is declared, an expression or yoke is there, and a handled error is one
+-- a call's procedure is there, with its parameters, and the variables that are given are declared in the row's scope, those by reference all
+-- different
+pub record CallFacts (rows : List ℕ) (r k b c : ℕ) : Type 0 where
+  pub procedure : k < procedureCount rows
+  pub parameters : Parameters rows k
+  pub given : Every (λ n. n < pairCount rows (scopeTable (instructionScope rows r))) (givenValues rows k b ++ givenReferences rows k c)
+  pub differ : allDifferent (givenReferences rows k c) ≡ true
+
+-- parts are lower rows, a variable is declared in the row's scope, an expression or yoke is there, a handled error is one, and a call can be made
 unfoldable pub InstructionFacts : List ℕ → ℕ → CodeInstruction → Type 0
 InstructionFacts rows r does.Skip = Unit {0}
-InstructionFacts rows r (does.Assign n e) = (n < pairCount rows declaration-section) × (e < tableCount rows expression-section)
-InstructionFacts rows r (does.SetYoke n y) = (n < pairCount rows declaration-section) × Every (λ k. k < tableCount rows expression-section) (yokeRoot y)
+InstructionFacts rows r (does.Assign n e) = (n < pairCount rows (scopeTable (instructionScope rows r))) × (e < tableCount rows expression-section)
+InstructionFacts rows r (does.SetYoke n y) = (n < pairCount rows (scopeTable (instructionScope rows r))) × Every (λ k. k < tableCount rows expression-section) (yokeRoot y)
 InstructionFacts rows r (does.Sequence i j) = (i < r) × (j < r)
 InstructionFacts rows r (does.Branch e i j) = (e < tableCount rows expression-section) × (i < r) × (j < r)
 InstructionFacts rows r (does.Loop e i) = (e < tableCount rows expression-section) × (i < r)
 InstructionFacts rows r (does.Handle n i) = (isError n ≡ true) × (i < r)
+InstructionFacts rows r (does.Call k b c) = CallFacts rows r k b c
 
 instruction-by : (rows : List ℕ) (r : ℕ) (c : CodeInstruction) → Every (λ a. a < r) (parts (instructionMeaning c))
-    → Every (λ n. n < pairCount rows declaration-section) (instructionVariables (instructionMeaning c))
+    → Every (λ n. n < pairCount rows (scopeTable (instructionScope rows r))) (instructionVariables (instructionMeaning c))
     → Every (λ k. k < tableCount rows expression-section) (evaluated (instructionMeaning c) ++ yokeSet (instructionMeaning c))
-    → Every (λ n. isError n ≡ true) (handledErrors (instructionMeaning c)) → InstructionFacts rows r c
+    → Every (λ n. isError n ≡ true) (handledErrors (instructionMeaning c))
+    → ((k x y : ℕ) → instructionMeaning c ≡ call-row k x y → CallFacts rows r k x y) → InstructionFacts rows r c
 unfolding InstructionFacts instructionMeaning parts instructionVariables evaluated yokeSet handledErrors
-instruction-by rows r does.Skip p v e h = tt
-instruction-by rows r (does.Assign n x) p (every-more k v) (every-more l e) h = (k, l)
-instruction-by rows r (does.SetYoke n y) p (every-more k v) e h = (k, e)
-instruction-by rows r (does.Sequence i j) (every-more k (every-more l p)) v e h = (k, l)
-instruction-by rows r (does.Branch x i j) (every-more k (every-more l p)) v (every-more m e) h = (m, k, l)
-instruction-by rows r (does.Loop x i) (every-more k p) v (every-more m e) h = (m, k)
-instruction-by rows r (does.Handle n i) (every-more k p) v e (every-more m h) = (m, k)
+instruction-by rows r does.Skip p v e h f = tt
+instruction-by rows r (does.Assign n x) p (every-more k v) (every-more l e) h f = (k, l)
+instruction-by rows r (does.SetYoke n y) p (every-more k v) e h f = (k, e)
+instruction-by rows r (does.Sequence i j) (every-more k (every-more l p)) v e h f = (k, l)
+instruction-by rows r (does.Branch x i j) (every-more k (every-more l p)) v (every-more m e) h f = (m, k, l)
+instruction-by rows r (does.Loop x i) (every-more k p) v (every-more m e) h f = (m, k)
+instruction-by rows r (does.Handle n i) (every-more k p) v e (every-more m h) f = (m, k)
+instruction-by rows r (does.Call k x y) p v e h f = f k x y refl
+
+pub call-facts : (rows : List ℕ) → AcceptedRows rows → (r : ℕ) → r < tableCount rows instruction-section → (k b c : ℕ) → instructionRow rows r ≡ call-row k b c → CallFacts rows r k b c
+call-facts rows accepted r l k b c e =
+    let there = call-procedure rows accepted r k b c l e in
+    record { procedure = there; parameters = parameters-of rows accepted k there; given = given-variables rows accepted r k b c l e; differ = references-differ rows accepted r k b c l e }
 
 pub instruction-facts : (rows : List ℕ) → AcceptedRows rows → (r : ℕ) → r < tableCount rows instruction-section → (c : CodeInstruction)
     → instructionMeaning c ≡ instructionRow rows r → InstructionFacts rows r c
 instruction-facts rows accepted r l c s =
     instruction-by rows r c
-    (subst (λ (e : InstructionRow). Every (λ a. a < r) (parts e)) (sym s) (instruction-parts rows (accepted .references) r l))
-    (subst (λ (e : InstructionRow). Every (λ n. n < pairCount rows declaration-section) (instructionVariables e)) (sym s) (instruction-variables rows (accepted .references) r l))
+    (subst (λ (e : InstructionRow). Every (λ a. a < r) (parts e)) (sym s) (parts-below rows accepted r l))
+    (subst (λ (e : InstructionRow). Every (λ n. n < pairCount rows (scopeTable (instructionScope rows r))) (instructionVariables e)) (sym s) (instruction-variables rows accepted r l))
     (subst (λ (e : InstructionRow). Every (λ k. k < tableCount rows expression-section) (evaluated e ++ yokeSet e)) (sym s) (instruction-roots rows accepted r l))
     (subst (λ (e : InstructionRow). Every (λ n. isError n ≡ true) (handledErrors e)) (sym s) (handled-errors rows (accepted .constants) r l))
+    (λ k x y e. call-facts rows accepted r l k x y (sym s ∙ e))
 
 -- the tree by those of the parts
 unfoldable pub instructionRowTree : List ℕ → ℕ → CodeInstruction → Instruction
@@ -141,6 +158,7 @@ instructionRowTree rows r (does.Sequence i j) = sequence r (instructionTree rows
 instructionRowTree rows r (does.Branch e i j) = branch r (expressionTree rows e) (instructionTree rows i) (instructionTree rows j)
 instructionRowTree rows r (does.Loop e i) = loop r (expressionTree rows e) (instructionTree rows i)
 instructionRowTree rows r (does.Handle n i) = handle r n (instructionTree rows i)
+instructionRowTree rows r (does.Call k b c) = call r k (givenValues rows k b) (givenReferences rows k c)
 
 module _ (rows : List ℕ) (r : ℕ) where
   at-part : (a : ℕ) → a < r → lower r (λ k. instructionTree rows k) (skip r) a ≡ instructionTree rows a
@@ -155,6 +173,7 @@ module _ (rows : List ℕ) (r : ℕ) where
   instruction-tree-by (does.Branch e i j) f = ap₂ (branch r (expressionTree rows e)) (at-part i (f .1)) (at-part j (f .2))
   instruction-tree-by (does.Loop e i) f = ap (loop r (expressionTree rows e)) (at-part i (f .1))
   instruction-tree-by (does.Handle n i) f = ap (handle r n) (at-part i (f .1))
+  instruction-tree-by (does.Call k b c) f = refl
 
 pub instruction-row-tree : (rows : List ℕ) (r : ℕ) (c : CodeInstruction) → instructionMeaning c ≡ instructionRow rows r → InstructionFacts rows r c → instructionTree rows r ≡ instructionRowTree rows r c
 instruction-row-tree rows r c s f =

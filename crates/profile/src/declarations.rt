@@ -1,4 +1,4 @@
-// Declarations: the type, body and yoke of variable d.
+// Declarations, the profile's or a procedure's: the type, body and yoke of variable d.
 use body::walk::NUMBER;
 use decoder::fields::a_at;
 use decoder::fields::b_at;
@@ -9,18 +9,18 @@ ghost use mathlib.Core.Path.{_≡_};
 ghost use Prim.Native.Nat.{_/_, _<_};
 ghost use Rattle.lingua.specs.Numbers.{declaration-section, type-section};
 ghost use Rattle.lingua.specs.Rows.{aAt, tableCount, detailRow};
-ghost use Rattle.lingua.specs.References.{declaredYoke};
+ghost use Rattle.lingua.specs.References.{yokeIn};
 ghost use Rattle.lingua.specs.Refusal.{isNumberVariable};
 ghost use Rattle.safety.specs.Accepted.{AcceptedRows};
 ghost use Rattle.decoder.specs.Tables.{IsTable};
 ghost use Rattle.rules.specs.Types.{BodiesBelow};
-ghost use Rattle.profile.specs.Variables.{DeclarationsKnown, DeclaredIs};
+ghost use Rattle.profile.specs.Variables.{HasScope, VariablesKnown, DeclaredIs};
 
 // The type row of variable d.
 pub fn declared_type(rows: &[u8], t: Table, d: usize) -> usize
-    requires { ⌜ IsTable (now rows) declaration-section t ⌝ }
+    requires { ⌜ HasScope (now rows) t ⌝ }
     requires { ⌜ d < t .count / 2 ⌝ }
-    ensures { λ r. ⌜ r ≡ aAt (now (rows .entry)) (detailRow (now (rows .entry)) declaration-section d) ⌝ }
+    ensures { λ r. ⌜ r ≡ aAt (now (rows .entry)) (detailRow (now (rows .entry)) (t .section) d) ⌝ }
 {
     let start = t.start;
     a_at(rows, start + (2 * d + 1))
@@ -28,9 +28,9 @@ pub fn declared_type(rows: &[u8], t: Table, d: usize) -> usize
 
 // The declared yoke of variable d, as in the state words: 0, or one more than its expression row.
 pub fn declared_yoke(rows: &[u8], t: Table, d: usize) -> usize
-    requires { ⌜ IsTable (now rows) declaration-section t ⌝ }
+    requires { ⌜ HasScope (now rows) t ⌝ }
     requires { ⌜ d < t .count / 2 ⌝ }
-    ensures { λ r. ⌜ r ≡ declaredYoke (now (rows .entry)) d ⌝ }
+    ensures { λ r. ⌜ r ≡ yokeIn (now (rows .entry)) (t .section) d ⌝ }
     ensures { λ r. ⌜ r < 65536 ⌝ }
 {
     let start = t.start;
@@ -39,15 +39,15 @@ pub fn declared_yoke(rows: &[u8], t: Table, d: usize) -> usize
 
 // The declared body of variable d.
 pub fn declared_body(rows: &[u8], t: Table, d: usize, bodies: &[u8]) -> [u8; BODY_BYTES]
-    requires { ⌜ DeclarationsKnown (now rows) t (now bodies) ⌝ }
+    requires { ⌜ VariablesKnown (now rows) t (now bodies) ⌝ }
     requires { ⌜ d < t .count / 2 ⌝ }
-    ensures { λ x. ⌜ DeclaredIs (now (rows .entry)) d x ⌝ }
+    ensures { λ x. ⌜ DeclaredIs (now (rows .entry)) (t .section) d x ⌝ }
 {
     let r = declared_type(rows, t, d);
     type_body(bodies, r)
 }
 
-// Whether d is a number variable.
+// Whether d is a number variable of the profile.
 pub fn is_number_variable(rows: &[u8], t: Table, d: usize, bodies: &[u8]) -> bool
     requires { ⌜ IsTable (now rows) declaration-section t ⌝ }
     requires { ⌜ AcceptedRows (now rows) ⌝ }

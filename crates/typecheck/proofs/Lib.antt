@@ -1,3 +1,6 @@
 pub mod Settling
+pub mod Scoping
+pub mod Giving
+pub mod Instructing
 pub mod Wholes
 pub mod Answering

@@ -1,26 +1,31 @@
 -- What yokes, tests, assignments and whole lists of them give, for each way in which their functions end. Assumes nothing.
-use mathlib.Core.Path.{_≡_, refl, sym, ap, _∙_}
+use mathlib.Core.Path.{_≡_, refl, sym, ap, _∙_, subst}
 use mathlib.Core.Bool.{Bool, true, false}
 use mathlib.Core.List.{List, [], _∷_, _++_, append-assoc, append-nil}
 use mathlib.Core.Option.{some}
 use Prim.Native.Nat.{ℕ, zero, suc, _+_, _-_, _≤_, _<_}
 use native.Mathlib.Numerals.{add-one}
 use native.Mathlib.Omega.{arith}
-use Rattle.lingua.specs.Numbers.{body-bytes}
+use Rattle.lingua.specs.Numbers.{body-bytes, instruction-place}
+use Rattle.lingua.specs.Errors.{no-coherence}
 use Rattle.lingua.specs.Outcome.{Outcome, ok, fail, allAnswers, _>>=_}
 use Rattle.lingua.specs.Body.{Body, boolean, size, nodes}
 use Rattle.lingua.specs.Value.{pad}
 use Rattle.lingua.specs.Encode.{bytes, encoded}
-use Rattle.lingua.specs.Expression.{Expression, yoke}
+use Rattle.lingua.specs.Expression.{Expression, yoke, call}
+use Rattle.lingua.specs.Rows.{pairCount}
 use Rattle.lingua.specs.Trees.{tabulateFrom, tabulate, expressionTree, yokeTree}
-use Rattle.lingua.specs.Typing.{TypeError, typeError, Entry, Typed, Finding, Bodies, check, judged, checkYoke, joined, placed}
+use Rattle.lingua.specs.Typing.{TypeError, typeError, Entry, Typed, Finding, Bodies, check, judged, checkYoke, givenFit, checkInstruction, joined, placed}
 use Rattle.laws.specs.Outcomes.{none-is-some}
+use Rattle.safety.specs.Constants.{ClosedYoke}
 use Rattle.safety.specs.Faults.{some-fault}
 use Rattle.body.specs.Encode.{Holds}
 use Rattle.typing.specs.declared.findings.Checked.{Checked}
 use Rattle.typecheck.specs.declared.verdicts.Verdict.{Verdict}
-use Rattle.typing.specs.Check.{faultAt, Gives}
+use Rattle.typing.specs.declared.walk.Scope.{Scope}
+use Rattle.typing.specs.Check.{faultAt, Readable, Gives}
 use Rattle.typecheck.specs.Verdicts.{Judges, Settles-failed, Settles, inOrder}
+use Rattle.typing.proofs.Reading.{closed-reads}
 use Rattle.typing.proofs.Found.{Passed, fault-named}
 use Rattle.typing.proofs.Returns.{placed-append}
 
@@ -38,7 +43,7 @@ entries-settle : (v : Verdict) (l m : List ℕ) (es : List Entry) → v .error �
 unfolding Settles
 entries-settle v l m es e p = record { passed = e; layout = p }
 
-error-settles : (v : Verdict) (l m : List ℕ) (n p : ℕ) → (v .error ≡ n) × (v .place ≡ p) → 1 ≤ n → Settles v l m (fail (typeError n p))
+pub error-settles : (v : Verdict) (l m : List ℕ) (n p : ℕ) → (v .error ≡ n) × (v .place ≡ p) → 1 ≤ n → Settles v l m (fail (typeError n p))
 unfolding Settles
 error-settles v l m n p h k = record { some-error = k; error = h .0; place = h .1 }
 
@@ -73,6 +78,18 @@ module _ (c : Checked) (suits : Bool) (own : TypeError) (v : Verdict) (z : c .er
       let q = no-fault o asks l m j in
       rw (q .is, sym (j .told (q .typed .body) (q .passes .holds)) ∙ s) (entries-settle v l m (q .typed .entries) (h .0) (q .passes .layout))
 
+-- ---- calls
+pub call-fails : (v : Verdict) (l : List ℕ) (row place : ℕ) → place ≡ instruction-place + row → (procs : ℕ → Bodies) (vars : Bodies) (k : ℕ) (vs rs : List ℕ) → givenFit vars (vs ++ rs) (procs k) 0 ≡ false
+    → (v .error ≡ no-coherence) × (v .place ≡ place) → Settles v l l (checkInstruction procs vars (call row k vs rs))
+unfolding checkInstruction
+call-fails v l row place e procs vars k vs rs h s =
+    rw h (error-settles v l l no-coherence (instruction-place + row) (s .0, s .1 ∙ e) (omega arith))
+
+pub call-passes : (v : Verdict) (l : List ℕ) (row : ℕ) (procs : ℕ → Bodies) (vars : Bodies) (k : ℕ) (vs rs : List ℕ) → givenFit vars (vs ++ rs) (procs k) 0 ≡ true
+    → (v .error ≡ 0) × (v .place ≡ 0) → Settles v l l (checkInstruction procs vars (call row k vs rs))
+unfolding checkInstruction
+call-passes v l row procs vars k vs rs h s = rw h (nothing-settles v l s)
+
 -- ---- yokes
 pub no-yoke : (rows : List ℕ) (y : ℕ) (vars : Bodies) (b : Body) (p : ℕ) (v : Verdict) (l : List ℕ) → y ≡ 0 → (v .error ≡ 0) × (v .place ≡ 0) → Settles v l l (checkYoke (yokeTree rows y) vars b p)
 unfolding checkYoke yokeTree
@@ -82,6 +99,12 @@ pub yoke-row : (rows : List ℕ) (y : ℕ) → (y ≡ 0 → ⊥) → yokeTree ro
 unfolding yokeTree
 yoke-row rows zero n = absurd (n refl)
 yoke-row rows (suc r) n = ap (λ (k : ℕ). yoke (expressionTree rows k)) (let e : r ≡ suc r - 1 = omega arith in e)
+
+-- a yoke reads no variable
+pub yoke-reads : (rows : List ℕ) (s : Scope) (y : ℕ) → (y ≡ 0 → ⊥) → ClosedYoke (yokeTree rows y) → Readable rows s (y - 1)
+unfolding ClosedYoke Readable
+yoke-reads rows s y n h =
+    closed-reads (pairCount rows (s .variables .section)) (expressionTree rows (y - 1)) (subst ClosedYoke (yoke-row rows y n) h .reads-none)
 
 -- ---- one after the other
 pub record Settled (v : Verdict) (l m : List ℕ) (o : Outcome TypeError (List Entry)) : Type 0 where

@@ -1,4 +1,5 @@
 pub mod Rows
 pub mod Parts
+pub mod Reading
 pub mod Found
 pub mod Returns

@@ -2,30 +2,26 @@
 use crate::findings::Checked;
 use crate::findings::found;
 use body::walk::measure_body;
-use decoder::fields::a_at;
-use decoder::tables::Tables;
+use decoder::tables::Table;
 use lingua::sizes::BODY_BYTES;
-use rules::types::type_body;
+use profile::declarations::declared_body;
 ghost use Prim.Native.Nat.{_+_, _*_, _≤_, _<_};
 ghost use lib.ListN.{length};
-ghost use Rattle.lingua.specs.Numbers.{declaration-section};
 ghost use Rattle.lingua.specs.Rows.{pairCount};
 ghost use Rattle.lingua.specs.Body.{Body};
 ghost use Rattle.lingua.specs.Expression.{current};
 ghost use Rattle.lingua.specs.Typing.{Bodies, check};
 ghost use Rattle.body.specs.Encode.{Holds, Held};
-ghost use Rattle.typing.specs.Check.{Ready, Noted, Gives, currentIf, variableBodies};
+ghost use Rattle.profile.specs.Variables.{VariablesKnown};
+ghost use Rattle.typing.specs.Check.{Noted, Gives, currentIf, variableBodies};
 
-// A variable's declared body is that of its declaration's type row.
-pub fn variable_body(rows: &[u8], tables: Tables, bodies: &[u8], n: usize) -> [u8; BODY_BYTES]
-    requires { ⌜ Ready (now rows) tables (now bodies) ⌝ }
-    requires { ⌜ n < pairCount (now rows) declaration-section ⌝ }
-    ensures { λ r. ⌜ Holds r (variableBodies (now (rows .entry)) n) ⌝ }
+// The declared body of a variable of a scope, whose table is given.
+pub fn variable_body(rows: &[u8], t: Table, bodies: &[u8], n: usize) -> [u8; BODY_BYTES]
+    requires { ⌜ VariablesKnown (now rows) t (now bodies) ⌝ }
+    requires { ⌜ n < pairCount (now rows) (t .section) ⌝ }
+    ensures { λ r. ⌜ Holds r (variableBodies (now (rows .entry)) (t .section) n) ⌝ }
 {
-    let table = tables.declarations;
-    let i = table.start + (2 * n + 1);
-    let t = a_at(rows, i);
-    type_body(bodies, t)
+    declared_body(rows, t, n, bodies)
 }
 
 // A row's result has so many cells; beside them stands the row's second number.

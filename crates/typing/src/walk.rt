@@ -13,7 +13,7 @@ use body_half::operation::binary_half;
 use body_half::operation::unary_half;
 use body_half::unary::is_boolean;
 use decoder::decode::ExpressionRow as Row;
-use decoder::tables::Tables;
+use decoder::tables::Table;
 use lingua::errors::BOOLEAN_EXPECTED;
 use lingua::errors::NO_COHERENCE;
 use lingua::errors::YOKE_EXPECTED;
@@ -22,29 +22,34 @@ use lingua::operations::UnaryOperation;
 use lingua::sizes::BODY_BYTES;
 use profile::constants::constant_body;
 use profile::row::expression_row;
-ghost use Prim.Native.Nat.{_<_};
 ghost use Rattle.lingua.specs.Body.{Body};
 ghost use Rattle.lingua.specs.Expression.{Connective, unary, binary, lazy, choice, all-list};
 ghost use Rattle.lingua.specs.Operations.{unaryMeaning, binaryMeaning};
 ghost use Rattle.lingua.specs.Typing.{check};
 ghost use Rattle.lingua.specs.Trees.{expressionTree};
 ghost use Rattle.body.specs.Encode.{Holds};
-ghost use Rattle.typing.specs.Check.{Asked, Gives, currentIf, variableBodies};
+ghost use Rattle.typing.specs.Check.{Asked, Operand, Gives, currentIf, variableBodies};
+
+// The tables that are read: the expressions', and that of the variables which they name.
+pub struct Scope {
+    pub expressions: Table,
+    pub variables: Table,
+}
 
 // What is found of an expression row. The current value has the body `current`, or none unless `known`.
 pub fn check(
     row: usize,
     rows: &[u8],
-    tables: Tables,
+    scope: Scope,
     bodies: &[u8],
     known: bool,
     current: [u8; BODY_BYTES],
     layout: &mut [u16],
 ) -> Checked
-    requires { ⌜ Asked row (now rows) tables (now bodies) current (now layout) ⌝ }
-    ensures { λ r. ⌜ ((b : Body) → Holds current b → Gives r (now (layout .entry)) (now (layout .exit)) (check (expressionTree (now (rows .entry)) row) (variableBodies (now (rows .entry))) (currentIf known b))) ⌝ }
+    requires { ⌜ Asked row (now rows) scope (now bodies) current (now layout) ⌝ }
+    ensures { λ r. ⌜ ((b : Body) → Holds current b → Gives r (now (layout .entry)) (now (layout .exit)) (check (expressionTree (now (rows .entry)) row) (variableBodies (now (rows .entry)) (scope .variables .section)) (currentIf known b))) ⌝ }
 {
-    let table = tables.expressions;
+    let table = scope.expressions;
     let e = expression_row(rows, table, row);
     match e {
         Row::Constant(_) => {
@@ -52,15 +57,15 @@ pub fn check(
             note_row(row, body, 0, layout)
         }
         Row::Variable(n) => {
-            let body = variable_body(rows, tables, bodies, n);
+            let body = variable_body(rows, scope.variables, bodies, n);
             note_row(row, body, 0, layout)
         }
         Row::Current => note_current(row, known, current, layout),
-        Row::Unary(o, a) => unary(row, rows, tables, bodies, o, a, known, current, layout),
-        Row::Binary(o, a, b) => binary(row, rows, tables, bodies, o, a, b, known, current, layout),
-        Row::Lazy(_, a, b) => lazy(row, rows, tables, bodies, a, b, known, current, layout),
-        Row::Choice(a, b, c) => choice(row, rows, tables, bodies, a, b, c, known, current, layout),
-        Row::AllList(a) => all_list(row, rows, tables, bodies, a, known, current, layout),
+        Row::Unary(o, a) => unary(row, rows, scope, bodies, o, a, known, current, layout),
+        Row::Binary(o, a, b) => binary(row, rows, scope, bodies, o, a, b, known, current, layout),
+        Row::Lazy(_, a, b) => lazy(row, rows, scope, bodies, a, b, known, current, layout),
+        Row::Choice(a, b, c) => choice(row, rows, scope, bodies, a, b, c, known, current, layout),
+        Row::AllList(a) => all_list(row, rows, scope, bodies, a, known, current, layout),
     }
 }
 
@@ -68,7 +73,7 @@ pub fn check(
 fn unary(
     row: usize,
     rows: &[u8],
-    tables: Tables,
+    scope: Scope,
     bodies: &[u8],
     o: UnaryOperation,
     a: usize,
@@ -76,11 +81,11 @@ fn unary(
     current: [u8; BODY_BYTES],
     layout: &mut [u16],
 ) -> Checked
-    requires { ⌜ Asked row (now rows) tables (now bodies) current (now layout) ⌝ }
-    requires { ⌜ a < row ⌝ }
-    ensures { λ r. ⌜ ((b : Body) → Holds current b → Gives r (now (layout .entry)) (now (layout .exit)) (check (unary row (unaryMeaning o) (expressionTree (now (rows .entry)) a)) (variableBodies (now (rows .entry))) (currentIf known b))) ⌝ }
+    requires { ⌜ Asked row (now rows) scope (now bodies) current (now layout) ⌝ }
+    requires { ⌜ Operand (now rows) scope row a ⌝ }
+    ensures { λ r. ⌜ ((b : Body) → Holds current b → Gives r (now (layout .entry)) (now (layout .exit)) (check (unary row (unaryMeaning o) (expressionTree (now (rows .entry)) a)) (variableBodies (now (rows .entry)) (scope .variables .section)) (currentIf known b))) ⌝ }
 {
-    let x = check(a, rows, tables, bodies, known, current, layout);
+    let x = check(a, rows, scope, bodies, known, current, layout);
     if !x.known {
         return x;
     }
@@ -97,7 +102,7 @@ fn unary(
 fn binary(
     row: usize,
     rows: &[u8],
-    tables: Tables,
+    scope: Scope,
     bodies: &[u8],
     o: BinaryOperation,
     a: usize,
@@ -106,12 +111,12 @@ fn binary(
     current: [u8; BODY_BYTES],
     layout: &mut [u16],
 ) -> Checked
-    requires { ⌜ Asked row (now rows) tables (now bodies) current (now layout) ⌝ }
-    requires { ⌜ (a < row) × (b < row) ⌝ }
-    ensures { λ r. ⌜ ((d : Body) → Holds current d → Gives r (now (layout .entry)) (now (layout .exit)) (check (binary row (binaryMeaning o) (expressionTree (now (rows .entry)) a) (expressionTree (now (rows .entry)) b)) (variableBodies (now (rows .entry))) (currentIf known d))) ⌝ }
+    requires { ⌜ Asked row (now rows) scope (now bodies) current (now layout) ⌝ }
+    requires { ⌜ Operand (now rows) scope row a × Operand (now rows) scope row b ⌝ }
+    ensures { λ r. ⌜ ((d : Body) → Holds current d → Gives r (now (layout .entry)) (now (layout .exit)) (check (binary row (binaryMeaning o) (expressionTree (now (rows .entry)) a) (expressionTree (now (rows .entry)) b)) (variableBodies (now (rows .entry)) (scope .variables .section)) (currentIf known d))) ⌝ }
 {
-    let x = check(a, rows, tables, bodies, known, current, layout);
-    let y = check(b, rows, tables, bodies, known, current, layout);
+    let x = check(a, rows, scope, bodies, known, current, layout);
+    let y = check(b, rows, scope, bodies, known, current, layout);
     let all = together(x, y);
     if !all.known {
         return all;
@@ -130,7 +135,7 @@ fn binary(
 fn lazy(
     row: usize,
     rows: &[u8],
-    tables: Tables,
+    scope: Scope,
     bodies: &[u8],
     a: usize,
     b: usize,
@@ -138,12 +143,12 @@ fn lazy(
     current: [u8; BODY_BYTES],
     layout: &mut [u16],
 ) -> Checked
-    requires { ⌜ Asked row (now rows) tables (now bodies) current (now layout) ⌝ }
-    requires { ⌜ (a < row) × (b < row) ⌝ }
-    ensures { λ r. ⌜ ((k : Connective) (d : Body) → Holds current d → Gives r (now (layout .entry)) (now (layout .exit)) (check (lazy row k (expressionTree (now (rows .entry)) a) (expressionTree (now (rows .entry)) b)) (variableBodies (now (rows .entry))) (currentIf known d))) ⌝ }
+    requires { ⌜ Asked row (now rows) scope (now bodies) current (now layout) ⌝ }
+    requires { ⌜ Operand (now rows) scope row a × Operand (now rows) scope row b ⌝ }
+    ensures { λ r. ⌜ ((k : Connective) (d : Body) → Holds current d → Gives r (now (layout .entry)) (now (layout .exit)) (check (lazy row k (expressionTree (now (rows .entry)) a) (expressionTree (now (rows .entry)) b)) (variableBodies (now (rows .entry)) (scope .variables .section)) (currentIf known d))) ⌝ }
 {
-    let x = check(a, rows, tables, bodies, known, current, layout);
-    let y = check(b, rows, tables, bodies, known, current, layout);
+    let x = check(a, rows, scope, bodies, known, current, layout);
+    let y = check(b, rows, scope, bodies, known, current, layout);
     let all = together(x, y);
     if !all.known {
         return all;
@@ -163,7 +168,7 @@ fn lazy(
 fn choice(
     row: usize,
     rows: &[u8],
-    tables: Tables,
+    scope: Scope,
     bodies: &[u8],
     a: usize,
     b: usize,
@@ -172,13 +177,13 @@ fn choice(
     current: [u8; BODY_BYTES],
     layout: &mut [u16],
 ) -> Checked
-    requires { ⌜ Asked row (now rows) tables (now bodies) current (now layout) ⌝ }
-    requires { ⌜ (a < row) × ((b < row) × (c < row)) ⌝ }
-    ensures { λ r. ⌜ ((d : Body) → Holds current d → Gives r (now (layout .entry)) (now (layout .exit)) (check (choice row (expressionTree (now (rows .entry)) a) (expressionTree (now (rows .entry)) b) (expressionTree (now (rows .entry)) c)) (variableBodies (now (rows .entry))) (currentIf known d))) ⌝ }
+    requires { ⌜ Asked row (now rows) scope (now bodies) current (now layout) ⌝ }
+    requires { ⌜ Operand (now rows) scope row a × (Operand (now rows) scope row b × Operand (now rows) scope row c) ⌝ }
+    ensures { λ r. ⌜ ((d : Body) → Holds current d → Gives r (now (layout .entry)) (now (layout .exit)) (check (choice row (expressionTree (now (rows .entry)) a) (expressionTree (now (rows .entry)) b) (expressionTree (now (rows .entry)) c)) (variableBodies (now (rows .entry)) (scope .variables .section)) (currentIf known d))) ⌝ }
 {
-    let t = check(a, rows, tables, bodies, known, current, layout);
-    let yes = check(b, rows, tables, bodies, known, current, layout);
-    let no = check(c, rows, tables, bodies, known, current, layout);
+    let t = check(a, rows, scope, bodies, known, current, layout);
+    let yes = check(b, rows, scope, bodies, known, current, layout);
+    let no = check(c, rows, scope, bodies, known, current, layout);
     let branches = together(yes, no);
     let all = together(t, branches);
     if !all.known {
@@ -201,20 +206,20 @@ fn choice(
 fn all_list(
     row: usize,
     rows: &[u8],
-    tables: Tables,
+    scope: Scope,
     bodies: &[u8],
     a: usize,
     known: bool,
     current: [u8; BODY_BYTES],
     layout: &mut [u16],
 ) -> Checked
-    requires { ⌜ Asked row (now rows) tables (now bodies) current (now layout) ⌝ }
-    requires { ⌜ a < row ⌝ }
-    ensures { λ r. ⌜ ((b : Body) → Holds current b → Gives r (now (layout .entry)) (now (layout .exit)) (check (all-list row (expressionTree (now (rows .entry)) a)) (variableBodies (now (rows .entry))) (currentIf known b))) ⌝ }
+    requires { ⌜ Asked row (now rows) scope (now bodies) current (now layout) ⌝ }
+    requires { ⌜ Operand (now rows) scope row a ⌝ }
+    ensures { λ r. ⌜ ((b : Body) → Holds current b → Gives r (now (layout .entry)) (now (layout .exit)) (check (all-list row (expressionTree (now (rows .entry)) a)) (variableBodies (now (rows .entry)) (scope .variables .section)) (currentIf known b))) ⌝ }
 {
     let list = elements(row, known, current);
     let element = list.body;
-    let x = check(a, rows, tables, bodies, list.known, element, layout);
+    let x = check(a, rows, scope, bodies, list.known, element, layout);
     let all = together(x, list);
     if !all.known {
         return all;

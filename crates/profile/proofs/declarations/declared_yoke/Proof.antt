@@ -20,7 +20,7 @@ b-at-requires : tie.Need-b-at-requires
 b-at-requires c κs = search needs
 
 returns : tie.Need-returns
-returns c = (yoke-is (c .before .before .args .rows .now) (c .before .before .args .t) (c .before .before .args .d) (c .b-at .result) (c .before .before .pre .0) (c .b-at .ensures .0), c .b-at .ensures .1)
+returns c = (yoke-is (c .before .before .args .rows .now) (c .before .before .args .t) (c .before .before .pre .0) (c .before .before .args .d) (c .b-at .result) (c .b-at .ensures .0), c .b-at .ensures .1)
 
 pub declared-yoke-spec : {M : Type 1} → statement M
 declared-yoke-spec = tie.close (tie.spec mul-b-at add-b-at add-b-at-2 b-at-requires returns)

@@ -1,5 +1,6 @@
 -- `is_number_variable` meets its contract: a number's body begins with its tag. Assumes nothing.
 use native.Mathlib.Omega.{arith}
+use Rattle.profile.specs.Variables.{own-scope}
 use Rattle.profile.proofs.Declaring.{no-variable-there, number-there}
 use borrow.Author.Needs.{needs}
 use Rattle.profile.proofs.declarations.is_number_variable.Statement.{statement}
@@ -12,7 +13,7 @@ returns : tie.Need-returns
 returns c = no-variable-there (c .before .before .before .before .args .rows .now) (c .before .before .before .before .args .t) (c .before .before .before .before .args .d) (c .before .before .before .before .pre .0) (c .if1 .taken)
 
 declared-body-requires : tie.Need-declared-body-requires
-declared-body-requires c κs = search needs
+declared-body-requires c κs = (record { scope = own-scope (c .before .before .before .before .pre .0); accepted = c .before .before .before .before .pre .1 .0; held = c .before .before .before .before .pre .1 .1 }, omega (arith, c .if1 .left))
 
 array-read-result : tie.Need-array-read-result
 array-read-result c = search needs

@@ -4,6 +4,7 @@ use borrow.Author.Needs.{needs}
 use Rattle.lingua.specs.Body.{boolean}
 use Rattle.lingua.specs.Typing.{checkInstruction}
 use Rattle.typecheck.proofs.Settling.{none-holds, judges-by}
+use Rattle.typecheck.proofs.Scoping.{sees-known}
 use Rattle.typecheck.proofs.verdicts.check_assignment.Statement.{statement}
 use Rattle.typecheck.proofs.verdicts.check_assignment.Tie as tie
 
@@ -11,10 +12,10 @@ simple-requires : tie.Need-simple-requires
 simple-requires c κs = search needs
 
 check-requires : tie.Need-check-requires
-check-requires c κs = record { ready = c .before .before .before .before .before .pre .ready; here = c .before .before .before .before .before .pre .here; held = record { body = boolean; holds = none-holds _ (c .before .simple .ensures) }; room = c .before .before .before .before .before .pre .room }
+check-requires c κs = record { sees = c .before .before .before .before .before .pre .value .sees; here = c .before .before .before .before .before .pre .value .here; reads = c .before .before .before .before .before .pre .value .reads; held = record { body = boolean; holds = none-holds _ (c .before .simple .ensures) }; room = c .before .before .before .before .before .pre .value .room }
 
 variable-body-requires : tie.Need-variable-body-requires
-variable-body-requires c κs = (c .before .before .before .before .before .before .before .before .pre .ready, c .before .before .before .before .before .before .before .before .pre .declared)
+variable-body-requires c κs = (sees-known (c .before .before .before .before .before .before .before .before .pre .value .sees), c .before .before .before .before .before .before .before .before .pre .declared)
 
 add-place : tie.Need-add-place
 add-place c = omega (arith, c .before .before .before .before .before .before .before .before .before .before .pre .few)

@@ -10,7 +10,7 @@ simple-requires : tie.Need-simple-requires
 simple-requires c κs = search needs
 
 check-requires : tie.Need-check-requires
-check-requires c κs = record { ready = c .before .before .before .before .before .pre .0; here = c .before .before .before .before .before .pre .1 .0; held = record { body = boolean; holds = none-holds _ (c .before .simple .ensures) }; room = c .before .before .before .before .before .pre .1 .1 }
+check-requires c κs = record { sees = c .before .before .before .before .before .pre .sees; here = c .before .before .before .before .before .pre .here; reads = c .before .before .before .before .before .pre .reads; held = record { body = boolean; holds = none-holds _ (c .before .simple .ensures) }; room = c .before .before .before .before .before .pre .room }
 
 is-boolean-requires : tie.Need-is-boolean-requires
 is-boolean-requires c κs = search needs

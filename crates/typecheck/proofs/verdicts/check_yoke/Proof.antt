@@ -1,9 +1,10 @@
 -- `typecheck::verdicts::check_yoke` meets its contract: no yoke asks nothing, another's expression is judged by whether it is Boolean.
 -- Assumes nothing.
 use denote.Ref.{now}
+use native.Mathlib.Omega.{arith}
 use borrow.Author.Needs.{needs}
 use Rattle.lingua.specs.Typing.{checkYoke}
-use Rattle.typecheck.proofs.Settling.{judges-by, no-yoke, yoke-row}
+use Rattle.typecheck.proofs.Settling.{judges-by, no-yoke, yoke-row, yoke-reads}
 use Rattle.typecheck.proofs.verdicts.check_yoke.Statement.{statement}
 use Rattle.typecheck.proofs.verdicts.check_yoke.Tie as tie
 
@@ -17,7 +18,7 @@ sub-check : tie.Need-sub-check
 sub-check c = search needs
 
 check-requires : tie.Need-check-requires
-check-requires c κs = search needs
+check-requires c κs = record { sees = c .before .before .before .before .before .pre .sees; here = omega (arith, c .before .before .before .before .before .pre .here, c .before .if1 .left); reads = yoke-reads (now (c .before .before .before .before .before .args .rows)) (c .before .before .before .before .before .args .scope) (c .before .before .before .before .before .args .yoke) (c .before .if1 .left) (c .before .before .before .before .before .pre .closed); held = c .before .before .before .before .before .pre .held; room = c .before .before .before .before .before .pre .room }
 
 is-boolean-requires : tie.Need-is-boolean-requires
 is-boolean-requires c κs = search needs

@@ -7,8 +7,8 @@ use native.Mathlib.Omega.{arith}
 use mathlib.Core.Path.{_≡_, refl, sym, _∙_}
 use borrow.Author.Tests.{not-true, not-false}
 use Rattle.profile.specs.Known.{row-known}
-use Rattle.profile.specs.Facts.{RowFacts, rowTree}
-use Rattle.typing.proofs.Rows.{facts-at, tree-at, asked-below, asked-room, asked-small}
+use Rattle.profile.specs.Facts.{rowTree}
+use Rattle.typing.proofs.Rows.{RowAsks, asks-at, tree-at, asked-below, asked-variables, asked-room, asked-small}
 use Rattle.typing.proofs.Found.{passed}
 use Rattle.typing.proofs.Returns.{result-held, half-held, half-small, constant-passes, variable-passes, unary-operand, unary-own, unary-passes, two, left, right, left-held, right-held, binary-operands, binary-own, binary-passes, lazy-operands, lazy-first-own, lazy-second-own, lazy-passes, three, test, branches, choice-operands, choice-test-own, choice-own, choice-passes, listed-by, elements-held, inner, inner-held, all-list-operands, all-list-own, all-list-passes}
 use Prim.Native.Nat.{ℕ, _<_}
@@ -125,7 +125,7 @@ all-list-elements-requires : (t : ℕ) → all-list-lts.Need-elements-requires (
 all-list-elements-requires t c κs = (c .before .before .before .pre .1 .0 .held, asked-small (c .before .before .before .pre .1 .0))
 
 all-list-check-requires : (t : ℕ) → all-list-lts.Need-check-requires (all-list-calls t) (all-list-at t) all-list.Post
-all-list-check-requires t c κs = (omega (arith, c .before .before .before .before .before .before .pre .0, c .before .before .before .before .before .before .pre .1 .1), asked-below (c .before .before .before .before .before .before .pre .1 .0) _ (c .before .before .before .before .before .before .pre .1 .1) (elements-held _ _ (c .before .before .elements .ensures _ (c .before .before .before .before .before .before .pre .1 .0 .held .holds))) refl)
+all-list-check-requires t c κs = (omega (arith, c .before .before .before .before .before .before .pre .0, c .before .before .before .before .before .before .pre .1 .1 .below), asked-below (c .before .before .before .before .before .before .pre .1 .0) _ (c .before .before .before .before .before .before .pre .1 .1) (elements-held _ _ (c .before .before .elements .ensures _ (c .before .before .before .before .before .before .pre .1 .0 .held .holds))) refl)
 
 all-list-together-requires : (t : ℕ) → all-list-lts.Need-together-requires (all-list-calls t) (all-list-at t) all-list.Post
 all-list-together-requires t c κs = search needs
@@ -174,10 +174,10 @@ all-list-returns-3 t c = λ b h.
     all-list-passes s z (c .before .before .note-row .result) _ _ (sym (c .before .before .before .before .before .before .is-boolean .ensures _ (inner s z .passes .holds)) ∙ not-false _ (c .before .before .before .before .before .if2 .left)) (c .before .before .before .before .measure-body .ensures _ (s .list .holds) .is-cells) (c .before .before .note-row .ensures)
 
 binary-check-requires : (t : ℕ) → binary-lts.Need-check-requires (binary-calls t) (binary-at t) binary.Post
-binary-check-requires t c κs = (omega (arith, c .before .before .before .before .pre .0, c .before .before .before .before .pre .1 .1 .0), asked-below (c .before .before .before .before .pre .1 .0) _ (c .before .before .before .before .pre .1 .1 .0) (c .before .before .before .before .pre .1 .0 .held) refl)
+binary-check-requires t c κs = (omega (arith, c .before .before .before .before .pre .0, c .before .before .before .before .pre .1 .1 .0 .below), asked-below (c .before .before .before .before .pre .1 .0) _ (c .before .before .before .before .pre .1 .1 .0) (c .before .before .before .before .pre .1 .0 .held) refl)
 
 binary-check-requires-2 : (t : ℕ) → binary-lts.Need-check-requires-2 (binary-calls t) (binary-at t) binary.Post
-binary-check-requires-2 t c κs = (omega (arith, c .before .before .before .before .before .before .before .before .pre .0, c .before .before .before .before .before .before .before .before .pre .1 .1 .1), asked-below (c .before .before .before .before .before .before .before .before .pre .1 .0) _ (c .before .before .before .before .before .before .before .before .pre .1 .1 .1) (c .before .before .before .before .before .before .before .before .pre .1 .0 .held) (c .before .before .before .check .kept .1 .1 .1 .1 .1 .1 .0))
+binary-check-requires-2 t c κs = (omega (arith, c .before .before .before .before .before .before .before .before .pre .0, c .before .before .before .before .before .before .before .before .pre .1 .1 .1 .below), asked-below (c .before .before .before .before .before .before .before .before .pre .1 .0) _ (c .before .before .before .before .before .before .before .before .pre .1 .1 .1) (c .before .before .before .before .before .before .before .before .pre .1 .0 .held) (c .before .before .before .check .kept .1 .1 .1 .1 .1 .1 .0))
 
 binary-together-requires : (t : ℕ) → binary-lts.Need-together-requires (binary-calls t) (binary-at t) binary.Post
 binary-together-requires t c κs = search needs
@@ -223,13 +223,13 @@ binary-returns-3 t c = λ d h.
     binary-passes _ _ w z (c .before .before .before .before .before .before .before .binary-half .result) (c .before .before .before .before .before .before .before .binary-half .ensures _ _ (left w z .passes .holds) (right w z .passes .holds)) (c .before .before .note-row .result) _ (c .before .before .before .before .before .if2 .left) (c .before .before .note-row .ensures)
 
 check-expression-row-requires : (t : ℕ) → check-lts.Need-expression-row-requires (check-calls t) (check-at t) check.Post
-check-expression-row-requires t c κs = (c .before .before .before .before .pre .1 .ready .tables .expressions, (omega (arith, c .before .before .before .before .pre .1 .here, c .before .before .before .before .pre .1 .ready .tables .expressions .count), row-known _ (c .before .before .before .before .pre .1 .ready .accepted) _ (c .before .before .before .before .pre .1 .here)))
+check-expression-row-requires t c κs = (c .before .before .before .before .pre .1 .sees .expressions, (omega (arith, c .before .before .before .before .pre .1 .here, c .before .before .before .before .pre .1 .sees .expressions .count), row-known _ (c .before .before .before .before .pre .1 .sees .accepted) _ (c .before .before .before .before .pre .1 .here)))
 
 check-enum-told : (t : ℕ) → check-lts.Need-enum-told (check-calls t) (check-at t) check.Post
 check-enum-told t c = search needs
 
 check-constant-body-requires : (t : ℕ) → check-lts.Need-constant-body-requires (check-calls t) (check-at t) check.Post
-check-constant-body-requires t c κs = (c .before .before .before .before .before .before .before .pre .1 .ready .tables .expressions, omega (arith, c .before .before .before .before .before .before .before .pre .1 .here, c .before .before .before .before .before .before .before .pre .1 .ready .tables .expressions .count))
+check-constant-body-requires t c κs = (c .before .before .before .before .before .before .before .pre .1 .sees .expressions, omega (arith, c .before .before .before .before .before .before .before .pre .1 .here, c .before .before .before .before .before .before .before .pre .1 .sees .expressions .count))
 
 check-note-row-requires : (t : ℕ) → check-lts.Need-note-row-requires (check-calls t) (check-at t) check.Post
 check-note-row-requires t c κs = (record { body = _; holds = c .before .constant-body .ensures }, (omega arith, asked-room (c .before .before .before .before .before .before .before .before .before .pre .1) (now (c .before .before .before .before .before .before .before .before .before .args .layout)) refl))
@@ -238,8 +238,8 @@ check-enum-known-e : (t : ℕ) → check-lts.Need-enum-known-e (check-calls t) (
 check-enum-known-e t c = search needs
 
 check-variable-body-requires : (t : ℕ) → check-lts.Need-variable-body-requires (check-calls t) (check-at t) check.Post
-unfolding RowFacts
-check-variable-body-requires t c κs = (c .before .before .before .before .before .before .before .before .pre .1 .ready, facts-at (now (c .before .before .before .before .before .before .before .before .args .rows)) (c .before .before .before .before .before .before .before .before .pre .1 .ready .accepted) (c .before .before .before .before .before .before .before .before .args .row) (c .before .before .before .before .before .before .before .before .pre .1 .here) _ _ (c .before .before .before .expression-row .ensures) (c .before .e .given .1))
+unfolding RowAsks
+check-variable-body-requires t c κs = (asked-variables (c .before .before .before .before .before .before .before .before .pre .1), asks-at (now (c .before .before .before .before .before .before .before .before .args .rows)) (c .before .before .before .before .before .before .before .before .pre .1 .sees .accepted) (c .before .before .before .before .before .before .before .before .args .row) (c .before .before .before .before .before .before .before .before .pre .1 .here) _ _ (c .before .before .before .expression-row .ensures) (c .before .e .given .1) (c .before .before .before .before .before .before .before .before .args .scope) (c .before .before .before .before .before .before .before .before .pre .1 .reads))
 
 check-note-row-requires-2 : (t : ℕ) → check-lts.Need-note-row-requires-2 (check-calls t) (check-at t) check.Post
 check-note-row-requires-2 t c κs = (record { body = _; holds = c .before .variable-body .ensures }, (omega arith, asked-room (c .before .before .before .before .before .before .before .before .before .before .pre .1) (now (c .before .before .before .before .before .before .before .before .before .before .args .layout)) refl))
@@ -254,107 +254,107 @@ check-enum-known-e-2 : (t : ℕ) → check-lts.Need-enum-known-e-2 (check-calls 
 check-enum-known-e-2 t c = search needs
 
 check-unary-requires : (t : ℕ) → check-lts.Need-unary-requires (check-calls t) (check-at t) check.Post
-unfolding RowFacts
-check-unary-requires t c κs = (omega (arith, c .before .before .before .before .before .before .before .before .before .pre .0), (c .before .before .before .before .before .before .before .before .before .pre .1, facts-at (now (c .before .before .before .before .before .before .before .before .before .args .rows)) (c .before .before .before .before .before .before .before .before .before .pre .1 .ready .accepted) (c .before .before .before .before .before .before .before .before .before .args .row) (c .before .before .before .before .before .before .before .before .before .pre .1 .here) _ _ (c .before .before .before .before .expression-row .ensures) (c .before .before .e2 .given .1)))
+unfolding RowAsks
+check-unary-requires t c κs = (omega (arith, c .before .before .before .before .before .before .before .before .before .pre .0), (c .before .before .before .before .before .before .before .before .before .pre .1, asks-at (now (c .before .before .before .before .before .before .before .before .before .args .rows)) (c .before .before .before .before .before .before .before .before .before .pre .1 .sees .accepted) (c .before .before .before .before .before .before .before .before .before .args .row) (c .before .before .before .before .before .before .before .before .before .pre .1 .here) _ _ (c .before .before .before .before .expression-row .ensures) (c .before .before .e2 .given .1) (c .before .before .before .before .before .before .before .before .before .args .scope) (c .before .before .before .before .before .before .before .before .before .pre .1 .reads)))
 
 check-enum-known-e-3 : (t : ℕ) → check-lts.Need-enum-known-e-3 (check-calls t) (check-at t) check.Post
 check-enum-known-e-3 t c = search needs
 
 check-binary-requires : (t : ℕ) → check-lts.Need-binary-requires (check-calls t) (check-at t) check.Post
-unfolding RowFacts
+unfolding RowAsks
 check-binary-requires t c κs =
-    let b = facts-at (now (c .before .before .before .before .before .before .before .before .before .args .rows)) (c .before .before .before .before .before .before .before .before .before .pre .1 .ready .accepted) (c .before .before .before .before .before .before .before .before .before .args .row) (c .before .before .before .before .before .before .before .before .before .pre .1 .here) _ _ (c .before .before .before .before .expression-row .ensures) (c .before .before .e3 .given .1) in
+    let b = asks-at (now (c .before .before .before .before .before .before .before .before .before .args .rows)) (c .before .before .before .before .before .before .before .before .before .pre .1 .sees .accepted) (c .before .before .before .before .before .before .before .before .before .args .row) (c .before .before .before .before .before .before .before .before .before .pre .1 .here) _ _ (c .before .before .before .before .expression-row .ensures) (c .before .before .e3 .given .1) (c .before .before .before .before .before .before .before .before .before .args .scope) (c .before .before .before .before .before .before .before .before .before .pre .1 .reads) in
     (omega (arith, c .before .before .before .before .before .before .before .before .before .pre .0), (c .before .before .before .before .before .before .before .before .before .pre .1, b))
 
 check-enum-known-e-4 : (t : ℕ) → check-lts.Need-enum-known-e-4 (check-calls t) (check-at t) check.Post
 check-enum-known-e-4 t c = search needs
 
 check-lazy-requires : (t : ℕ) → check-lts.Need-lazy-requires (check-calls t) (check-at t) check.Post
-unfolding RowFacts
+unfolding RowAsks
 check-lazy-requires t c κs =
-    let b = facts-at (now (c .before .before .before .before .before .before .before .before .before .args .rows)) (c .before .before .before .before .before .before .before .before .before .pre .1 .ready .accepted) (c .before .before .before .before .before .before .before .before .before .args .row) (c .before .before .before .before .before .before .before .before .before .pre .1 .here) _ _ (c .before .before .before .before .expression-row .ensures) (c .before .before .e4 .given .1) in
+    let b = asks-at (now (c .before .before .before .before .before .before .before .before .before .args .rows)) (c .before .before .before .before .before .before .before .before .before .pre .1 .sees .accepted) (c .before .before .before .before .before .before .before .before .before .args .row) (c .before .before .before .before .before .before .before .before .before .pre .1 .here) _ _ (c .before .before .before .before .expression-row .ensures) (c .before .before .e4 .given .1) (c .before .before .before .before .before .before .before .before .before .args .scope) (c .before .before .before .before .before .before .before .before .before .pre .1 .reads) in
     (omega (arith, c .before .before .before .before .before .before .before .before .before .pre .0), (c .before .before .before .before .before .before .before .before .before .pre .1, b))
 
 check-enum-known-e-5 : (t : ℕ) → check-lts.Need-enum-known-e-5 (check-calls t) (check-at t) check.Post
 check-enum-known-e-5 t c = search needs
 
 check-choice-requires : (t : ℕ) → check-lts.Need-choice-requires (check-calls t) (check-at t) check.Post
-unfolding RowFacts
+unfolding RowAsks
 check-choice-requires t c κs =
-    let b = facts-at (now (c .before .before .before .before .before .before .before .before .before .args .rows)) (c .before .before .before .before .before .before .before .before .before .pre .1 .ready .accepted) (c .before .before .before .before .before .before .before .before .before .args .row) (c .before .before .before .before .before .before .before .before .before .pre .1 .here) _ _ (c .before .before .before .before .expression-row .ensures) (c .before .before .e5 .given .1) in
-    (omega (arith, c .before .before .before .before .before .before .before .before .before .pre .0), (c .before .before .before .before .before .before .before .before .before .pre .1, (b .0, (b .1, b .2))))
+    let b = asks-at (now (c .before .before .before .before .before .before .before .before .before .args .rows)) (c .before .before .before .before .before .before .before .before .before .pre .1 .sees .accepted) (c .before .before .before .before .before .before .before .before .before .args .row) (c .before .before .before .before .before .before .before .before .before .pre .1 .here) _ _ (c .before .before .before .before .expression-row .ensures) (c .before .before .e5 .given .1) (c .before .before .before .before .before .before .before .before .before .args .scope) (c .before .before .before .before .before .before .before .before .before .pre .1 .reads) in
+    (omega (arith, c .before .before .before .before .before .before .before .before .before .pre .0), (c .before .before .before .before .before .before .before .before .before .pre .1, b))
 
 check-enum-known-e-6 : (t : ℕ) → check-lts.Need-enum-known-e-6 (check-calls t) (check-at t) check.Post
 check-enum-known-e-6 t c = search needs
 
 check-all-list-requires : (t : ℕ) → check-lts.Need-all-list-requires (check-calls t) (check-at t) check.Post
-unfolding RowFacts
-check-all-list-requires t c κs = (omega (arith, c .before .before .before .before .before .before .before .before .before .pre .0), (c .before .before .before .before .before .before .before .before .before .pre .1, facts-at (now (c .before .before .before .before .before .before .before .before .before .args .rows)) (c .before .before .before .before .before .before .before .before .before .pre .1 .ready .accepted) (c .before .before .before .before .before .before .before .before .before .args .row) (c .before .before .before .before .before .before .before .before .before .pre .1 .here) _ _ (c .before .before .before .before .expression-row .ensures) (c .before .before .e6 .given .1)))
+unfolding RowAsks
+check-all-list-requires t c κs = (omega (arith, c .before .before .before .before .before .before .before .before .before .pre .0), (c .before .before .before .before .before .before .before .before .before .pre .1, asks-at (now (c .before .before .before .before .before .before .before .before .before .args .rows)) (c .before .before .before .before .before .before .before .before .before .pre .1 .sees .accepted) (c .before .before .before .before .before .before .before .before .before .args .row) (c .before .before .before .before .before .before .before .before .before .pre .1 .here) _ _ (c .before .before .before .before .expression-row .ensures) (c .before .before .e6 .given .1) (c .before .before .before .before .before .before .before .before .before .args .scope) (c .before .before .before .before .before .before .before .before .before .pre .1 .reads)))
 
 check-same-length : (t : ℕ) → check-lts.Need-same-length (check-calls t) (check-at t) check.Post
 check-same-length t c = search needs
 
 check-returns : (t : ℕ) → check-lts.Need-returns (check-calls t) (check-at t) check.Post
 unfolding rowTree
-check-returns t c = λ b h. rw (tree-at (now (c .before .before .before .before .before .before .before .before .before .before .before .before .args .rows)) (c .before .before .before .before .before .before .before .before .before .before .before .before .pre .1 .ready .accepted) (c .before .before .before .before .before .before .before .before .before .before .before .before .args .row) (c .before .before .before .before .before .before .before .before .before .before .before .before .pre .1 .here) _ _ (c .before .before .before .before .before .before .before .expression-row .ensures) (c .before .before .before .before .before .enum-told .given .1)) (constant-passes (c .before .before .note-row .result) _ _ _ _ (c .before .before .note-row .ensures) _ _ _ (c .before .before .before .before .constant-body .ensures))
+check-returns t c = λ b h. rw (tree-at (now (c .before .before .before .before .before .before .before .before .before .before .before .before .args .rows)) (c .before .before .before .before .before .before .before .before .before .before .before .before .pre .1 .sees .accepted) (c .before .before .before .before .before .before .before .before .before .before .before .before .args .row) (c .before .before .before .before .before .before .before .before .before .before .before .before .pre .1 .here) _ _ (c .before .before .before .before .before .before .before .expression-row .ensures) (c .before .before .before .before .before .enum-told .given .1)) (constant-passes (c .before .before .note-row .result) _ _ _ _ (c .before .before .note-row .ensures) _ _ _ (c .before .before .before .before .constant-body .ensures))
 
 check-same-length-2 : (t : ℕ) → check-lts.Need-same-length-2 (check-calls t) (check-at t) check.Post
 check-same-length-2 t c = search needs
 
 check-returns-2 : (t : ℕ) → check-lts.Need-returns-2 (check-calls t) (check-at t) check.Post
 unfolding rowTree
-check-returns-2 t c = λ b h. rw (tree-at (now (c .before .before .before .before .before .before .before .before .before .before .before .before .before .args .rows)) (c .before .before .before .before .before .before .before .before .before .before .before .before .before .pre .1 .ready .accepted) (c .before .before .before .before .before .before .before .before .before .before .before .before .before .args .row) (c .before .before .before .before .before .before .before .before .before .before .before .before .before .pre .1 .here) _ _ (c .before .before .before .before .before .before .before .before .expression-row .ensures) (c .before .before .before .before .before .before .e .given .1)) (variable-passes (c .before .before .note-row2 .result) _ _ _ _ (c .before .before .note-row2 .ensures) _ _ _ (c .before .before .before .before .variable-body .ensures))
+check-returns-2 t c = λ b h. rw (tree-at (now (c .before .before .before .before .before .before .before .before .before .before .before .before .before .args .rows)) (c .before .before .before .before .before .before .before .before .before .before .before .before .before .pre .1 .sees .accepted) (c .before .before .before .before .before .before .before .before .before .before .before .before .before .args .row) (c .before .before .before .before .before .before .before .before .before .before .before .before .before .pre .1 .here) _ _ (c .before .before .before .before .before .before .before .before .expression-row .ensures) (c .before .before .before .before .before .before .e .given .1)) (variable-passes (c .before .before .note-row2 .result) _ _ _ _ (c .before .before .note-row2 .ensures) _ _ _ (c .before .before .before .before .variable-body .ensures))
 
 check-same-length-3 : (t : ℕ) → check-lts.Need-same-length-3 (check-calls t) (check-at t) check.Post
 check-same-length-3 t c = search needs
 
 check-returns-3 : (t : ℕ) → check-lts.Need-returns-3 (check-calls t) (check-at t) check.Post
 unfolding rowTree
-check-returns-3 t c = λ b h. rw (tree-at (now (c .before .before .before .before .before .before .before .before .before .before .before .args .rows)) (c .before .before .before .before .before .before .before .before .before .before .before .pre .1 .ready .accepted) (c .before .before .before .before .before .before .before .before .before .before .before .args .row) (c .before .before .before .before .before .before .before .before .before .before .before .pre .1 .here) _ _ (c .before .before .before .before .before .before .expression-row .ensures) (c .before .before .before .before .enum-told2 .given .1)) (c .before .before .note-current .ensures _ b h)
+check-returns-3 t c = λ b h. rw (tree-at (now (c .before .before .before .before .before .before .before .before .before .before .before .args .rows)) (c .before .before .before .before .before .before .before .before .before .before .before .pre .1 .sees .accepted) (c .before .before .before .before .before .before .before .before .before .before .before .args .row) (c .before .before .before .before .before .before .before .before .before .before .before .pre .1 .here) _ _ (c .before .before .before .before .before .before .expression-row .ensures) (c .before .before .before .before .enum-told2 .given .1)) (c .before .before .note-current .ensures _ b h)
 
 check-same-length-4 : (t : ℕ) → check-lts.Need-same-length-4 (check-calls t) (check-at t) check.Post
 check-same-length-4 t c = search needs
 
 check-returns-4 : (t : ℕ) → check-lts.Need-returns-4 (check-calls t) (check-at t) check.Post
 unfolding rowTree
-check-returns-4 t c = λ b h. rw (tree-at (now (c .before .before .before .before .before .before .before .before .before .before .before .before .args .rows)) (c .before .before .before .before .before .before .before .before .before .before .before .before .pre .1 .ready .accepted) (c .before .before .before .before .before .before .before .before .before .before .before .before .args .row) (c .before .before .before .before .before .before .before .before .before .before .before .before .pre .1 .here) _ _ (c .before .before .before .before .before .before .before .expression-row .ensures) (c .before .before .before .before .before .e2 .given .1)) (c .before .before .unary .ensures b h)
+check-returns-4 t c = λ b h. rw (tree-at (now (c .before .before .before .before .before .before .before .before .before .before .before .before .args .rows)) (c .before .before .before .before .before .before .before .before .before .before .before .before .pre .1 .sees .accepted) (c .before .before .before .before .before .before .before .before .before .before .before .before .args .row) (c .before .before .before .before .before .before .before .before .before .before .before .before .pre .1 .here) _ _ (c .before .before .before .before .before .before .before .expression-row .ensures) (c .before .before .before .before .before .e2 .given .1)) (c .before .before .unary .ensures b h)
 
 check-same-length-5 : (t : ℕ) → check-lts.Need-same-length-5 (check-calls t) (check-at t) check.Post
 check-same-length-5 t c = search needs
 
 check-returns-5 : (t : ℕ) → check-lts.Need-returns-5 (check-calls t) (check-at t) check.Post
 unfolding rowTree
-check-returns-5 t c = λ b h. rw (tree-at (now (c .before .before .before .before .before .before .before .before .before .before .before .before .args .rows)) (c .before .before .before .before .before .before .before .before .before .before .before .before .pre .1 .ready .accepted) (c .before .before .before .before .before .before .before .before .before .before .before .before .args .row) (c .before .before .before .before .before .before .before .before .before .before .before .before .pre .1 .here) _ _ (c .before .before .before .before .before .before .before .expression-row .ensures) (c .before .before .before .before .before .e3 .given .1)) (c .before .before .binary .ensures b h)
+check-returns-5 t c = λ b h. rw (tree-at (now (c .before .before .before .before .before .before .before .before .before .before .before .before .args .rows)) (c .before .before .before .before .before .before .before .before .before .before .before .before .pre .1 .sees .accepted) (c .before .before .before .before .before .before .before .before .before .before .before .before .args .row) (c .before .before .before .before .before .before .before .before .before .before .before .before .pre .1 .here) _ _ (c .before .before .before .before .before .before .before .expression-row .ensures) (c .before .before .before .before .before .e3 .given .1)) (c .before .before .binary .ensures b h)
 
 check-same-length-6 : (t : ℕ) → check-lts.Need-same-length-6 (check-calls t) (check-at t) check.Post
 check-same-length-6 t c = search needs
 
 check-returns-6 : (t : ℕ) → check-lts.Need-returns-6 (check-calls t) (check-at t) check.Post
 unfolding rowTree
-check-returns-6 t c = λ b h. rw (tree-at (now (c .before .before .before .before .before .before .before .before .before .before .before .before .args .rows)) (c .before .before .before .before .before .before .before .before .before .before .before .before .pre .1 .ready .accepted) (c .before .before .before .before .before .before .before .before .before .before .before .before .args .row) (c .before .before .before .before .before .before .before .before .before .before .before .before .pre .1 .here) _ _ (c .before .before .before .before .before .before .before .expression-row .ensures) (c .before .before .before .before .before .e4 .given .1)) (c .before .before .lazy .ensures _ b h)
+check-returns-6 t c = λ b h. rw (tree-at (now (c .before .before .before .before .before .before .before .before .before .before .before .before .args .rows)) (c .before .before .before .before .before .before .before .before .before .before .before .before .pre .1 .sees .accepted) (c .before .before .before .before .before .before .before .before .before .before .before .before .args .row) (c .before .before .before .before .before .before .before .before .before .before .before .before .pre .1 .here) _ _ (c .before .before .before .before .before .before .before .expression-row .ensures) (c .before .before .before .before .before .e4 .given .1)) (c .before .before .lazy .ensures _ b h)
 
 check-same-length-7 : (t : ℕ) → check-lts.Need-same-length-7 (check-calls t) (check-at t) check.Post
 check-same-length-7 t c = search needs
 
 check-returns-7 : (t : ℕ) → check-lts.Need-returns-7 (check-calls t) (check-at t) check.Post
 unfolding rowTree
-check-returns-7 t c = λ b h. rw (tree-at (now (c .before .before .before .before .before .before .before .before .before .before .before .before .args .rows)) (c .before .before .before .before .before .before .before .before .before .before .before .before .pre .1 .ready .accepted) (c .before .before .before .before .before .before .before .before .before .before .before .before .args .row) (c .before .before .before .before .before .before .before .before .before .before .before .before .pre .1 .here) _ _ (c .before .before .before .before .before .before .before .expression-row .ensures) (c .before .before .before .before .before .e5 .given .1)) (c .before .before .choice .ensures b h)
+check-returns-7 t c = λ b h. rw (tree-at (now (c .before .before .before .before .before .before .before .before .before .before .before .before .args .rows)) (c .before .before .before .before .before .before .before .before .before .before .before .before .pre .1 .sees .accepted) (c .before .before .before .before .before .before .before .before .before .before .before .before .args .row) (c .before .before .before .before .before .before .before .before .before .before .before .before .pre .1 .here) _ _ (c .before .before .before .before .before .before .before .expression-row .ensures) (c .before .before .before .before .before .e5 .given .1)) (c .before .before .choice .ensures b h)
 
 check-same-length-8 : (t : ℕ) → check-lts.Need-same-length-8 (check-calls t) (check-at t) check.Post
 check-same-length-8 t c = search needs
 
 check-returns-8 : (t : ℕ) → check-lts.Need-returns-8 (check-calls t) (check-at t) check.Post
 unfolding rowTree
-check-returns-8 t c = λ b h. rw (tree-at (now (c .before .before .before .before .before .before .before .before .before .before .before .before .args .rows)) (c .before .before .before .before .before .before .before .before .before .before .before .before .pre .1 .ready .accepted) (c .before .before .before .before .before .before .before .before .before .before .before .before .args .row) (c .before .before .before .before .before .before .before .before .before .before .before .before .pre .1 .here) _ _ (c .before .before .before .before .before .before .before .expression-row .ensures) (c .before .before .before .before .before .e6 .given .1)) (c .before .before .all-list .ensures b h)
+check-returns-8 t c = λ b h. rw (tree-at (now (c .before .before .before .before .before .before .before .before .before .before .before .before .args .rows)) (c .before .before .before .before .before .before .before .before .before .before .before .before .pre .1 .sees .accepted) (c .before .before .before .before .before .before .before .before .before .before .before .before .args .row) (c .before .before .before .before .before .before .before .before .before .before .before .before .pre .1 .here) _ _ (c .before .before .before .before .before .before .before .expression-row .ensures) (c .before .before .before .before .before .e6 .given .1)) (c .before .before .all-list .ensures b h)
 
 choice-check-requires : (t : ℕ) → choice-lts.Need-check-requires (choice-calls t) (choice-at t) choice.Post
-choice-check-requires t c κs = (omega (arith, c .before .before .before .before .pre .0, c .before .before .before .before .pre .1 .1 .0), asked-below (c .before .before .before .before .pre .1 .0) _ (c .before .before .before .before .pre .1 .1 .0) (c .before .before .before .before .pre .1 .0 .held) refl)
+choice-check-requires t c κs = (omega (arith, c .before .before .before .before .pre .0, c .before .before .before .before .pre .1 .1 .0 .below), asked-below (c .before .before .before .before .pre .1 .0) _ (c .before .before .before .before .pre .1 .1 .0) (c .before .before .before .before .pre .1 .0 .held) refl)
 
 choice-check-requires-2 : (t : ℕ) → choice-lts.Need-check-requires-2 (choice-calls t) (choice-at t) choice.Post
-choice-check-requires-2 t c κs = (omega (arith, c .before .before .before .before .before .before .before .before .pre .0, c .before .before .before .before .before .before .before .before .pre .1 .1 .1 .0), asked-below (c .before .before .before .before .before .before .before .before .pre .1 .0) _ (c .before .before .before .before .before .before .before .before .pre .1 .1 .1 .0) (c .before .before .before .before .before .before .before .before .pre .1 .0 .held) (c .before .before .before .check .kept .1 .1 .1 .1 .1 .1 .0))
+choice-check-requires-2 t c κs = (omega (arith, c .before .before .before .before .before .before .before .before .pre .0, c .before .before .before .before .before .before .before .before .pre .1 .1 .1 .0 .below), asked-below (c .before .before .before .before .before .before .before .before .pre .1 .0) _ (c .before .before .before .before .before .before .before .before .pre .1 .1 .1 .0) (c .before .before .before .before .before .before .before .before .pre .1 .0 .held) (c .before .before .before .check .kept .1 .1 .1 .1 .1 .1 .0))
 
 choice-check-requires-3 : (t : ℕ) → choice-lts.Need-check-requires-3 (choice-calls t) (choice-at t) choice.Post
-choice-check-requires-3 t c κs = (omega (arith, c .before .before .before .before .before .before .before .before .before .before .before .before .pre .0, c .before .before .before .before .before .before .before .before .before .before .before .before .pre .1 .1 .1 .1), asked-below (c .before .before .before .before .before .before .before .before .before .before .before .before .pre .1 .0) _ (c .before .before .before .before .before .before .before .before .before .before .before .before .pre .1 .1 .1 .1) (c .before .before .before .before .before .before .before .before .before .before .before .before .pre .1 .0 .held) (c .before .before .before .check2 .kept .1 .1 .1 .1 .1 .1 .0 ∙ c .before .before .before .before .before .before .before .check .kept .1 .1 .1 .1 .1 .1 .0))
+choice-check-requires-3 t c κs = (omega (arith, c .before .before .before .before .before .before .before .before .before .before .before .before .pre .0, c .before .before .before .before .before .before .before .before .before .before .before .before .pre .1 .1 .1 .1 .below), asked-below (c .before .before .before .before .before .before .before .before .before .before .before .before .pre .1 .0) _ (c .before .before .before .before .before .before .before .before .before .before .before .before .pre .1 .1 .1 .1) (c .before .before .before .before .before .before .before .before .before .before .before .before .pre .1 .0 .held) (c .before .before .before .check2 .kept .1 .1 .1 .1 .1 .1 .0 ∙ c .before .before .before .before .before .before .before .check .kept .1 .1 .1 .1 .1 .1 .0))
 
 choice-together-requires : (t : ℕ) → choice-lts.Need-together-requires (choice-calls t) (choice-at t) choice.Post
 choice-together-requires t c κs = search needs
@@ -414,10 +414,10 @@ choice-returns-4 t c = λ d h.
     choice-passes _ w z (sym (c .before .before .before .before .before .before .before .before .before .is-boolean .ensures _ (test w z .passes .holds)) ∙ not-false _ (c .before .before .before .before .before .before .before .before .if2 .left)) (c .before .before .note-row .result) _ (sym (c .before .before .before .before .before .same .ensures _ _ (left (w .others) (branches w z) .passes .holds) (right (w .others) (branches w z) .passes .holds)) ∙ not-false _ (c .before .before .before .before .if3 .left)) (c .before .before .note-row .ensures)
 
 lazy-check-requires : (t : ℕ) → lazy-lts.Need-check-requires (lazy-calls t) (lazy-at t) lazy.Post
-lazy-check-requires t c κs = (omega (arith, c .before .before .before .before .pre .0, c .before .before .before .before .pre .1 .1 .0), asked-below (c .before .before .before .before .pre .1 .0) _ (c .before .before .before .before .pre .1 .1 .0) (c .before .before .before .before .pre .1 .0 .held) refl)
+lazy-check-requires t c κs = (omega (arith, c .before .before .before .before .pre .0, c .before .before .before .before .pre .1 .1 .0 .below), asked-below (c .before .before .before .before .pre .1 .0) _ (c .before .before .before .before .pre .1 .1 .0) (c .before .before .before .before .pre .1 .0 .held) refl)
 
 lazy-check-requires-2 : (t : ℕ) → lazy-lts.Need-check-requires-2 (lazy-calls t) (lazy-at t) lazy.Post
-lazy-check-requires-2 t c κs = (omega (arith, c .before .before .before .before .before .before .before .before .pre .0, c .before .before .before .before .before .before .before .before .pre .1 .1 .1), asked-below (c .before .before .before .before .before .before .before .before .pre .1 .0) _ (c .before .before .before .before .before .before .before .before .pre .1 .1 .1) (c .before .before .before .before .before .before .before .before .pre .1 .0 .held) (c .before .before .before .check .kept .1 .1 .1 .1 .1 .1 .0))
+lazy-check-requires-2 t c κs = (omega (arith, c .before .before .before .before .before .before .before .before .pre .0, c .before .before .before .before .before .before .before .before .pre .1 .1 .1 .below), asked-below (c .before .before .before .before .before .before .before .before .pre .1 .0) _ (c .before .before .before .before .before .before .before .before .pre .1 .1 .1) (c .before .before .before .before .before .before .before .before .pre .1 .0 .held) (c .before .before .before .check .kept .1 .1 .1 .1 .1 .1 .0))
 
 lazy-together-requires : (t : ℕ) → lazy-lts.Need-together-requires (lazy-calls t) (lazy-at t) lazy.Post
 lazy-together-requires t c κs = search needs
@@ -473,7 +473,7 @@ lazy-returns-4 t c = λ k d h.
     lazy-passes _ k w z (sym (c .before .before .before .before .before .before .before .before .is-boolean .ensures _ (left w z .passes .holds)) ∙ not-false _ (c .before .before .before .before .before .before .before .if2 .left)) (c .before .before .note-row .result) _ (sym (c .before .before .before .before .before .is-boolean2 .ensures _ (right w z .passes .holds)) ∙ not-false _ (c .before .before .before .before .if3 .left)) (c .before .before .note-row .ensures)
 
 unary-check-requires : (t : ℕ) → unary-lts.Need-check-requires (unary-calls t) (unary-at t) unary.Post
-unary-check-requires t c κs = (omega (arith, c .before .before .before .before .pre .0, c .before .before .before .before .pre .1 .1), asked-below (c .before .before .before .before .pre .1 .0) _ (c .before .before .before .before .pre .1 .1) (c .before .before .before .before .pre .1 .0 .held) refl)
+unary-check-requires t c κs = (omega (arith, c .before .before .before .before .pre .0, c .before .before .before .before .pre .1 .1 .below), asked-below (c .before .before .before .before .pre .1 .0) _ (c .before .before .before .before .pre .1 .1) (c .before .before .before .before .pre .1 .0 .held) refl)
 
 unary-same-length : (t : ℕ) → unary-lts.Need-same-length (unary-calls t) (unary-at t) unary.Post
 unary-same-length t c = search needs
