@@ -5,7 +5,7 @@ use mathlib.Core.List.{List}
 use Prim.Native.Nat.{ℕ, _<_}
 use native.Mathlib.Omega.{arith}
 use lib.IntN.{ℤ}
-use Rattle.lingua.specs.Numbers.{expression-section}
+use Rattle.lingua.specs.Numbers.{expression-section, most-variables}
 use Rattle.lingua.specs.Errors.{boolean-expected}
 use Rattle.lingua.specs.Outcome.{ok, fail, Result, if_then_else_, _>>=_}
 use Rattle.lingua.specs.Value.{Composite}
@@ -13,8 +13,11 @@ use Rattle.lingua.specs.Expression.{Expression, lazy, choice, settledBy}
 use Rattle.lingua.specs.Evaluation.{Variables, truthOr, booleanOf, eval}
 use Rattle.lingua.specs.Rows.{tableCount}
 use Rattle.lingua.specs.Store.{Variable, contents}
-use Rattle.lingua.specs.Trees.{expressionTree}
+use Rattle.lingua.specs.Trees.{expressionTree, expressionScope}
+use Rattle.laws.specs.Scopes.{use-at-most}
+use Rattle.safety.specs.Accepted.{few-variables}
 use Rattle.decoder.specs.declared.decode.ExpressionRow.{ExpressionRow as CodeRow}
+use Rattle.decoder.specs.declared.decode.ExpressionRow.the-variants as code
 use Rattle.decoder.specs.Decoded.{connective}
 use Rattle.profile.specs.Row.{RowSays}
 use Rattle.profile.specs.Facts.{RowFacts, row-facts, rowTree, row-tree, settled-by}
@@ -32,6 +35,11 @@ module _ {rows : List ℕ} {t : Table} {variables : List ℕ} {cells : List ℤ}
 
   pub facts : {d : CodeRow} → RowSays rows row d → RowFacts rows row d
   facts {d} s = row-facts rows (w .accepted) row in-table d s
+
+  -- a variable's number is below 16, whosever the variable is
+  pub few-named : {n : ℕ} → RowSays rows row (code.Variable n) → n < most-variables
+  unfolding RowFacts
+  few-named s = omega (arith, facts s, few-variables rows (w .accepted) (expressionScope rows row) (use-at-most rows row))
 
   pub by-row : {d : CodeRow} {r : Evaluated} {stack : List ℤ} (x : Composite) → RowSays rows row d → Gives r stack (eval (rowTree rows row d) (contents vs) x) → Gives r stack (eval (expressionTree rows row) (contents vs) x)
   by-row {d} {r} {stack} x s g = gives-as (ap (λ (e : Expression). eval e (contents vs) x) (sym (row-tree rows row d s (facts s)))) g

@@ -7,13 +7,12 @@ use native.Mathlib.Omega.{arith}
 use lib.IntN.{ℤ, pos}
 use lib.ListN.{length, take, drop, getD, set}
 use lib.Seq.{getD-take, getD-drop}
-use Rattle.lingua.specs.Numbers.{body-bytes, body-cells, declaration-section}
+use Rattle.lingua.specs.Numbers.{body-bytes, body-cells}
 use Rattle.lingua.specs.Errors.{not-filled}
-use Rattle.lingua.specs.Outcome.{ok, fail, Result, orFail}
+use Rattle.lingua.specs.Outcome.{ok, Result, orFail}
 use Rattle.lingua.specs.Body.{Body, size}
 use Rattle.lingua.specs.Value.{pad, Composite}
 use Rattle.lingua.specs.Evaluation.{eval}
-use Rattle.lingua.specs.Rows.{pairCount}
 use Rattle.lingua.specs.Store.{Variable, variableAt, presentBody, contents, filledAt}
 use Rattle.lingua.specs.Trees.{expressionTree}
 use Rattle.decoder.specs.declared.tables.Table.{Table}
@@ -30,7 +29,7 @@ use Rattle.cells.proofs.Operands.{lies-long}
 use Rattle.run.proofs.Copying.{one-cell}
 use Rattle.run.proofs.Parts.{cells-room}
 use Rattle.checked_row.specs.declared.quick.Quick.{Quick}
-use Rattle.checked_row.specs.declared.quick.Quick.the-variants.{Simple, Failed, Deeper}
+use Rattle.checked_row.specs.declared.quick.Quick.the-variants.{Simple, Failed}
 use Rattle.checked_row.specs.declared.answer.Evaluated.{Evaluated}
 use Rattle.checked_row.specs.Meaning.{Stored, World, Current, Gives, simpleEvaluated, IsSimple, SimpleGives, QuickGives}
 use Rattle.checked_row.proofs.Giving.{gives-error}
@@ -62,9 +61,6 @@ own-first variables n =
     ∙ ap (λ (k : ℕ). getD variables k 0) (let k : 96 * n + 0 ≡ 96 * n = omega arith in k)
 
 -- ---- leaves
-pub there : {rows : List ℕ} {t : Table} {variables : List ℕ} {cells : List ℤ} {states : List ℕ} {vs : List Variable} {n : ℕ} → World rows t variables cells states vs → n < pairCount rows declaration-section → n < length vs
-there w f = omega (arith, f, w .count)
-
 pub constant-simple : (rows : List ℕ) (k : ℕ) (s : List ℤ) (z : ℤ) (own : List ℕ) (t : ℕ) → ConstantRow rows k → IsCell z (constantOf rows k) → 0 < length s → Holds own (constantOf rows k .body) → IsSimple t own (constantOf rows k .body) → SimpleGives t (set s 0 z) (ok (constantOf rows k))
 constant-simple rows k s z own t c i l h q = record { gives = λ p. gives-constant rows k s z (simpleEvaluated t) c i l refl (subst (λ (b : List ℕ). Holds b (constantOf rows k .body)) (q .is p) h) refl }
 

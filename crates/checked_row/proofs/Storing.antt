@@ -2,21 +2,27 @@
 use mathlib.Core.Path.{_≡_, refl, sym, ap, _∙_, subst}
 use mathlib.Core.Bool.{true, false}
 use mathlib.Core.List.{List, [], _∷_, _++_}
-use mathlib.Core.Option.{Option, some}
+use mathlib.Core.Logic.{⊎-elim}
+use mathlib.Core.Option.{Option, some, none}
 use Prim.Native.Nat.{ℕ, _+_, _*_, _≤_, _<_}
 use native.Mathlib.Numerals.{add-one}
 use native.Mathlib.Omega.{arith}
-use lib.ListN.{length, take, drop, getD, set, length-drop}
+use lib.ListN.{length, take, drop, getD, set, length-drop, List·getD-eq-default}
 use lib.Seq.{getD-drop, take-suc, take-suc-set, paste}
 use lib.IntN.{ℤ}
-use Rattle.lingua.specs.Numbers.{body-cells, body-bytes}
+use lib.Dec.{eqb}
+use borrow.Author.Tests.{eqb-false, not-true}
+use Rattle.lingua.specs.Numbers.{body-cells, body-bytes, most-variables}
 use Rattle.lingua.specs.Errors.{not-filled}
 use Rattle.lingua.specs.Outcome.{ok, fail, Result, orFail}
 use Rattle.lingua.specs.Body.{Body, size}
 use Rattle.lingua.specs.Value.{Composite}
-use Rattle.lingua.specs.Store.{Variable, no-variable, variableAt, presentOf, presentBody, contents, filledAt}
+use Rattle.lingua.specs.Store.{Variable, no-variable, variableAt, presentOf, presentBody, contents, flagPlace, flagAt, filledAt}
 use Rattle.laws.specs.Lengths.{length-cells}
+use Rattle.laws.specs.Tests.{below-or}
 use Rattle.laws.specs.Every.{every-by}
+use Rattle.laws.specs.Stores.{states-long, flag-room}
+use Rattle.laws.specs.Frames.{flag-behind}
 use Rattle.laws.specs.Presents.{Compact, bodies-at, bodies-long}
 use Rattle.safety.specs.TypeSound.{VariablesFit}
 use Rattle.profile.specs.Constants.{ConstantRow, IsCell}
@@ -83,10 +89,27 @@ module _ {variables : List ℕ} {cells : List ℤ} {states : List ℕ} {vs : Lis
   pub all-compact : Compact vs
   all-compact = every-by no-variable vs (λ n l. h .holdable n l .few-nodes)
 
-  module _ (n : ℕ) (lt : n < length vs) where
-    pub not-filled-is : filledAt states n ≡ false → orFail (contents vs n) not-filled ≡ fail not-filled
-    not-filled-is e = ap {B = Result Composite} (λ (c : Option Composite). orFail c not-filled) (unfilled-is (memory-of h) n lt e)
+  -- a variable that may not be one of the store's: its flag has room, where it is set there is such a variable, and where it is not set
+  -- there is no value
+  module _ (n : ℕ) where
+    pub flag-there : n < most-variables → flagPlace n < length states
+    flag-there l = flag-room states n (omega (arith, ap (λ (s : List ℕ). length s) (h .states-are), states-long vs)) l
 
+    pub filled-there : filledAt states n ≡ true → n < length vs
+    unfolding filledAt
+    filled-there e =
+        ⊎-elim (λ (l : n < length vs). l)
+        (λ (l : length vs ≤ n). absurd (eqb-false (flagAt states n) 0 (not-true (eqb (flagAt states n) 0) e) (ap (λ (s : List ℕ). flagAt s n) (h .states-are) ∙ flag-behind vs n l)))
+        (below-or n (length vs))
+
+    pub no-value : filledAt states n ≡ false → contents vs n ≡ none
+    no-value e =
+        ⊎-elim (λ (l : n < length vs). unfilled-is (memory-of h) n l e) (λ (l : length vs ≤ n). ap (λ (v : Variable). v .content) (List·getD-eq-default vs no-variable l)) (below-or n (length vs))
+
+    pub not-filled-is : filledAt states n ≡ false → orFail (contents vs n) not-filled ≡ fail not-filled
+    not-filled-is e = ap {B = Result Composite} (λ (c : Option Composite). orFail c not-filled) (no-value e)
+
+  module _ (n : ℕ) (lt : n < length vs) where
     pub body-room : body-bytes * n + body-bytes ≤ length variables
     body-room = omega (arith, ap (λ (l : List ℕ). length l) (h .bodies-are), bodies-long vs, h .few, lt)
 

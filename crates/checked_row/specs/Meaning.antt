@@ -6,12 +6,11 @@ use mathlib.Core.Option.{some}
 use Prim.Native.Nat.{ℕ, _+_, _*_, _≤_, _<_}
 use lib.IntN.{ℤ}
 use lib.ListN.{length}
-use Rattle.lingua.specs.Numbers.{body-cells, body-nodes, declaration-section, expression-section, most-variables, body-bytes}
+use Rattle.lingua.specs.Numbers.{body-cells, body-nodes, expression-section, most-variables, body-bytes}
 use Rattle.lingua.specs.Errors.{no-error}
 use Rattle.lingua.specs.Outcome.{ok, fail, Result, allAnswers}
 use Rattle.lingua.specs.Body.{Body, size, nodes, isBoolean}
 use Rattle.lingua.specs.Value.{Composite, allOf, asTruth, pad}
-use Rattle.lingua.specs.Rows.{pairCount}
 use Rattle.lingua.specs.Store.{Variable, variableAt, presentBody, cellsIn, statesIn, bodiesIn}
 use Rattle.safety.specs.Accepted.{AcceptedRows}
 use Rattle.safety.specs.Constants.{Fitting}
@@ -39,18 +38,17 @@ pub record Stored (variables : List ℕ) (cells : List ℤ) (states : List ℕ) 
   pub holdable : (n : ℕ) → n < length vs → Holdable (presentBody (variableAt vs n))
   pub fits : (n : ℕ) (x : Composite) → variableAt vs n .content ≡ some x → Fitting x
 
--- some such store
+-- some such store, and a number that a variable may have, whether or not one of the store's has it
 pub record HasStored (variables : List ℕ) (cells : List ℤ) (states : List ℕ) (n : ℕ) : Type 0 where
   pub store : List Variable
   pub stored : Stored variables cells states store
-  pub there : n < length store
+  pub there : n < most-variables
 
--- accepted rows with their table, and a store of the declared variables
+-- accepted rows with their table, and a store of some scope's variables: the profile's or those of a call that is open
 pub record World (rows : List ℕ) (t : Table) (variables : List ℕ) (cells : List ℤ) (states : List ℕ) (vs : List Variable) : Type 0 where
   pub accepted : AcceptedRows rows
   pub table : IsTable rows expression-section t
   pub stored : Stored variables cells states vs
-  pub count : length vs ≡ pairCount rows declaration-section
 
 -- some such store
 pub record HasWorld (rows : List ℕ) (t : Table) (variables : List ℕ) (cells : List ℤ) (states : List ℕ) : Type 0 where

@@ -56,7 +56,7 @@ pub fn constant(rows: &[u8], t: Table, r: usize, stack: &mut [i64]) -> Evaluated
     }
 }
 
-// The value of variable n, which has its present body.
+// The value of variable n, which has its present body. A variable behind the store's is not filled.
 pub fn fetch(
     variables: &[u8],
     cells: &[i64],
@@ -66,7 +66,7 @@ pub fn fetch(
 ) -> Evaluated
     requires { ⌜ HasStored (now variables) (now cells) (now states) n ⌝ }
     requires { ⌜ body-cells ≤ length (now stack) ⌝ }
-    ensures { λ r. ⌜ ((vs : List Variable) → Stored (now (variables .entry)) (now (cells .entry)) (now (states .entry)) vs → n < length vs
+    ensures { λ r. ⌜ ((vs : List Variable) → Stored (now (variables .entry)) (now (cells .entry)) (now (states .entry)) vs
         → Gives r (now (stack .exit)) (orFail (contents vs n) not-filled)) ⌝ }
 {
     if !is_filled(states, n) {

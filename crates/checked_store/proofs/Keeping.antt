@@ -1,5 +1,5 @@
 -- A store with one variable replaced, in the caller's memory: what is asked of a run's store still holds. Assumes nothing.
-use mathlib.Core.Path.{_≡_, refl, sym, ap, _∙_, subst}
+use mathlib.Core.Path.{_≡_, refl, subst}
 use mathlib.Core.List.{List}
 use mathlib.Core.Option.{some}
 use Prim.Native.Nat.{ℕ, _<_}
@@ -43,7 +43,6 @@ module _ {rows : List ℕ} {t : Table} {limits : List ℤ} {l : Lent} {vs : List
             holdable = λ k i. replaced (λ j w. j < length vs → Holdable (presentBody w)) vs n v (λ z. b) (λ j. s .holdable j) k (omega (arith, len, i));
             fits = λ k. replaced (λ j w. (x : Composite) → w .content ≡ some x → Fitting x) vs n v f (λ j. s .fits j) k;
           };
-          count = len ∙ h .world .count;
         };
         room = omega (arith, len, h .room);
         limited = limits-kept vs n v limits e (h .limited);

@@ -3,10 +3,10 @@ use mathlib.Core.Path.{_≡_, refl, sym, ap, _∙_, subst}
 use mathlib.Core.Bool.{Bool, true, false}
 use mathlib.Core.List.{List}
 use mathlib.Core.Option.{Option, some}
-use Prim.Native.Nat.{ℕ, _+_, _-_, _*_, _<_}
+use Prim.Native.Nat.{ℕ, _+_, _-_, _*_}
 use native.Mathlib.Omega.{arith}
 use lib.IntN.{ℤ}
-use lib.ListN.{length, take, drop}
+use lib.ListN.{take, drop}
 use Rattle.lingua.specs.Numbers.{body-cells}
 use Rattle.lingua.specs.Errors.{yoke-expected, yoke-not-satisfied}
 use Rattle.lingua.specs.Outcome.{ok, fail, Result, require, _>>=_}
@@ -17,10 +17,10 @@ use Rattle.lingua.specs.Store.{Variable, variableAt, contents, yokeHolds, fille
 use Rattle.run.specs.declared.steps.Truth.{Truth}
 use Rattle.run.specs.Reached.{Tells}
 use Rattle.run.specs.Memory.{Admits}
-use Rattle.run.proofs.Parts.{unfilled-is, filled-is, part-lies}
+use Rattle.run.proofs.Parts.{filled-is, part-lies}
 use Rattle.run.proofs.Admitting.{admits-error}
 use Rattle.checked_row.specs.Meaning.{Stored, Current}
-use Rattle.checked_row.proofs.Storing.{memory-of, value-held}
+use Rattle.checked_row.proofs.Storing.{memory-of, filled-there, no-value, value-held}
 
 -- ---- the variable's cells
 pub record Fetched (variables : List ℕ) (cells : List ℤ) (body : List ℕ) (vs : List Variable) (n : ℕ) (value : List ℤ) : Type 0 where
@@ -28,10 +28,11 @@ pub record Fetched (variables : List ℕ) (cells : List ℤ) (body : List ℕ) (
   pub is : variableAt vs n .content ≡ some composite
   pub current : Current value body composite
 
-pub fetched : (variables : List ℕ) (cells : List ℤ) (states : List ℕ) (vs : List Variable) (n : ℕ) → Stored variables cells states vs → n < length vs → (body : List ℕ) → body ≡ take 96 (drop (96 * n) variables) → filledAt states n ≡ true
+pub fetched : (variables : List ℕ) (cells : List ℤ) (states : List ℕ) (vs : List Variable) (n : ℕ) → Stored variables cells states vs → (body : List ℕ) → body ≡ take 96 (drop (96 * n) variables) → filledAt states n ≡ true
     → Fetched variables cells body vs n (take (body-cells * n + body-cells - body-cells * n) (drop (body-cells * n) cells))
-fetched variables cells states vs n h lt body e f =
+fetched variables cells states vs n h body e f =
     let m = memory-of h in
+    let lt = filled-there h n f in
     let x = filled-is m n lt f in
     record {
       composite = x .0;
@@ -40,9 +41,9 @@ fetched variables cells states vs n h lt body e f =
     }
 
 -- ---- the yoke's answer
-pub none-holds : (variables : List ℕ) (cells : List ℤ) (states : List ℕ) (vs : List Variable) (n : ℕ) → Stored variables cells states vs → n < length vs → (y : Yoke) → filledAt states n ≡ false → Admits 0 (yokeHolds vs y (variableAt vs n .content))
+pub none-holds : (variables : List ℕ) (cells : List ℤ) (states : List ℕ) (vs : List Variable) (n : ℕ) → Stored variables cells states vs → (y : Yoke) → filledAt states n ≡ false → Admits 0 (yokeHolds vs y (variableAt vs n .content))
 unfolding yokeHolds
-none-holds variables cells states vs n h lt y e = subst (λ (c : Option Composite). Admits 0 (yokeHolds vs y c)) (sym (unfilled-is (memory-of h) n lt e)) (record { answer = λ z. refl; error = λ f. absurd (f refl) })
+none-holds variables cells states vs n h y e = subst (λ (c : Option Composite). Admits 0 (yokeHolds vs y c)) (sym (no-value h n e)) (record { answer = λ z. refl; error = λ f. absurd (f refl) })
 
 tested : (o : Result Composite) → (o >>= λ r. truthOr yoke-expected r >>= λ t. require t yoke-not-satisfied) ≡ ((o >>= truthOr yoke-expected) >>= λ t. require t yoke-not-satisfied)
 tested (ok x) = refl

@@ -11,8 +11,7 @@ use run::words::is_filled;
 ghost use mathlib.Core.List.{List};
 ghost use Prim.Native.Nat.{_+_, _*_, _<_, _≤_};
 ghost use lib.ListN.{length};
-ghost use Rattle.lingua.specs.Numbers.{body-cells, declaration-section};
-ghost use Rattle.lingua.specs.Rows.{pairCount};
+ghost use Rattle.lingua.specs.Numbers.{body-cells, most-variables};
 ghost use Rattle.lingua.specs.Store.{Variable, variableAt, yokeHolds};
 ghost use Rattle.lingua.specs.Trees.{yokeTree};
 ghost use Rattle.run.specs.Memory.{Admits};
@@ -30,7 +29,7 @@ pub fn yoke_holds(
     stack: &mut [i64],
 ) -> u8
     requires { ⌜ HasWorld (now rows) t (now variables) (now cells) (now states) ⌝ }
-    requires { ⌜ n < pairCount (now rows) declaration-section ⌝ }
+    requires { ⌜ n < most-variables ⌝ }
     requires { ⌜ (y ≤ t .count) × (body-cells * (y + 1) ≤ length (now stack)) ⌝ }
     ensures { λ r. ⌜ ((vs : List Variable) → World (now (rows .entry)) t (now (variables .entry)) (now (cells .entry)) (now (states .entry)) vs
         → Admits r (yokeHolds vs (yokeTree (now (rows .entry)) y) (variableAt vs n .content))) ⌝ }

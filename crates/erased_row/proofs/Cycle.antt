@@ -6,7 +6,7 @@ use Prim.Native.Nat.{ℕ, zero, suc, _*_, _≤_, _<_}
 use native.Mathlib.Omega.{arith}
 use lib.ListN.{length, take, drop, getD}
 use lib.IntN.{ℤ}
-use Rattle.lingua.specs.Numbers.{body-cells, declaration-section}
+use Rattle.lingua.specs.Numbers.{body-cells, most-variables}
 use Rattle.lingua.specs.Errors.{not-filled}
 use Rattle.lingua.specs.Outcome.{ok, fail, Result, if_then_else_, orFail, _>>=_}
 use Rattle.lingua.specs.Body.{Body, boolean, size}
@@ -14,13 +14,15 @@ use Rattle.lingua.specs.Value.{Value, truth, asTruth}
 use Rattle.lingua.specs.Operation.{Unary, Binary}
 use Rattle.lingua.specs.Compute.{unaryValue, binaryValue}
 use Rattle.lingua.specs.Expression.{Expression, constant, variable, current, unary, binary, lazy, choice, settledBy}
-use Rattle.lingua.specs.Rows.{pairCount}
 use Rattle.lingua.specs.Run.{Declaration}
 use Rattle.lingua.specs.Store.{Variable, contents}
-use Rattle.lingua.specs.Trees.{expressionTree}
+use Rattle.lingua.specs.Trees.{expressionTree, expressionScope}
 use Rattle.lingua.specs.Typing.{Bodies, bodiesOf}
 use Rattle.lingua.specs.Erased.{valuesOf, evalErased}
+use Rattle.laws.specs.Scopes.{use-at-most}
+use Rattle.safety.specs.Accepted.{few-variables}
 use Rattle.decoder.specs.declared.decode.ExpressionRow.{ExpressionRow as CodeRow}
+use Rattle.decoder.specs.declared.decode.ExpressionRow.the-variants as code
 use Rattle.decoder.specs.Decoded.{connective}
 use Rattle.profile.specs.Row.{constantOf, RowSays}
 use Rattle.profile.specs.Facts.{RowFacts, row-facts, rowTree, row-tree, settled-by}
@@ -43,6 +45,11 @@ module _ {rows : List ℕ} {t : Table} {layout : List ℕ} {cells : List ℤ} {s
 
   pub tree-is : {d : CodeRow} → RowSays rows row d → expressionTree rows row ≡ rowTree rows row d
   tree-is {d} s = row-tree rows row d s (facts s)
+
+  -- a variable's number is below 16, whichever scope the row is of
+  pub variable-few : {n : ℕ} → RowSays rows row (code.Variable n) → n < most-variables
+  unfolding RowFacts
+  variable-few s = omega (arith, facts s, few-variables rows (w .accepted) (expressionScope rows row) (use-at-most rows row))
 
 pub memory-of : {rows : List ℕ} {t : Table} {layout : List ℕ} {cells : List ℤ} {states : List ℕ} {ds : List Declaration} {vs : List Variable} → World rows t layout cells states ds vs → Memory cells states vs (bodiesOf ds)
 memory-of w = record { cells-are = w .cells-are; states-are = w .states-are; few = w .few; small = λ n l. w .small n; fit = w .fit }
@@ -67,16 +74,16 @@ module _ {rows : List ℕ} {t : Table} {layout : List ℕ} {cells : List ℤ} {s
   unfolding evalErased
   constant-evaluates h = record { leaves = λ ds vs cur b x w k d. leaves-as (sym (constant-passed d)) h }
 
-  pub has-variable : {row n : ℕ} → Ready rows t layout cells states now (variable row n) → n < pairCount rows declaration-section → HasVariable cells states n (getD layout (2 * row) 0)
+  pub has-variable : {row n : ℕ} → Ready rows t layout cells states now (variable row n) → n < most-variables → HasVariable cells states n (getD layout (2 * row) 0)
   has-variable r l =
       let p = variable-passed (r .passed) in
-      record { store = r .store; bodies = bodiesOf (r .declarations); memory = memory-of (r .world); there = omega (arith, l, r .world .count); size-is = p .1 ∙ ap size (sym (p .0)) }
+      record { store = r .store; bodies = bodiesOf (r .declarations); memory = memory-of (r .world); few = l; size-is = p .1 ∙ ap size (sym (p .0)) }
 
-  pub variable-evaluates : {row n m : ℕ} {s : List ℤ} → n < pairCount rows declaration-section
-      → ((vs : List Variable) (vars : Bodies) → Memory cells states vs vars → n < length vs → getD layout (2 * row) 0 ≡ size (vars n) → Leaves m s (vars n) (orFail (valuesOf (contents vs) n) not-filled))
+  pub variable-evaluates : {row n m : ℕ} {s : List ℤ}
+      → ((vs : List Variable) (vars : Bodies) → Memory cells states vs vars → getD layout (2 * row) 0 ≡ size (vars n) → Leaves m s (vars n) (orFail (valuesOf (contents vs) n) not-filled))
       → Evaluates rows t layout cells states now (variable row n) m s
   unfolding evalErased
-  variable-evaluates l f = record { leaves = λ ds vs cur b x w k d. let p = variable-passed d in leaves-as (sym (p .0)) (f vs (bodiesOf ds) (memory-of w) (omega (arith, l, w .count)) (p .1 ∙ ap size (sym (p .0)))) }
+  variable-evaluates f = record { leaves = λ ds vs cur b x w k d. let p = variable-passed d in leaves-as (sym (p .0)) (f vs (bodiesOf ds) (memory-of w) (p .1 ∙ ap size (sym (p .0)))) }
 
   pub has-current : {row : ℕ} → Ready rows t layout cells states now (current row) → HasCurrent now (getD layout (2 * row) 0)
   has-current r =

@@ -1,31 +1,32 @@
 -- What the type check found at a row, by the row's kind; and the layout table's first number at a row is its result's size, at
 -- most 64. Assumes nothing.
-use mathlib.Core.Path.{_≡_, sym, ap, _∙_}
+use mathlib.Core.Path.{_≡_, sym, ap, _∙_, subst}
 use mathlib.Core.List.{List}
 use mathlib.Core.Option.{some}
 use Prim.Native.Nat.{ℕ, suc, _+_, _*_, _≤_, _<_}
 use native.Mathlib.Omega.{arith}
 use lib.ListN.{length, getD}
 use lib.IntN.{ℤ}
-use Rattle.lingua.specs.Numbers.{body-cells, expression-section}
+use Rattle.lingua.specs.Numbers.{body-cells, expression-section, instruction-section}
 use Rattle.lingua.specs.Outcome.{ok}
 use Rattle.lingua.specs.Body.{Body, boolean, size, elementBody}
 use Rattle.lingua.specs.Value.{Value, Composite}
 use Rattle.lingua.specs.Operation.{Unary, Binary, unaryBody, binaryBody}
 use Rattle.lingua.specs.Expression.{Connective, Expression, rowOf, constant, variable, current, unary, binary, lazy, choice, all-list, yokeNumber}
 use Rattle.lingua.specs.Rows.{tableCount}
-use Rattle.lingua.specs.Run.{Declaration}
+use Rattle.lingua.specs.Run.{Declaration, Profile}
 use Rattle.lingua.specs.Store.{Variable}
-use Rattle.lingua.specs.Trees.{expressionTree, yokeTree}
-use Rattle.lingua.specs.Typing.{Bodies, unarySecond, binarySecond}
+use Rattle.lingua.specs.Trees.{expressionTree, yokeTree, instructionTree, instructionScope}
+use Rattle.lingua.specs.Typing.{Bodies, scopeBodies, unarySecond, binarySecond}
 use Rattle.rules.specs.Accepted.{counts}
 use Rattle.safety.specs.Checked.{entry}
-use Rattle.safety.specs.Derivation.{Derived, of-constant, of-variable, of-current, of-unary, of-binary, of-lazy, of-choice, of-all-list}
+use Rattle.safety.specs.Derivation.{Derived, DerivedRow, of-constant, of-variable, of-current, of-unary, of-binary, of-lazy, of-choice, of-all-list}
 use Rattle.safety.specs.Layout.{HoldsIn}
 use Rattle.safety.specs.Sizes.{Small, derived-size, tree-small}
 use Rattle.safety.specs.Named.{number-of}
 use Rattle.decoder.specs.declared.tables.Table.{Table}
-use Rattle.erased_row.specs.Meaning.{World, Current, Passed}
+use Rattle.run.specs.Reached.{Lent}
+use Rattle.erased_row.specs.Meaning.{World, Current, Passed, Running}
 
 -- ---- by kinds
 pub record PassedUnary (layout : List ℕ) (vars : Bodies) (row : ℕ) (o : Unary) (e : Expression) (cur b : Body) : Type 0 where
@@ -118,3 +119,8 @@ module _ {rows : List ℕ} {t : Table} {layout : List ℕ} {cells : List ℤ} {s
     at = ap (λ (k : ℕ). getD layout (2 * k) 0) (sym (tree-row rows a)) ∙ size-of d;
     small = derived-size (w .small) d (tree-small rows (w .accepted) a (table-of l)) (h .small);
   }
+
+-- ---- an instruction row of the store's own scope
+pub row-passed : {p : Profile} {a : ℕ} {rows : List ℕ} {t : Table} {layout : List ℕ} {limits : List ℤ} {l : Lent} {vs : List Variable} → Running p a rows t layout limits l vs → (r : ℕ) → r < tableCount rows instruction-section → instructionScope rows r ≡ a
+    → DerivedRow (HoldsIn layout) (λ k. scopeBodies p (suc k)) (scopeBodies p a) (instructionTree rows r)
+row-passed {p} {rows = rows} {layout = layout} w r l q = subst (λ (b : ℕ). DerivedRow (HoldsIn layout) (λ k. scopeBodies p (suc k)) (scopeBodies p b) (instructionTree rows r)) q (w .passed-rows r l)

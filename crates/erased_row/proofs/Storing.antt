@@ -2,20 +2,26 @@
 use mathlib.Core.Path.{_≡_, refl, sym, ap, _∙_, subst}
 use mathlib.Core.Bool.{true, false}
 use mathlib.Core.List.{List}
-use mathlib.Core.Option.{Option}
+use mathlib.Core.Logic.{⊎-elim}
+use mathlib.Core.Option.{Option, none}
 use Prim.Native.Nat.{ℕ, _+_, _*_, _≤_, _<_}
 use native.Mathlib.Omega.{arith}
-use lib.ListN.{length, take, drop, set}
+use lib.Dec.{eqb}
+use lib.ListN.{length, take, drop, set, List·getD-eq-default}
 use lib.Seq.{paste}
 use lib.IntN.{ℤ}
-use Rattle.lingua.specs.Numbers.{body-cells}
+use borrow.Author.Tests.{eqb-false, not-true}
+use Rattle.lingua.specs.Numbers.{body-cells, most-variables}
 use Rattle.lingua.specs.Errors.{not-filled}
 use Rattle.lingua.specs.Outcome.{ok, Result, orFail}
 use Rattle.lingua.specs.Body.{Body, size}
 use Rattle.lingua.specs.Value.{Value, Composite}
-use Rattle.lingua.specs.Store.{Variable, contents, filledAt}
+use Rattle.lingua.specs.Store.{Variable, no-variable, variableAt, contents, flagPlace, flagAt, filledAt}
 use Rattle.lingua.specs.Typing.{Bodies}
+use Rattle.laws.specs.Frames.{flag-behind}
 use Rattle.laws.specs.Lengths.{length-cells}
+use Rattle.laws.specs.Stores.{states-long, flag-room}
+use Rattle.laws.specs.Tests.{below-or}
 use Rattle.lingua.specs.Erased.{valueIn, valuesOf}
 use Rattle.profile.specs.Constants.{ConstantRow, IsCell}
 use Rattle.profile.specs.Row.{constantOf}
@@ -43,12 +49,30 @@ pub leaves-current : {current : List ℤ} {b : Body} {x : Value} (s after : List
 leaves-current {current} {b} {x} s after n h z q = leaves-ok x refl refl (copied-lies s current 0 n b x q z (current-room n h z .0) (h .lies .cells) (h .lies .fit))
 
 -- ---- a variable
-module _ {cells : List ℤ} {states : List ℕ} {vs : List Variable} {vars : Bodies} (h : Memory cells states vs vars) (n : ℕ) (lt : n < length vs) where
+module _ {cells : List ℤ} {states : List ℕ} {vs : List Variable} {vars : Bodies} (h : Memory cells states vs vars) (n : ℕ) where
+  pub flag-there : n < most-variables → flagPlace n < length states
+  flag-there l = flag-room states n (omega (arith, ap (λ (s : List ℕ). length s) (h .states-are), states-long vs)) l
+
+  -- a flag behind the variables is not set
+  pub filled-there : filledAt states n ≡ true → n < length vs
+  unfolding filledAt
+  filled-there e =
+      ⊎-elim (λ (l : n < length vs). l)
+      (λ (l : length vs ≤ n). absurd (eqb-false (flagAt states n) 0 (not-true (eqb (flagAt states n) 0) e) (ap (λ (s : List ℕ). flagAt s n) (h .states-are) ∙ flag-behind vs n l)))
+      (below-or n (length vs))
+
+  no-content : filledAt states n ≡ false → variableAt vs n .content ≡ none
+  no-content e =
+      ⊎-elim (λ (l : n < length vs). unfilled-is h n l e)
+      (λ (l : length vs ≤ n). ap (λ (v : Variable). v .content) (List·getD-eq-default vs no-variable l))
+      (below-or n (length vs))
+
   pub leaves-empty : (after : List ℤ) (b : Body) → filledAt states n ≡ false → Leaves not-filled after b (orFail (valuesOf (contents vs) n) not-filled)
-  leaves-empty after b e = leaves-fail (λ q. let k : ⊥ = omega arith in k) (ap {B = Result Value} (λ (c : Option Composite). orFail (valueIn c) not-filled) (unfilled-is h n lt e))
+  leaves-empty after b e = leaves-fail (λ q. let k : ⊥ = omega arith in k) (ap {B = Result Value} (λ (c : Option Composite). orFail (valueIn c) not-filled) (no-content e))
 
   pub leaves-filled : (s after : List ℤ) (m : ℕ) → filledAt states n ≡ true → m ≡ size (vars n) → after ≡ paste s 0 (drop (body-cells * n) cells) m → Leaves 0 after (vars n) (orFail (valuesOf (contents vs) n) not-filled)
   leaves-filled s after m g z q =
+      let lt = filled-there g in
       let x = filled-is h n lt g in
       let f = filled h n (x .0) (x .1) in
       let w : m ≡ size (x .0 .body) = z ∙ ap size (sym (f .0)) in

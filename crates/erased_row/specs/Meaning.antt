@@ -2,25 +2,26 @@
 -- type check found them. Assumes nothing: these are definitions.
 use mathlib.Core.Path.{_≡_}
 use mathlib.Core.Bool.{Bool, true}
-use mathlib.Core.List.{List, map}
+use mathlib.Core.List.{List}
 use mathlib.Core.Option.{some}
-use Prim.Native.Nat.{ℕ, _+_, _*_, _≤_, _<_}
+use Prim.Native.Nat.{ℕ, suc, _+_, _*_, _≤_, _<_}
 use lib.IntN.{ℤ}
 use lib.ListN.{length, drop, getD}
-use Rattle.lingua.specs.Numbers.{body-cells, declaration-section, expression-section, instruction-section, layout-length, most-variables, limit-cells}
+use Rattle.lingua.specs.Numbers.{body-cells, expression-section, instruction-section, scopeTable, layout-length, most-variables, limit-cells}
 use Rattle.lingua.specs.Outcome.{ok, Result, _>>=_, allAnswers}
 use Rattle.lingua.specs.Body.{Body, boolean, number, size}
 use Rattle.lingua.specs.Value.{Value, asTruth, allOf}
 use Rattle.lingua.specs.Operation.{Unary, Binary, unaryBody, binaryBody}
-use Rattle.lingua.specs.Expression.{Expression, Yoke, Instruction, skip, assign, set-yoke, sequence, branch, loop, handle}
+use Rattle.lingua.specs.Expression.{Expression, Yoke, Instruction, skip, assign, set-yoke, sequence, branch, loop, handle, call}
 use Rattle.lingua.specs.Evaluation.{no-current}
 use Rattle.lingua.specs.Rows.{tableCount, pairCount}
 use Rattle.lingua.specs.Store.{Limit, Variable, variableAt, contents, cellsIn, statesIn}
-use Rattle.lingua.specs.Run.{Declaration, unfilled}
-use Rattle.lingua.specs.Typing.{Bodies, bodiesOf, no-current-body, unarySecond, binarySecond}
-use Rattle.lingua.specs.Trees.{expressionTree, instructionTree}
+use Rattle.lingua.specs.Run.{Declaration, Profile, scopeDeclarations}
+use Rattle.lingua.specs.Typing.{Bodies, bodiesOf, scopeBodies, no-current-body, unarySecond, binarySecond}
+use Rattle.lingua.specs.Trees.{expressionTree, instructionTree, instructionScope}
 use Rattle.lingua.specs.Refusal.{isNumberVariable}
 use Rattle.safety.specs.Accepted.{AcceptedRows}
+use Rattle.safety.specs.Invariant.{scopeStore}
 use Rattle.safety.specs.Stored.{StoreKept}
 use Rattle.safety.specs.Programs.{YokesDerived}
 use Rattle.safety.specs.Derivation.{Derived, DerivedYoke, DerivedRow}
@@ -35,8 +36,8 @@ use Rattle.cells.specs.Stack.{Lies, Leaves, first-place}
 use Rattle.run.specs.Memory.{Memory}
 use Rattle.run.specs.Reached.{Lent}
 
--- accepted rows with their table, a layout table, and the caller's memory, which holds a store of the declared variables, each of its declared
--- body where it is filled
+-- accepted rows with their table, a layout table, and the caller's memory, which holds a store of at most 16 variables, each of its declared
+-- body where it is filled. Whose variables they are is not asked: one that is behind them is not filled
 pub record World (rows : List ℕ) (t : Table) (layout : List ℕ) (cells : List ℤ) (states : List ℕ) (ds : List Declaration) (vs : List Variable) : Type 0 where
   pub accepted : AcceptedRows rows
   pub table : IsTable rows expression-section t
@@ -44,7 +45,6 @@ pub record World (rows : List ℕ) (t : Table) (layout : List ℕ) (cells : List
   pub cells-are : cells ≡ cellsIn vs
   pub states-are : states ≡ statesIn vs
   pub few : length vs ≤ most-variables
-  pub count : length vs ≡ pairCount rows declaration-section
   pub small : (n : ℕ) → size (bodiesOf ds n) ≤ body-cells
   pub fit : VariablesFit (bodiesOf ds) (contents vs)
 
@@ -121,12 +121,12 @@ allTold rs = do
   ok (allOf asTruth xs)
 
 -- ---- what a row's own work asks
--- memory with a store in it, and a variable n of m cells
+-- memory with a store in it, and a variable's number, below 16, with a body of m cells. The store may have no such variable
 pub record HasVariable (cells : List ℤ) (states : List ℕ) (n m : ℕ) : Type 0 where
   pub store : List Variable
   pub bodies : Bodies
   pub memory : Memory cells states store bodies
-  pub there : n < length store
+  pub few : n < most-variables
   pub size-is : m ≡ size (bodies n)
 
 -- some current value of m cells
@@ -173,31 +173,35 @@ pub record HasBinary (layout : List ℕ) (o : Binary) (row a b first second : �
   pub other-leaves : Leaves second (drop body-cells stack) other other-outcome
 
 -- ---- what stores and tests of a run ask
--- a store of a run: what the type check found of its current yokes and of every instruction row, and its limits, which number variables alone
--- have. With the world's bodies, this makes a state of a passed profile's run. The lent bodies are asked nothing: the erased run has none.
-pub record Running (rows : List ℕ) (t : Table) (layout : List ℕ) (limits : List ℤ) (l : Lent) (vs : List Variable) : Type 0 where
-  pub declarations : List Declaration
-  pub world : World rows t layout (l .cells) (l .states) declarations vs
-  pub kept : StoreKept (map unfilled declarations) vs
-  pub passed-yokes : YokesDerived (HoldsIn layout) (bodiesOf declarations) vs
-  pub passed-rows : (r : ℕ) → r < tableCount rows instruction-section → DerivedRow (HoldsIn layout) (bodiesOf declarations) (instructionTree rows r)
+-- a store of a run, of the variables of one scope of a profile: 0 is the profile's own, 1 + k that of procedure k. What the type check found of
+-- its current yokes and of every instruction row, each by its own scope, and its limits, which number variables alone have. With the world's
+-- bodies, this makes a state of a passed profile's run. The lent bodies are asked nothing: the erased run has none.
+pub record Running (p : Profile) (a : ℕ) (rows : List ℕ) (t : Table) (layout : List ℕ) (limits : List ℤ) (l : Lent) (vs : List Variable) : Type 0 where
+  pub world : World rows t layout (l .cells) (l .states) (scopeDeclarations p a) vs
+  pub count : length vs ≡ pairCount rows (scopeTable a)
+  pub kept : StoreKept (scopeStore p a) vs
+  pub passed-yokes : YokesDerived (HoldsIn layout) (scopeBodies p a) vs
+  pub passed-rows : (r : ℕ) → r < tableCount rows instruction-section → DerivedRow (HoldsIn layout) (λ k. scopeBodies p (suc k)) (scopeBodies p (instructionScope rows r)) (instructionTree rows r)
   pub room : limit-cells * length vs ≤ length limits
   pub limited : (n : ℕ) → n < length vs → LimitAt limits (limit-cells * n) (variableAt vs n .limit)
-  pub limited-numbers : (n : ℕ) (b : Limit) → n < length vs → variableAt vs n .limit ≡ some b → bodiesOf declarations n ≡ number
-  pub number-variables : (n : ℕ) → isNumberVariable rows n ≡ true → bodiesOf declarations n ≡ number
+  pub limited-numbers : (n : ℕ) (b : Limit) → n < length vs → variableAt vs n .limit ≡ some b → scopeBodies p a n ≡ number
+  pub number-variables : a ≡ 0 → (n : ℕ) → isNumberVariable rows n ≡ true → scopeBodies p 0 n ≡ number
   pub yokes : (n : ℕ) → n < length vs → YokeOf rows (variableAt vs n .yoke)
 
--- some such store
-pub record HasRunning (rows : List ℕ) (t : Table) (layout : List ℕ) (limits : List ℤ) (l : Lent) : Type 0 where
+-- some such store, of a scope with a property
+pub record HasRunning (rows : List ℕ) (t : Table) (layout : List ℕ) (limits : List ℤ) (l : Lent) (P : ℕ → Type 0) : Type 0 where
+  pub profile : Profile
+  pub scope : ℕ
   pub store : List Variable
-  pub running : Running rows t layout limits l store
+  pub running : Running profile scope rows t layout limits l store
+  pub of-scope : P scope
 
 -- some limits, and such a store
-pub record HasStore (rows : List ℕ) (t : Table) (layout : List ℕ) (l : Lent) : Type 0 where
+pub record HasStore (rows : List ℕ) (t : Table) (layout : List ℕ) (l : Lent) (P : ℕ → Type 0) : Type 0 where
   pub limits : List ℤ
-  pub has : HasRunning rows t layout limits l
+  pub has : HasRunning rows t layout limits l P
 
--- ---- what an instruction row says, for whichever row it is
+-- ---- what an instruction row says, for whichever row of scope a it is
 -- a test of expression row e
 unfoldable pub Tests : Instruction → Expression → Type 0
 Tests (skip r) e = ⊥
@@ -207,8 +211,10 @@ Tests (sequence r i j) e = ⊥
 Tests (branch r f i j) e = f ≡ e
 Tests (loop r f i) e = f ≡ e
 Tests (handle r n i) e = ⊥
+Tests (call r k vs rs) e = ⊥
 
-pub record TestRow (rows : List ℕ) (e : ℕ) : Type 0 where
+pub record TestRow (rows : List ℕ) (a e : ℕ) : Type 0 where
   pub at : ℕ
   pub there : at < tableCount rows instruction-section
+  pub scope : instructionScope rows at ≡ a
   pub is : Tests (instructionTree rows at) (expressionTree rows e)

@@ -38,7 +38,7 @@ pub fn constant(rows: &[u8], t: Table, row: usize, stack: &mut [i64]) -> u8
     NO_ERROR
 }
 
-// The value of variable n, of as many cells as the layout table says.
+// The value of variable n, of as many cells as the layout table says. The flag is asked first: one behind the store's variables is not set.
 pub fn fetch(
     layout: &[u16],
     cells: &[i64],
@@ -50,7 +50,7 @@ pub fn fetch(
     requires { ⌜ HasVariable (now cells) (now states) n (getD (now layout) (2 * row) 0) ⌝ }
     requires { ⌜ 2 * row + 1 < length (now layout) ⌝ }
     requires { ⌜ body-cells ≤ length (now stack) ⌝ }
-    ensures { λ r. ⌜ ((vs : List Variable) (vars : Bodies) → Memory (now (cells .entry)) (now (states .entry)) vs vars → n < length vs → getD (now (layout .entry)) (2 * row) 0 ≡ size (vars n)
+    ensures { λ r. ⌜ ((vs : List Variable) (vars : Bodies) → Memory (now (cells .entry)) (now (states .entry)) vs vars → getD (now (layout .entry)) (2 * row) 0 ≡ size (vars n)
         → Leaves r (now (stack .exit)) (vars n) (orFail (valuesOf (contents vs) n) not-filled)) ⌝ }
 {
     if !is_filled(states, n) {

@@ -4,52 +4,59 @@ use mathlib.Core.Path.{_≡_}
 use mathlib.Core.List.{List}
 use mathlib.Core.Option.{some}
 use Prim.Native.Nat.{ℕ, _+_, _*_, _≤_, _<_}
-use lib.IntN.{ℤ}
-use lib.ListN.{length}
-use Rattle.lingua.specs.Numbers.{body-cells, instruction-section, limit-cells}
+use lib.IntN.{ℤ, pos}
+use lib.ListN.{length, take}
+use Rattle.lingua.specs.Numbers.{body-cells, instruction-section, scopeTable, limit-cells}
 use Rattle.lingua.specs.Outcome.{ok}
 use Rattle.lingua.specs.Body.{Body, size}
-use Rattle.lingua.specs.Value.{Value, Composite}
+use Rattle.lingua.specs.Value.{Value, Fits, pad, cellsOf, Composite}
 use Rattle.lingua.specs.Expression.{Yoke, assign, set-yoke}
-use Rattle.lingua.specs.Rows.{tableCount}
+use Rattle.lingua.specs.Rows.{tableCount, pairCount}
 use Rattle.lingua.specs.Store.{Variable, variableAt, contents, flagPlace}
-use Rattle.lingua.specs.Run.{Declaration}
-use Rattle.lingua.specs.Typing.{bodiesOf}
-use Rattle.lingua.specs.Trees.{expressionTree, yokeTree, instructionTree}
+use Rattle.lingua.specs.Run.{Declaration, Profile}
+use Rattle.lingua.specs.Typing.{bodiesOf, scopeBodies}
+use Rattle.lingua.specs.Trees.{expressionTree, yokeTree, instructionTree, instructionScope}
 use Rattle.lingua.specs.Erased.{valuesOf, yokeHoldsErased}
 use Rattle.decoder.specs.declared.tables.Table.{Table}
-use Rattle.cells.specs.Stack.{Lies, first-place}
 use Rattle.run.specs.Memory.{Admits}
-use Rattle.run.specs.Reached.{Lent}
+use Rattle.run.specs.Reached.{Lent, lent}
 use Rattle.erased_row.specs.Meaning.{World, Current, PassedYoke, Running}
 
--- ---- what an instruction row says, for whichever row it is
+-- ---- what an instruction row says, for whichever row of scope a it is
 -- an assignment of expression row e to variable n
-pub record AssignRow (rows : List ℕ) (n e : ℕ) : Type 0 where
+pub record AssignRow (rows : List ℕ) (a n e : ℕ) : Type 0 where
   pub at : ℕ
   pub there : at < tableCount rows instruction-section
+  pub scope : instructionScope rows at ≡ a
+  pub declared : n < pairCount rows (scopeTable a)
   pub is : instructionTree rows at ≡ assign at n (expressionTree rows e)
 
 -- a change of variable n's yoke to y
-pub record YokeRow (rows : List ℕ) (n y : ℕ) : Type 0 where
+pub record YokeRow (rows : List ℕ) (a n y : ℕ) : Type 0 where
   pub at : ℕ
   pub there : at < tableCount rows instruction-section
+  pub scope : instructionScope rows at ≡ a
+  pub declared : n < pairCount rows (scopeTable a)
   pub is : instructionTree rows at ≡ set-yoke at n (yokeTree rows y)
 
 -- ---- what the parts of a store ask and give
--- a value of variable n's declared body, as width cells at a list's front
-pub record ValueFor (ds : List Declaration) (n width : ℕ) (value : List ℤ) (x : Composite) : Type 0 where
-  pub declared-body : x .body ≡ bodiesOf ds n
-  pub lies : Lies value first-place (x .body) (x .value)
-  pub cells : width ≡ size (x .body)
+-- a value of a variable's declared body b, as width cells at a list's front: its own, or zeros behind them
+pub record ValueFor (b : Body) (width : ℕ) (value : List ℤ) (x : Composite) : Type 0 where
+  pub declared-body : x .body ≡ b
+  pub fits : Fits (x .value) (x .body)
+  pub cells : take width value ≡ pad width (pos 0) (cellsOf (x .body) (x .value))
+  pub wide : size (x .body) ≤ width
+  pub narrow : width ≤ body-cells
 
 -- some store of a run with a variable n, and some such value
 pub record Storable (rows : List ℕ) (t : Table) (layout : List ℕ) (limits : List ℤ) (l : Lent) (n width : ℕ) (value : List ℤ) : Type 0 where
+  pub profile : Profile
+  pub scope : ℕ
   pub store : List Variable
-  pub running : Running rows t layout limits l store
+  pub running : Running profile scope rows t layout limits l store
   pub there : n < length store
   pub composite : Composite
-  pub is : ValueFor (running .declarations) n width value composite
+  pub is : ValueFor (scopeBodies profile scope n) width value composite
 
 -- room for the limit, the cells and the flag of variable n, and for its value
 pub record StoreRoom (limits cells : List ℤ) (states : List ℕ) (n width : ℕ) (value : List ℤ) : Type 0 where
@@ -80,3 +87,19 @@ pub record HasChange (rows : List ℕ) (t : Table) (layout : List ℕ) (cells : 
 pub record AdmitsYoke (rows : List ℕ) (t : Table) (layout : List ℕ) (cells : List ℤ) (states : List ℕ) (n : ℕ) (y : Yoke) (r : ℕ) : Type 0 where
   pub admits : (ds : List Declaration) (vs : List Variable) → World rows t layout cells states ds vs → n < length vs → PassedYoke layout ds y (bodiesOf ds n)
       → Admits r (yokeHoldsErased y (valuesOf (contents vs)) (valuesOf (contents vs) n))
+
+-- ---- copies
+-- some two stores of a run, with a variable n of the one and a variable m of the other that have one body. The other's limits are asked alone
+pub record HasCopy (rows : List ℕ) (t : Table) (layout : List ℕ) (cells : List ℤ) (states : List ℕ) (n : ℕ) (limits : List ℤ) (l : Lent) (m : ℕ) : Type 0 where
+  pub profile : Profile
+  pub from : ℕ
+  pub to : ℕ
+  pub their-limits : List ℤ
+  pub their-bodies : List ℕ
+  pub given : List Variable
+  pub giving : Running profile from rows t layout their-limits (lent cells states their-bodies) given
+  pub there : n < length given
+  pub store : List Variable
+  pub running : Running profile to rows t layout limits l store
+  pub taking : m < length store
+  pub same : scopeBodies profile from n ≡ scopeBodies profile to m

@@ -1,14 +1,15 @@
-// Yoke change: the value that the variable has must satisfy the new yoke, which is then noted in its state word.
+// Yoke change: the value that the variable has must satisfy the new yoke, which is then noted in its state word. Its row is of the scope that
+// the store is of.
 use crate::holds::yoke_holds;
 use decoder::tables::Table;
 use lingua::errors::NO_ERROR;
 use run::words::set_yoke;
 ghost use mathlib.Core.List.{List, []};
-ghost use Prim.Native.Nat.{_+_, _*_, _<_, _≤_};
+ghost use Prim.Native.Nat.{ℕ, _+_, _*_, _≤_};
 ghost use lib.ListN.{length};
-ghost use Rattle.lingua.specs.Numbers.{body-cells, declaration-section};
-ghost use Rattle.lingua.specs.Rows.{pairCount};
+ghost use Rattle.lingua.specs.Numbers.{body-cells};
 ghost use Rattle.lingua.specs.Store.{Variable, yokeChanged};
+ghost use Rattle.lingua.specs.Run.{Profile};
 ghost use Rattle.lingua.specs.Trees.{yokeTree};
 ghost use Rattle.run.specs.Reached.{lent, Settles};
 ghost use Rattle.erased_row.specs.Meaning.{Running, HasRunning};
@@ -25,11 +26,11 @@ pub fn change_yoke(
     y: u16,
     stack: &mut [i64],
 ) -> u8
-    requires { ⌜ HasRunning (now rows) t (now layout) (now kept) (lent (now cells) (now states) []) ⌝ }
-    requires { ⌜ (n < pairCount (now rows) declaration-section) × (y ≤ t .count) × YokeRow (now rows) n y ⌝ }
+    requires { ⌜ HasRunning (now rows) t (now layout) (now kept) (lent (now cells) (now states) []) (λ a. YokeRow (now rows) a n y) ⌝ }
+    requires { ⌜ y ≤ t .count ⌝ }
     requires { ⌜ body-cells * (t .count + 1) ≤ length (now stack) ⌝ }
-    ensures { λ r. ⌜ ((vs : List Variable) → Running (now (rows .entry)) t (now (layout .entry)) (now (kept .entry)) (lent (now (cells .entry)) (now (states .entry)) []) vs
-        → Settles r (Running (now (rows .entry)) t (now (layout .entry)) (now (kept .entry))) (lent (now (cells .entry)) (now (states .entry)) []) (lent (now (cells .entry)) (now (states .exit)) [])
+    ensures { λ r. ⌜ ((p : Profile) (a : ℕ) (vs : List Variable) → Running p a (now (rows .entry)) t (now (layout .entry)) (now (kept .entry)) (lent (now (cells .entry)) (now (states .entry)) []) vs → YokeRow (now (rows .entry)) a n y
+        → Settles r (Running p a (now (rows .entry)) t (now (layout .entry)) (now (kept .entry))) (lent (now (cells .entry)) (now (states .entry)) []) (lent (now (cells .entry)) (now (states .exit)) [])
         (yokeChanged vs n (yokeTree (now (rows .entry)) y))) ⌝ }
 {
     let error = yoke_holds(rows, t, layout, cells, states, n, y as usize, stack);

@@ -1,4 +1,4 @@
-// Readings (document 01): a number from outside, in range or an overflow, is stored in its variable.
+// Readings (document 01): a number from outside, in range or an overflow, is stored in its variable, which is one of the profile's own.
 use crate::store::store;
 use decoder::tables::Table;
 use lingua::errors::OVERFLOW;
@@ -14,6 +14,7 @@ ghost use Rattle.lingua.specs.Numbers.{body-cells, declaration-section};
 ghost use Rattle.lingua.specs.Rows.{pairCount};
 ghost use Rattle.lingua.specs.Refusal.{isNumberVariable};
 ghost use Rattle.lingua.specs.Store.{Variable, readingTaken};
+ghost use Rattle.lingua.specs.Run.{Profile};
 ghost use Rattle.run.specs.Reached.{lent, Settles};
 ghost use Rattle.run.specs.Memory.{reading};
 ghost use Rattle.erased_row.specs.Meaning.{Running, HasRunning};
@@ -29,11 +30,11 @@ pub fn take_reading(
     z: i64,
     stack: &mut [i64],
 ) -> u8
-    requires { ⌜ HasRunning (now rows) t (now layout) (now kept) (lent (now cells) (now states) []) ⌝ }
+    requires { ⌜ HasRunning (now rows) t (now layout) (now kept) (lent (now cells) (now states) []) (λ a. a ≡ 0) ⌝ }
     requires { ⌜ (n < pairCount (now rows) declaration-section) × (isNumberVariable (now rows) n ≡ true) ⌝ }
     requires { ⌜ body-cells * (t .count + 1) ≤ length (now stack) ⌝ }
-    ensures { λ r. ⌜ ((vs : List Variable) → Running (now (rows .entry)) t (now (layout .entry)) (now (kept .entry)) (lent (now (cells .entry)) (now (states .entry)) []) vs
-        → Settles r (Running (now (rows .entry)) t (now (layout .entry)) (now (kept .entry))) (lent (now (cells .entry)) (now (states .entry)) []) (lent (now (cells .exit)) (now (states .exit)) [])
+    ensures { λ r. ⌜ ((p : Profile) (vs : List Variable) → Running p 0 (now (rows .entry)) t (now (layout .entry)) (now (kept .entry)) (lent (now (cells .entry)) (now (states .entry)) []) vs
+        → Settles r (Running p 0 (now (rows .entry)) t (now (layout .entry)) (now (kept .entry))) (lent (now (cells .entry)) (now (states .entry)) []) (lent (now (cells .exit)) (now (states .exit)) [])
         (readingTaken vs (reading n z))) ⌝ }
 {
     if !between(LOWEST_NUMBER, HIGHEST_NUMBER, z) {

@@ -1,4 +1,5 @@
-// A value of a variable's declared body: its yoke, its limit, and then the store. A value moves as many cells as it has.
+// A value of a variable's declared body: its yoke, its limit, and then the store. A value moves as many cells as it has, or all 64 with zeros
+// behind its own.
 use crate::holds::satisfies;
 use decoder::tables::Table;
 use lingua::errors::NO_ERROR;
@@ -14,13 +15,15 @@ ghost use lib.ListN.{length};
 ghost use Rattle.lingua.specs.Numbers.{body-cells};
 ghost use Rattle.lingua.specs.Value.{Composite};
 ghost use Rattle.lingua.specs.Store.{Variable, assigned};
+ghost use Rattle.lingua.specs.Run.{Profile};
+ghost use Rattle.lingua.specs.Typing.{scopeBodies};
 ghost use Rattle.decoder.specs.declared.tables.Table.{Table};
 ghost use Rattle.run.specs.Reached.{lent, Settles};
 ghost use Rattle.erased_row.specs.Meaning.{Running};
 ghost use Rattle.erased_store.specs.Meaning.{ValueFor, Storable, StoreRoom, Satisfies};
 
 // A value that satisfies its yoke. Only numbers have limits, so its first cell is asked.
-fn store_within(
+pub fn store_within(
     kept: &[i64],
     cells: &mut [i64],
     states: &mut [u16],
@@ -29,9 +32,9 @@ fn store_within(
     width: usize,
 ) -> u8
     requires { ⌜ StoreRoom (now kept) (now cells) (now states) n width (now value) ⌝ }
-    ensures { λ r. ⌜ ((rows : List ℕ) (t : Table) (layout : List ℕ) (vs : List Variable) (x : Composite) (w : Running rows t layout (now (kept .entry)) (lent (now (cells .entry)) (now (states .entry)) []) vs)
-        → n < length vs → ValueFor (w .declarations) n width (now (value .entry)) x → Satisfies vs n x
-        → Settles r (Running rows t layout (now (kept .entry))) (lent (now (cells .entry)) (now (states .entry)) []) (lent (now (cells .exit)) (now (states .exit)) []) (assigned vs n x)) ⌝ }
+    ensures { λ r. ⌜ ((p : Profile) (a : ℕ) (rows : List ℕ) (t : Table) (layout : List ℕ) (vs : List Variable) (x : Composite) → Running p a rows t layout (now (kept .entry)) (lent (now (cells .entry)) (now (states .entry)) []) vs
+        → n < length vs → ValueFor (scopeBodies p a n) width (now (value .entry)) x → Satisfies vs n x
+        → Settles r (Running p a rows t layout (now (kept .entry))) (lent (now (cells .entry)) (now (states .entry)) []) (lent (now (cells .exit)) (now (states .exit)) []) (assigned vs n x)) ⌝ }
 {
     if !in_limits(kept, n, value[0]) {
         return YOKE_NOT_SATISFIED;
@@ -54,9 +57,9 @@ pub fn store(
 ) -> u8
     requires { ⌜ Storable (now rows) t (now layout) (now kept) (lent (now cells) (now states) []) n width (now stack) ⌝ }
     requires { ⌜ body-cells * (t .count + 1) ≤ length (now stack) ⌝ }
-    ensures { λ r. ⌜ ((vs : List Variable) (x : Composite) (w : Running (now (rows .entry)) t (now (layout .entry)) (now (kept .entry)) (lent (now (cells .entry)) (now (states .entry)) []) vs)
-        → n < length vs → ValueFor (w .declarations) n width (now (stack .entry)) x
-        → Settles r (Running (now (rows .entry)) t (now (layout .entry)) (now (kept .entry))) (lent (now (cells .entry)) (now (states .entry)) []) (lent (now (cells .exit)) (now (states .exit)) []) (assigned vs n x)) ⌝ }
+    ensures { λ r. ⌜ ((p : Profile) (a : ℕ) (vs : List Variable) (x : Composite) → Running p a (now (rows .entry)) t (now (layout .entry)) (now (kept .entry)) (lent (now (cells .entry)) (now (states .entry)) []) vs
+        → n < length vs → ValueFor (scopeBodies p a n) width (now (stack .entry)) x
+        → Settles r (Running p a (now (rows .entry)) t (now (layout .entry)) (now (kept .entry))) (lent (now (cells .entry)) (now (states .entry)) []) (lent (now (cells .exit)) (now (states .exit)) []) (assigned vs n x)) ⌝ }
 {
     let yoke = yoke_of(states, n);
     if yoke == 0 {

@@ -3,7 +3,7 @@ use mathlib.Core.Path.{_≡_, refl, sym, ap, _∙_, subst}
 use mathlib.Core.Bool.{Bool, true, false}
 use mathlib.Core.List.{List, [], _∷_, _++_}
 use mathlib.Core.Option.{Option, some, none}
-use Prim.Native.Nat.{ℕ, zero, suc, _+_, _-_, _*_, _≤_, _<_}
+use Prim.Native.Nat.{ℕ, zero, suc, _+_, _-_, _*_, _/_, _≤_, _<_}
 use native.Mathlib.Numerals.{add-one}
 use lib.Dec.{ltb}
 use borrow.Author.Tests.{ltb-true, ltb-false}
@@ -15,71 +15,72 @@ use mir.Val.{toZ, ofZ}
 use mir.ValLaws.{toZ-ofZ}
 use lib.ListN.{length, take, getD, set, replicate, length-set, length-replicate}
 use lib.Seq.{paste, take-suc, take-all, length-take-le, getD-set-same, getD-set-other}
-use Rattle.lingua.specs.Numbers.{most-variables, cells-length, body-bytes, body-nodes, declaration-section, limit-section, variable-bodies-length}
+use Rattle.lingua.specs.Numbers.{most-variables, cells-length, body-bytes, body-nodes, declaration-section, limit-section, variable-bodies-length, scopeTable}
 use Rattle.lingua.specs.Outcome.{Result}
 use Rattle.lingua.specs.Body.{Body, nodes}
 use Rattle.lingua.specs.Value.{pad}
 use Rattle.lingua.specs.Encode.{encoded}
-use Rattle.lingua.specs.Rows.{bytesAt, pairCount}
+use Rattle.lingua.specs.Rows.{bytesAt, pairCount, procedureCount}
 use Rattle.lingua.specs.Store.{Limit, Variable, no-variable, variableAt, presentBody, storeBodies, bodiesIn}
 use Rattle.lingua.specs.Run.{unfilled}
 use Rattle.lingua.specs.Compute.{sameText}
 use Rattle.lingua.specs.Format.{profile}
 use Rattle.lingua.specs.Rules.{nameWrong}
-use Rattle.lingua.specs.Trees.{bodyOr, declarationAt, limitIf, limitFrom, limitOf, limitRow, nameAt}
+use Rattle.lingua.specs.Trees.{bodyOr, declarationIn, declarationAt, limitIf, limitFrom, limitOf, limitRow, nameAt}
 use Rattle.laws.specs.Formed.{formed-bounds}
 use Rattle.laws.specs.Every.{every-by, every-take}
 use Rattle.laws.specs.Presents.{variableBytes, Compact, body-more}
 use Rattle.laws.specs.Equal.{same-text, text-same}
 use Rattle.safety.specs.Answers.{true-is-false}
 use Rattle.safety.specs.Limited.{one-variable}
-use Rattle.safety.specs.Accepted.{AcceptedRows}
-use Rattle.safety.specs.Formed.{declared-formed}
-use Rattle.profile.specs.Variables.{DeclaredIs, LimitAt}
+use Rattle.safety.specs.Accepted.{AcceptedRows, few-variables}
+use Rattle.safety.specs.ProfileScopes.{scopeDeclaration}
+use Rattle.safety.specs.Formed.{scope-formed}
+use Rattle.profile.specs.Variables.{DeclaredIs, declared-in, LimitAt}
 use Rattle.profile.specs.Find.{Unnamed, NamedAt, FoundIs}
 use Rattle.profile.specs.declared.find.Found.{Found}
 use Rattle.profile.proofs.Declaring.{name-is}
 use Rattle.decoder.specs.Tables.{IsTable}
 use Rattle.decoder.specs.declared.tables.Table.{Table}
-use Rattle.run.specs.Begun.{startStore, Begun}
+use Rattle.run.specs.Begun.{scopeStart, startStore, Begun}
+use Rattle.run.specs.Started.{start-states}
 use Rattle.run.specs.Kept.{BodiesKept, YokesKept, LimitsFrom}
-use Rattle.run.proofs.Unfilled.{few-variables, start-count, start-at, start-cells, start-states}
+use Rattle.run.proofs.Unfilled.{counted, start-count, start-at, start-cells}
 
 -- ---- bodies
-pub bodies-none : (rows variables : List ℕ) → variables ≡ replicate variable-bodies-length 0 → BodiesKept rows variables 0
+pub bodies-none : (rows : List ℕ) (t : Table) (variables : List ℕ) → variables ≡ replicate variable-bodies-length 0 → BodiesKept rows t variables 0
 unfolding bodiesIn storeBodies pad
-bodies-none rows variables e = record { is = λ limits. e }
+bodies-none rows t variables e = record { is = λ limits a h i. e }
 
-pub start-compact : (rows limits : List ℕ) → AcceptedRows rows → Compact (startStore rows limits)
-start-compact rows limits accepted = every-by no-variable (startStore rows limits) (λ n l.
-    let inside : n < pairCount rows declaration-section = omega (arith, start-count rows limits) in
-    subst (λ (v : Variable). nodes (presentBody v) ≤ body-nodes) (sym (start-at rows limits n inside)) (formed-bounds (declared-formed rows accepted limits n inside) .few-nodes))
+start-compact : (rows limits : List ℕ) (a : ℕ) → a ≤ procedureCount rows → AcceptedRows rows → Compact (scopeStart rows limits a)
+unfolding declarationIn
+start-compact rows limits a h accepted = every-by no-variable (scopeStart rows limits a) (λ n l.
+    let inside : n < pairCount rows (scopeTable a) = omega (arith, start-count rows limits a h) in
+    subst (λ (v : Variable). nodes (presentBody v) ≤ body-nodes) (sym (start-at rows limits a h n inside)) (formed-bounds (scope-formed rows accepted a h n inside) .few-nodes))
 
-pub bodies-more : (rows variables after : List ℕ) (d : ℕ) (x : List ℕ) → AcceptedRows rows → d < pairCount rows declaration-section → BodiesKept rows variables d → DeclaredIs rows d x
-    → after ≡ paste variables (body-bytes * d) x body-bytes → BodiesKept rows after (d + 1)
-unfolding declarationAt
-bodies-more rows variables after d x accepted l kept given q = record { is = λ limits. q ∙ one limits }
+pub bodies-more : (rows : List ℕ) (t : Table) (variables after : List ℕ) (d : ℕ) (x : List ℕ) → AcceptedRows rows → d < t .count / 2 → BodiesKept rows t variables d → DeclaredIs rows (t .section) d x
+    → after ≡ paste variables (body-bytes * d) x body-bytes → BodiesKept rows t after (d + 1)
+unfolding declarationIn
+bodies-more rows t variables after d x accepted l kept given q = record { is = λ limits a h i. q ∙ one limits a h i }
   where
-    one : (limits : List ℕ) → paste variables (body-bytes * d) x body-bytes ≡ bodiesIn (take (d + 1) (startStore rows limits))
-    one limits =
-        let vs = startStore rows limits in
-        let w = unfilled (declarationAt rows limits d) in
-        let n = start-count rows limits in
+    one : (limits : List ℕ) (a : ℕ) → a ≤ procedureCount rows → IsTable rows (scopeTable a) t → paste variables (body-bytes * d) x body-bytes ≡ bodiesIn (take (d + 1) (scopeStart rows limits a))
+    one limits a h i =
+        let vs = scopeStart rows limits a in
+        let w = unfilled (scopeDeclaration rows limits a d) in
+        let n = start-count rows limits a h in
+        let there : d < pairCount rows (scopeTable a) = omega (arith, counted rows (scopeTable a) t i) in
         let m : length (take d vs) ≡ d = length-take-le d vs (omega arith) in
-        ap (λ (l : List ℕ). paste l (body-bytes * d) x body-bytes) (kept .is limits)
-        ∙ ap (λ (b : List ℕ). paste (bodiesIn (take d vs)) (body-bytes * d) b body-bytes) (given .holds .is ∙ ap encoded (sym (ap (λ (o : Result Body). bodyOr o) (given .is))))
+        let own = declared-in i given in
+        ap (λ (l : List ℕ). paste l (body-bytes * d) x body-bytes) (kept .is limits a h i)
+        ∙ ap (λ (b : List ℕ). paste (bodiesIn (take d vs)) (body-bytes * d) b body-bytes) (own .holds .is ∙ ap encoded (sym (ap (λ (o : Result Body). bodyOr o) (own .is))))
         ∙ ap (λ (j : ℕ). paste (bodiesIn (take d vs)) (body-bytes * j) (variableBytes w) body-bytes) (sym m)
-        ∙ sym (body-more (take d vs) w (every-take d (start-compact rows limits accepted)) (omega (arith, m, few-variables rows accepted)) (formed-bounds (declared-formed rows accepted limits d l) .few-nodes))
-        ∙ ap (λ (v : Variable). bodiesIn (take d vs ++ (v ∷ []))) (sym (start-at rows limits d l))
+        ∙ sym (body-more (take d vs) w (every-take d (start-compact rows limits a h accepted)) (omega (arith, m, few-variables rows accepted a h)) (formed-bounds (scope-formed rows accepted a h d there) .few-nodes))
+        ∙ ap (λ (v : Variable). bodiesIn (take d vs ++ (v ∷ []))) (sym (start-at rows limits a h d there))
         ∙ ap (λ (us : List Variable). bodiesIn us) (sym (take-suc vs d no-variable (omega arith)))
         ∙ ap (λ (j : ℕ). bodiesIn (take j vs)) (sym (add-one d))
 
-pub all-bodies : (rows variables : List ℕ) (d : ℕ) → d ≡ pairCount rows declaration-section → BodiesKept rows variables d → BodiesKept rows variables (pairCount rows declaration-section)
-all-bodies rows variables d e h = subst (λ (n : ℕ). BodiesKept rows variables n) e h
-
-pub start-bodies : (rows limits variables : List ℕ) → BodiesKept rows variables (pairCount rows declaration-section) → variables ≡ bodiesIn (startStore rows limits)
-start-bodies rows limits variables k =
-    k .is limits ∙ ap (λ (us : List Variable). bodiesIn us) (take-all (pairCount rows declaration-section) (startStore rows limits) (omega (arith, start-count rows limits)))
+pub all-bodies : (rows : List ℕ) (t : Table) (variables : List ℕ) (d : ℕ) → d ≡ t .count / 2 → BodiesKept rows t variables d → BodiesKept rows t variables (t .count / 2)
+all-bodies rows t variables d e h = subst (λ (n : ℕ). BodiesKept rows t variables n) e h
 
 -- ---- limits
 same-limit : (before after : List ℤ) (at : ℕ) (limit : Option Limit) → ((j : ℕ) → at ≤ j → j < at + 3 → getD after j (pos 0) ≡ getD before j (pos 0)) → LimitAt before at limit → LimitAt after at limit
@@ -209,19 +210,19 @@ pub find-name : (rows limits : List ℕ) (u : Table) (l : ℕ) (r : Found) (cs :
 find-name rows limits u l r cs is e h = subst (λ (n : List ℕ). FoundIs r rows n) (name-is limits limit-section u is l cs e) h
 
 pub found-room : (rows limits : List ℕ) (kept : List ℤ) (l d : ℕ) {name : List ℕ} → AcceptedRows rows → LimitsFrom rows limits kept l → NamedAt rows name d → 3 * d + 3 ≤ length kept
-found-room rows limits kept l d a h at = omega (arith, few-variables rows a, h .room, at .there)
+found-room rows limits kept l d a h at = omega (arith, few-variables rows a 0 (omega arith), h .room, at .there)
 
 pub start-limits : (rows limits : List ℕ) (kept : List ℤ) → LimitsFrom rows limits kept 0 → (n : ℕ) → n < length (startStore rows limits)
     → LimitAt kept (3 * n) (variableAt (startStore rows limits) n .limit)
-unfolding declarationAt limitOf
+unfolding declarationIn limitOf
 start-limits rows limits kept h n l =
-    let inside : n < pairCount rows declaration-section = omega (arith, start-count rows limits) in
+    let inside : n < pairCount rows declaration-section = omega (arith, start-count rows limits 0 (omega arith)) in
     let all : pairCount limits limit-section - 0 ≡ pairCount limits limit-section = omega arith in
     subst (λ (o : Option Limit). LimitAt kept (3 * n) o)
-    (ap (λ (k : ℕ). limitFrom 0 k limits (nameAt rows declaration-section n)) all ∙ sym (ap (λ (v : Variable). v .limit) (start-at rows limits n inside))) (h .each n inside)
+    (ap (λ (k : ℕ). limitFrom 0 k limits (nameAt rows declaration-section n)) all ∙ sym (ap (λ (v : Variable). v .limit) (start-at rows limits 0 (omega arith) n inside))) (h .each n inside)
 
 -- ---- all of it
-pub begun : (rows limits : List ℕ) (kept cells : List ℤ) (states : List ℕ) → AcceptedRows rows → cells ≡ replicate cells-length (pos 0)
-    → YokesKept rows states (pairCount rows declaration-section) → LimitsFrom rows limits kept 0 → Begun rows limits kept cells states
-begun rows limits kept cells states h e y l =
-    record { cells-are = start-cells rows limits cells h e; states-are = start-states rows limits states y; count = start-count rows limits; room = l .room; limited = start-limits rows limits kept l }
+pub begun : (rows limits : List ℕ) (t : Table) (kept cells : List ℤ) (states : List ℕ) → AcceptedRows rows → IsTable rows declaration-section t → cells ≡ replicate cells-length (pos 0)
+    → YokesKept rows t states (t .count / 2) → LimitsFrom rows limits kept 0 → Begun rows limits kept cells states
+begun rows limits t kept cells states h i e y l =
+    record { cells-are = start-cells rows limits 0 cells h (omega arith) e; states-are = start-states rows limits 0 (omega arith) t i y; count = start-count rows limits 0 (omega arith); room = l .room; limited = start-limits rows limits kept l }

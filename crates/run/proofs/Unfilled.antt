@@ -8,51 +8,42 @@ use native.Mathlib.Omega.{arith}
 use lib.IntN.{ℤ, pos}
 use lib.ListN.{length, getD, take, replicate, length-replicate, length-map, replicate-append-replicate}
 use lib.Seq.{take-suc, take-all, length-take-le}
-use Rattle.lingua.specs.Numbers.{most-variables, body-cells, cells-length, states-length, declaration-section}
+use Rattle.lingua.specs.Numbers.{most-variables, body-cells, cells-length, states-length, scopeTable}
 use Rattle.lingua.specs.Value.{pad}
 use Rattle.lingua.specs.Expression.{yokeNumber}
 use Rattle.lingua.specs.Store.{Variable, no-variable, variableAt, contentCells, storeCells, storeStates, cellsIn, statesIn, setYokeAt}
-use Rattle.lingua.specs.Rows.{pairCount}
-use Rattle.lingua.specs.Run.{Declaration, unfilled}
-use Rattle.lingua.specs.References.{declaredYoke}
-use Rattle.lingua.specs.Trees.{tabulateFrom, tabulate, declarationAt, profileOf}
+use Rattle.lingua.specs.Rows.{pairCount, procedureCount}
+use Rattle.lingua.specs.Run.{Declaration, unfilled, scopeDeclarations}
+use Rattle.lingua.specs.References.{yokeIn}
+use Rattle.lingua.specs.Trees.{declarationIn, profileOf}
 use Rattle.laws.specs.Stores.{yoke-more}
-use Rattle.safety.specs.Accepted.{AcceptedRows}
-use Rattle.safety.specs.Passed.{tabulated-at}
+use Rattle.safety.specs.Every.{mapped-at}
+use Rattle.safety.specs.Accepted.{AcceptedRows, few-variables}
+use Rattle.safety.specs.ProfileScopes.{scopeDeclaration, scope-declarations, scope-length}
 use Rattle.decoder.specs.Tables.{IsTable}
 use Rattle.decoder.specs.declared.tables.Table.{Table}
-use Rattle.rules.specs.Accepted.{counts}
 use Rattle.safety.specs.Named.{number-of}
-use Rattle.run.specs.Begun.{startStore}
+use Rattle.profile.specs.Variables.{HasScope, yoke-in}
+use Rattle.run.specs.Begun.{scopeStart}
 use Rattle.run.specs.Kept.{YokesKept}
 
 -- ---- its variables
-length-table : {A B : Type 0} (f : A → B) (g : ℕ → A) (i n : ℕ) → length (map f (tabulateFrom i n g)) ≡ n
-unfolding tabulateFrom
-length-table f g i zero = refl
-length-table f g i (suc n) = ap suc (length-table f g (suc i) n)
-
-pub few-variables : (rows : List ℕ) → AcceptedRows rows → pairCount rows declaration-section ≤ most-variables
-few-variables rows h = counts rows (h .counts) .variables .most
-
 -- the declarations that a table counts
-pub counted : (rows : List ℕ) (t : Table) → IsTable rows declaration-section t → t .count / 2 ≡ pairCount rows declaration-section
+pub counted : (rows : List ℕ) (s : ℕ) (t : Table) → IsTable rows s t → t .count / 2 ≡ pairCount rows s
 unfolding pairCount
-counted rows t h = ap (λ (n : ℕ). n / 2) (h .count)
+counted rows s t h = ap (λ (n : ℕ). n / 2) (h .count)
 
-pub few-counted : (rows : List ℕ) (t : Table) → AcceptedRows rows → IsTable rows declaration-section t → t .count / 2 ≤ most-variables
-few-counted rows t a h = omega (arith, counted rows t h, few-variables rows a)
+pub few-counted : (rows : List ℕ) (t : Table) → AcceptedRows rows → HasScope rows t → t .count / 2 ≤ most-variables
+few-counted rows t a h = omega (arith, counted rows (scopeTable (h .scope)) t (h .table), few-variables rows a (h .scope) (h .there))
 
-module _ (rows limits : List ℕ) where
-  pub start-count : length (startStore rows limits) ≡ pairCount rows declaration-section
-  unfolding profileOf tabulate
-  start-count = length-table unfilled (λ d. declarationAt rows limits d) 0 (pairCount rows declaration-section)
+module _ (rows limits : List ℕ) (a : ℕ) (h : a ≤ procedureCount rows) where
+  pub start-count : length (scopeStart rows limits a) ≡ pairCount rows (scopeTable a)
+  start-count = length-map (scopeDeclarations (profileOf rows limits) a) unfilled ∙ scope-length rows limits a h
 
-  pub start-at : (n : ℕ) → n < pairCount rows declaration-section → variableAt (startStore rows limits) n ≡ unfilled (declarationAt rows limits n)
-  unfolding profileOf tabulate
+  pub start-at : (n : ℕ) → n < pairCount rows (scopeTable a) → variableAt (scopeStart rows limits a) n ≡ unfilled (scopeDeclaration rows limits a n)
   start-at n l =
-      tabulated-at unfilled (λ d. declarationAt rows limits d) no-variable 0 (pairCount rows declaration-section) n l
-      ∙ ap (λ (j : ℕ). unfilled (declarationAt rows limits j)) (let e : 0 + n ≡ n = omega arith in e)
+      ap (λ (ds : List Declaration). variableAt (map unfilled ds) n) (scope-declarations rows limits a h)
+      ∙ mapped-at unfilled (pairCount rows (scopeTable a)) (λ d. scopeDeclaration rows limits a d) n no-variable l
 
 -- ---- its cells
 no-cells : (ds : List Declaration) → storeCells (map unfilled ds) ≡ replicate (body-cells * length ds) (pos 0)
@@ -71,43 +62,40 @@ cells-none ds h =
     ∙ replicate-append-replicate n (cells-length - length (replicate n (pos 0))) (pos 0)
     ∙ ap (λ (k : ℕ). replicate k (pos 0)) (let e : n + (cells-length - length (replicate n (pos 0))) ≡ cells-length = omega (arith, length-replicate n (pos 0)) in e)
 
-pub start-cells : (rows limits : List ℕ) (cells : List ℤ) → AcceptedRows rows → cells ≡ replicate cells-length (pos 0) → cells ≡ cellsIn (startStore rows limits)
-unfolding profileOf
-start-cells rows limits cells h e =
-    e ∙ sym (cells-none (profileOf rows limits .declarations) (omega (arith, few-variables rows h, start-count rows limits, length-map (profileOf rows limits .declarations) unfilled)))
+pub start-cells : (rows limits : List ℕ) (a : ℕ) (cells : List ℤ) → AcceptedRows rows → a ≤ procedureCount rows → cells ≡ replicate cells-length (pos 0) → cells ≡ cellsIn (scopeStart rows limits a)
+start-cells rows limits a cells accepted h e =
+    e ∙ sym (cells-none (scopeDeclarations (profileOf rows limits) a) (omega (arith, few-variables rows accepted a h, scope-length rows limits a h)))
 
 -- ---- its state words
-declared-number : (rows limits : List ℕ) (d : ℕ) → yokeNumber (declarationAt rows limits d .declared) ≡ declaredYoke rows d
-unfolding declarationAt declaredYoke
-declared-number rows limits d = number-of rows (declaredYoke rows d)
+declared-number : (rows limits : List ℕ) (a d : ℕ) → yokeNumber (scopeDeclaration rows limits a d .declared) ≡ yokeIn rows (scopeTable a) d
+unfolding declarationIn yokeIn
+declared-number rows limits a d = number-of rows (yokeIn rows (scopeTable a) d)
 
 pub states-long : (states : List ℕ) → states ≡ replicate states-length 0 → length states ≡ states-length
 states-long states e = ap (λ (l : List ℕ). length l) e ∙ length-replicate {A = ℕ} states-length 0
 
-pub yokes-none : (rows states : List ℕ) → states ≡ replicate states-length 0 → YokesKept rows states 0
+pub yokes-none : (rows : List ℕ) (t : Table) (states : List ℕ) → states ≡ replicate states-length 0 → YokesKept rows t states 0
 unfolding statesIn storeStates pad
-yokes-none rows states e = record { is = λ limits. e }
+yokes-none rows t states e = record { is = λ limits a h i. e }
 
-pub yokes-more : (rows states : List ℕ) (d y : ℕ) → AcceptedRows rows → d < pairCount rows declaration-section → YokesKept rows states d → y ≡ declaredYoke rows d → (after : List ℕ) → after ≡ setYokeAt states d y → YokesKept rows after (d + 1)
-yokes-more rows states d y h l k e after q = record { is = λ limits. q ∙ one limits }
+pub yokes-more : (rows : List ℕ) (t : Table) (states : List ℕ) (d y : ℕ) → AcceptedRows rows → d < t .count / 2 → YokesKept rows t states d → y ≡ yokeIn rows (t .section) d
+    → (after : List ℕ) → after ≡ setYokeAt states d y → YokesKept rows t after (d + 1)
+yokes-more rows t states d y accepted l k e after q = record { is = λ limits a h i. q ∙ one limits a h i }
   where
-    one : (limits : List ℕ) → setYokeAt states d y ≡ statesIn (take (d + 1) (startStore rows limits))
-    one limits =
-        let vs = startStore rows limits in
-        let n = start-count rows limits in
-        let w = declarationAt rows limits d in
+    one : (limits : List ℕ) (a : ℕ) → a ≤ procedureCount rows → IsTable rows (scopeTable a) t → setYokeAt states d y ≡ statesIn (take (d + 1) (scopeStart rows limits a))
+    one limits a h i =
+        let vs = scopeStart rows limits a in
+        let n = start-count rows limits a h in
+        let w = scopeDeclaration rows limits a d in
+        let there : d < pairCount rows (scopeTable a) = omega (arith, counted rows (scopeTable a) t i) in
         let m : length (take d vs) ≡ d = length-take-le d vs (omega arith) in
-        ap (λ (s : List ℕ). setYokeAt s d y) (k .is limits)
-        ∙ ap (λ (z : ℕ). setYokeAt (statesIn (take d vs)) d z) (e ∙ sym (declared-number rows limits d))
+        ap (λ (s : List ℕ). setYokeAt s d y) (k .is limits a h i)
+        ∙ ap (λ (z : ℕ). setYokeAt (statesIn (take d vs)) d z) (yoke-in d y i e ∙ sym (declared-number rows limits a d))
         ∙ ap (λ (j : ℕ). setYokeAt (statesIn (take d vs)) j (yokeNumber (w .declared))) (sym m)
-        ∙ sym (yoke-more (take d vs) w (omega (arith, m, few-variables rows h)))
-        ∙ ap (λ (v : Variable). statesIn (take d vs ++ (v ∷ []))) (sym (start-at rows limits d l))
+        ∙ sym (yoke-more (take d vs) w (omega (arith, m, few-variables rows accepted a h)))
+        ∙ ap (λ (v : Variable). statesIn (take d vs ++ (v ∷ []))) (sym (start-at rows limits a h d there))
         ∙ ap (λ (us : List Variable). statesIn us) (sym (take-suc vs d no-variable (omega arith)))
         ∙ ap (λ (j : ℕ). statesIn (take j vs)) (sym (add-one d))
 
-pub all-yokes : (rows states : List ℕ) (d : ℕ) → d ≡ pairCount rows declaration-section → YokesKept rows states d → YokesKept rows states (pairCount rows declaration-section)
-all-yokes rows states d e k = subst (λ (n : ℕ). YokesKept rows states n) e k
-
-pub start-states : (rows limits states : List ℕ) → YokesKept rows states (pairCount rows declaration-section) → states ≡ statesIn (startStore rows limits)
-start-states rows limits states k =
-    k .is limits ∙ ap (λ (us : List Variable). statesIn us) (take-all (pairCount rows declaration-section) (startStore rows limits) (omega (arith, start-count rows limits)))
+pub all-yokes : (rows : List ℕ) (t : Table) (states : List ℕ) (d : ℕ) → d ≡ t .count / 2 → YokesKept rows t states d → YokesKept rows t states (t .count / 2)
+all-yokes rows t states d e k = subst (λ (n : ℕ). YokesKept rows t states n) e k

@@ -7,7 +7,7 @@ use lib.ListN.{length}
 use Rattle.lingua.specs.Numbers.{declaration-section, limit-section, cells-length, states-length, limit-cells-length, limit-cells}
 use Rattle.lingua.specs.Rows.{pairCount}
 use Rattle.lingua.specs.Store.{Variable, variableAt, cellsIn, statesIn}
-use Rattle.lingua.specs.Run.{unfilled}
+use Rattle.lingua.specs.Run.{unfilled, scopeDeclarations}
 use Rattle.lingua.specs.Trees.{profileOf}
 use Rattle.safety.specs.Accepted.{AcceptedRows}
 use Rattle.decoder.specs.Tables.{IsTable}
@@ -23,7 +23,11 @@ pub record Asked (rows : List ℕ) (t : Table) (limits : List ℕ) (u : Table) (
   pub long-cells : length cells ≡ cells-length
   pub long-states : length states ≡ states-length
 
--- no variable is filled, and each has its declared yoke
+-- of a scope: no variable is filled, and each has its declared yoke
+abbrev pub scopeStart : List ℕ → List ℕ → ℕ → List Variable
+scopeStart rows limits a = map unfilled (scopeDeclarations (profileOf rows limits) a)
+
+-- the profile's own
 abbrev pub startStore : List ℕ → List ℕ → List Variable
 startStore rows limits = map unfilled (profileOf rows limits .declarations)
 

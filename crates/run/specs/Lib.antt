@@ -6,3 +6,4 @@ pub mod Instructing
 pub mod Begun
 pub mod Kept
 pub mod Memory
+pub mod Started

@@ -1,7 +1,7 @@
 -- What the recorded moment of a run is in the definition. Assumes nothing: these are definitions.
 use mathlib.Core.Path.{_≡_}
 use mathlib.Core.Bool.{Bool, true, false}
-use mathlib.Core.List.{List}
+use mathlib.Core.List.{List, []}
 use Prim.Native.Nat.{ℕ, zero, suc, _+_}
 use Rattle.lingua.specs.Store.{Variable}
 use Rattle.lingua.specs.Run.{State, Progress, going, out, step}
@@ -11,14 +11,14 @@ use Rattle.run.specs.declared.steps.Status.{Status}
 abbrev pub stateOf : Status → List Variable → State
 stateOf m vs = record { store = vs; error = m .error; place = m .place; left = m .left }
 
--- out of budget, or going on
-abbrev pub progressOf : Bool → State → Progress
-progressOf true s = out s
-progressOf false s = going s
+-- out of budget, with the calls that are open, or going on
+abbrev pub progressOf : Bool → State → List (List Variable) → Progress
+progressOf true s os = out s os
+progressOf false s os = going s
 
 -- what comes next, unless the run is out
 abbrev pub onward : Bool → State → (State → Progress) → Progress
-onward true s f = out s
+onward true s f = out s []
 onward false s f = f s
 
 -- one step, or out: what is recorded stays

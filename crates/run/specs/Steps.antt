@@ -1,7 +1,7 @@
 -- What a step, an action, a decision and a handler are at a moment, by cases of what is recorded. Assumes nothing.
 use mathlib.Core.Path.{_≡_, refl, sym, ap, _∙_}
 use mathlib.Core.Bool.{Bool, true, false}
-use mathlib.Core.List.{List}
+use mathlib.Core.List.{List, []}
 use Prim.Native.Nat.{ℕ, zero, suc, _<_, _≤_}
 use native.Mathlib.Omega.{arith}
 use lib.Dec.{eqb}
@@ -14,7 +14,7 @@ use Rattle.run.specs.declared.steps.Status.{Status}
 use Rattle.run.specs.Statuses.{stateOf, progressOf, onward}
 
 -- ---- a step
-pub step-spent : (s : State) (f : State → Progress) → s .left ≡ 0 → step s f ≡ out s
+pub step-spent : (s : State) (f : State → Progress) → s .left ≡ 0 → step s f ≡ out s []
 unfolding step
 step-spent s f e = ap (λ (n : ℕ). stepWith n s f) e
 
@@ -51,7 +51,7 @@ decided-same (fail n) p s f g h e = refl
 
 proceed-same : (q : Progress) (f g : State → Progress) → ((t : State) → t .left ≤ lastState q .left → f t ≡ g t) → proceed q f ≡ proceed q g
 proceed-same (going s) f g h = h s (let k : s .left ≤ s .left = omega arith in k)
-proceed-same (out s) f g h = refl
+proceed-same (out s os) f g h = refl
 
 module _ (test : State → Result Bool) (p : ℕ) (body : State → Progress) (shorter : (t : State) → lastState (body t) .left ≤ t .left) where
   pub repeat-enough : (k j : ℕ) (s : State) → s .left < k → s .left < j → repeat k test p body s ≡ repeat j test p body s

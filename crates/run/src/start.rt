@@ -4,7 +4,6 @@ use crate::words::set_yoke;
 use decoder::fields::bytes_at;
 use decoder::tables::Table;
 use lingua::sizes::LIMIT_CELLS;
-use lingua::sizes::STATES_LENGTH;
 use profile::declarations::declared_yoke;
 use profile::find::Found;
 use profile::find::find;
@@ -15,14 +14,14 @@ ghost use mathlib.Core.Path.{_≡_};
 ghost use lib.ListN.{length, replicate};
 ghost use lib.IntN.{pos};
 ghost use Rattle.lingua.specs.Numbers.{declaration-section, states-length, limit-section, limit-cells-length, limit-cells};
-ghost use Rattle.lingua.specs.Rows.{pairCount};
+ghost use Rattle.profile.specs.Variables.{HasScope};
 ghost use Rattle.safety.specs.Accepted.{AcceptedRows};
 ghost use Rattle.decoder.specs.Tables.{IsTable};
 ghost use Rattle.run.specs.Kept.{YokesKept, LimitsFrom};
 ghost use Prim.Native.Nat.{_+_, _/_, _<_};
 
 // What an earlier run left does not stay.
-fn clear_cells(cells: &mut [i64])
+pub fn clear_cells(cells: &mut [i64])
     ensures { λ r. ⌜ now (cells .exit) ≡ replicate (length (now (cells .entry))) (pos 0) ⌝ }
 {
     let n = cells.len();
@@ -34,23 +33,23 @@ fn clear_cells(cells: &mut [i64])
 }
 
 // No filled flag is left of an earlier run.
-fn clear_states(states: &mut [u16])
-    requires { ⌜ length (now states) ≡ states-length ⌝ }
-    ensures { λ r. ⌜ now (states .exit) ≡ replicate states-length 0 ⌝ }
+pub fn clear_states(states: &mut [u16])
+    ensures { λ r. ⌜ now (states .exit) ≡ replicate (length (now (states .entry))) 0 ⌝ }
 {
+    let n = states.len();
     let mut i = 0;
-    while i < STATES_LENGTH {
+    while i < n {
         states[i] = 0;
         i += 1;
     }
 }
 
-// The second word of each variable.
-fn keep_yokes(rows: &[u8], t: Table, states: &mut [u16])
+// The second word of each variable, the profile's or a procedure's.
+pub fn keep_yokes(rows: &[u8], t: Table, states: &mut [u16])
     requires { ⌜ AcceptedRows (now rows) ⌝ }
-    requires { ⌜ IsTable (now rows) declaration-section t ⌝ }
+    requires { ⌜ HasScope (now rows) t ⌝ }
     requires { ⌜ now states ≡ replicate states-length 0 ⌝ }
-    ensures { λ r. ⌜ YokesKept (now (rows .entry)) (now (states .exit)) (pairCount (now (rows .entry)) declaration-section) ⌝ }
+    ensures { λ r. ⌜ YokesKept (now (rows .entry)) t (now (states .exit)) (t .count / 2) ⌝ }
 {
     let count = t.count / 2;
     let mut d = 0;

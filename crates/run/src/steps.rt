@@ -88,7 +88,7 @@ pub fn cleared(m: Status) -> Status
 pub fn ended(m: Status, budget: u16) -> RunAnswer
     requires { ⌜ m .left ≤ budget ⌝ }
     requires { ⌜ (m .out ≡ false → m .error ≡ 0 → m .place ≡ 0) ⌝ }
-    ensures { λ r. ⌜ ((vs : List Variable) → runMeaning r ≡ answered (endingOf budget (progressOf (m .out) (stateOf m vs)))) ⌝ }
+    ensures { λ r. ⌜ ((vs : List Variable) (os : List (List Variable)) → runMeaning r ≡ answered (endingOf budget (progressOf (m .out) (stateOf m vs) os))) ⌝ }
 {
     let steps = budget - m.left;
     if m.out {

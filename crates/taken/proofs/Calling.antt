@@ -1,39 +1,36 @@
 -- The ways in which a run of a taken pair ends: refused, or as the run of both files ends. Assumes nothing.
 use mathlib.Core.Path.{_≡_, refl, sym, ap, ap₂, _∙_, subst}
-use mathlib.Core.Bool.{Bool, true, false}
-use mathlib.Core.List.{List, []}
-use Prim.Native.Nat.{ℕ, suc}
+use mathlib.Core.List.{List, _++_, append-nil}
+use Prim.Native.Nat.{ℕ, suc, _-_, _≤_}
 use native.Mathlib.Nat.{suc-pred-eq-of-ne-zero}
 use native.Mathlib.Omega.{arith}
 use lib.IntN.{ℤ}
-use lib.ListN.{length, take}
-use Rattle.lingua.specs.Numbers.{cells-length, states-length, layout-length, variable-bodies-length}
-use Rattle.lingua.specs.Errors.{bad-buffer}
-use Rattle.lingua.specs.Outcome.{Outcome, ok, fail, isOk}
-use Rattle.lingua.specs.Store.{Reading}
+use lib.ListN.{length, take, drop, length-drop, drop-of-length-le}
+use lib.Seq.{drop-at, length-take-le}
+use Rattle.lingua.specs.Numbers.{layout-length, present-bodies-length}
+use Rattle.lingua.specs.Outcome.{Outcome, ok, fail}
+use Rattle.lingua.specs.Store.{Reading, presentIn}
 use Rattle.lingua.specs.Run.{Progress, run}
 use Rattle.lingua.specs.Typing.{TypeError, Entry, checkProfile, layoutOf}
 use Rattle.lingua.specs.Trees.{profileOf}
 use Rattle.lingua.specs.Format.{rowsOf}
-use Rattle.lingua.specs.Inputs.{Inputs, Buffers}
-use Rattle.lingua.specs.Refusal.{typeCheckRefusal, checkedRefusal, erasedRefusal, lowest, pairRules}
+use Rattle.lingua.specs.Inputs.{Inputs, Buffers, buffers}
+use Rattle.lingua.specs.Refusal.{checkedRefusal, erasedRefusal}
 use Rattle.lingua.specs.Answers.{refused, runMeaning}
 use Rattle.lingua.specs.declared.RunAnswer.{RunAnswer}
 use Rattle.lingua.specs.declared.RunAnswer.the-variants as run-answer
-use Rattle.lingua.specs.Calls.{RunCall, ErasedCall, readingsOf, ran, runOf, withBodies, checkedUnless, checkedCall, withLayout, typeCheckVerdict, typeCheckUnless, typeCheckCall, erasedUnless, erasedCall, runResult, checkedResult, erasedResult}
-use Rattle.safety.specs.Accepted.{AcceptedRows, accepted-pair}
-use Rattle.safety.specs.Invariant.{declaredStore}
+use Rattle.lingua.specs.Calls.{RunCall, readingsOf, ran, runOf, withBodies, checkedUnless, checkedCall, withLayout, erasedUnless, erasedCall, runResult, checkedResult, erasedResult}
 use Rattle.safety.specs.Limited.{accepted-limited}
-use Rattle.safety.specs.TwoRuns.{Passes, checked-shares, passed-layout}
+use Rattle.safety.specs.TwoRuns.{checked-shares, passed-layout}
 use Rattle.pair.specs.declared.Pair.{Pair}
 use Rattle.pair.proofs.Given.{rows-accepted}
 use Rattle.typecheck.specs.declared.verdicts.Verdict.{Verdict}
 use Rattle.typecheck.specs.Verdicts.{Concludes}
-use Rattle.decoder.specs.declared.tables.Table.{Table}
 use Rattle.run.specs.Reached.{Lent}
-use Rattle.walk.specs.declared.way.Way.the-variants as way
-use Rattle.walk.specs.Meaning.{context, HoldsBy, Holds}
-use Rattle.whole_run.specs.Meaning.{Readable, Runs}
+use Rattle.frames.specs.declared.way.Way.the-variants as way
+use Rattle.frames.specs.Meaning.{HoldsBy}
+use Rattle.walk.specs.Meaning.{Setting}
+use Rattle.whole_run.specs.Meaning.{Readable, Ready, Runs}
 use Rattle.taken.specs.Taken.{RunTaken, RunIs}
 use Rattle.taken.specs.Ways.{Startable, checkedEnd, NumbersLimited, PassedRows, erasedVerdict, erasedRows}
 use Rattle.taken.proofs.Refusing.{short-present, short-layout, run-refuses, type-error-refuses, none-refuses}
@@ -46,6 +43,8 @@ module _ {i : Inputs} {b : Buffers} {areas others bodies : List ℕ} {p : Pair} 
     readable = subst (λ (rows : List ℕ). Readable rows (i .variables) (i .numbers)) (sym (t .files .rows)) (t .readable);
     long-cells = t .long-cells;
     long-states = t .long-states;
+    long-open-cells = t .long-open-cells;
+    long-open-states = t .long-open-states;
   }
 
   pub numbers-limited : NumbersLimited (take (p .rows) areas) (take (p .limits) others)
@@ -54,44 +53,57 @@ module _ {i : Inputs} {b : Buffers} {areas others bodies : List ℕ} {p : Pair} 
       (subst (λ (rows : List ℕ). NumbersLimited rows (rowsOf (i .limits))) (sym (t .files .rows)) (record { limited = λ n h l q. accepted-limited (i .profile) (i .limits) (t .accepted) n h l q }))
 
 -- ---- the checked run
--- where a run of its way ended: the answer, the registers and the present bodies
-pub checked-end : {rows : List ℕ} (limits : List ℕ) {t : Table} {kept : List ℤ} {l after : Lent} {rs : List Reading} {budget : ℕ} {r : RunAnswer} → Runs way.Checked (context rows t [] kept) l after rs budget r
-    → Holds way.Checked (context rows t [] kept) l (declaredStore (profileOf rows limits)) → checkedResult r (after .cells) (after .states) (after .bodies) ≡ checkedEnd budget (run (profileOf rows limits) rs budget)
-unfolding checkedResult checkedEnd runResult HoldsBy
-checked-end limits h b = ap₂ (λ (c : RunCall) (l : List ℕ). withBodies c l) (h .is limits b) (h .left limits b .by .running .world .stored .bodies-are)
+-- where a run of its way ended: the answer, the registers and the present bodies, the profile's and those of the open calls
+pub checked-end : {s : Setting} (limits : List ℕ) {l o after free : Lent} {rs : List Reading} {budget : ℕ} {r : RunAnswer} → Runs way.Checked s l o after free rs budget r → Ready way.Checked s l o limits
+    → checkedResult r (buffers (after .cells) (after .states) (free .cells) (free .states)) (after .bodies ++ free .bodies) ≡ checkedEnd budget (run (profileOf (s .context .rows) limits) rs budget)
+unfolding checkedResult checkedEnd runResult HoldsBy presentIn
+checked-end limits h b =
+    ap₂ (λ (c : RunCall) (l : List ℕ). withBodies c l) (h .is limits b)
+    (ap₂ (λ (x y : List ℕ). x ++ y) (h .left limits b .by .running .world .stored .bodies-are) (h .open-bodies limits b refl))
+
+-- what was lent behind the first n comes back, and others of that number come to the front
+pub lent-length : (before : List ℕ) (n : ℕ) → length (take (length before - n) (drop n before)) ≡ length before - n
+lent-length before n = length-take-le (length before - n) (drop n before) (omega (arith, length-drop n before))
+
+pub front-back : (own area before : List ℕ) (n : ℕ) → n ≤ length before → length own ≡ n → own ++ drop (length own) (take n before ++ (area ++ drop (length before - n) (drop n before))) ≡ own ++ area
+front-back own area before n l e =
+    ap (λ (k : ℕ). own ++ drop k (take n before ++ (area ++ drop (length before - n) (drop n before)))) e
+    ∙ ap (λ (x : List ℕ). own ++ x) (drop-at (take n before) (area ++ drop (length before - n) (drop n before)) n (length-take-le n before l))
+    ∙ ap (λ (x : List ℕ). own ++ (area ++ x)) (drop-of-length-le (drop n before) (let z : length (drop n before) ≤ length before - n = omega (arith, length-drop n before) in z))
+    ∙ ap (λ (x : List ℕ). own ++ x) (append-nil area)
 
 module _ (i : Inputs) (b : Buffers) (present : List ℕ) (budget : ℕ) where
-  checked-refused : (n m : ℕ) → checkedRefusal i b present ≡ n → n ≡ suc m → checkedResult (run-answer.Refused n) (b .cells) (b .states) present ≡ checkedCall i budget b present
+  checked-refused : (n m : ℕ) → checkedRefusal i b present ≡ n → n ≡ suc m → checkedResult (run-answer.Refused n) b present ≡ checkedCall i budget b present
   unfolding checkedResult checkedCall checkedUnless runMeaning
   checked-refused n m e s = rw (e, s)
 
-  pub present-wrong : (length present ≡ variable-bodies-length → ⊥) → checkedResult (run-answer.Refused 1) (b .cells) (b .states) present ≡ checkedCall i budget b present
+  pub present-wrong : (length present ≡ present-bodies-length → ⊥) → checkedResult (run-answer.Refused 1) b present ≡ checkedCall i budget b present
   present-wrong h = checked-refused 1 0 (short-present i b present h) refl
 
-  module _ {areas others bodies : List ℕ} {n : ℕ} {p : Pair} (l : length present ≡ variable-bodies-length) (h : RunIs n p i b areas others bodies) where
+  module _ {areas others bodies : List ℕ} {n : ℕ} {p : Pair} (l : length present ≡ present-bodies-length) (h : RunIs n p i b areas others bodies) where
     shares : n ≡ checkedRefusal i b present
     shares = h .refusal ∙ sym (checked-shares i b present l)
 
-    pub run-refused : (n ≡ 0 → ⊥) → checkedResult (run-answer.Refused n) (b .cells) (b .states) present ≡ checkedCall i budget b present
+    pub run-refused : (n ≡ 0 → ⊥) → checkedResult (run-answer.Refused n) b present ≡ checkedCall i budget b present
     run-refused k = checked-refused n _ (sym shares) (sym (suc-pred-eq-of-ne-zero k))
 
-    pub run-done : (z : n ≡ 0) (r : RunAnswer) (after : List ℤ) (words bytes : List ℕ)
-        → checkedResult r after words bytes ≡ checkedEnd budget (run (profileOf (take (p .rows) areas) (take (p .limits) others)) (readingsOf (i .variables) (i .numbers)) budget)
-        → checkedResult r after words bytes ≡ checkedCall i budget b present
+    pub run-done : (z : n ≡ 0) (r : RunAnswer) (after : Buffers) (bytes : List ℕ)
+        → checkedResult r after bytes ≡ checkedEnd budget (run (profileOf (take (p .rows) areas) (take (p .limits) others)) (readingsOf (i .variables) (i .numbers)) budget)
+        → checkedResult r after bytes ≡ checkedCall i budget b present
     unfolding checkedCall checkedUnless checkedEnd runOf
-    run-done z r after words bytes e =
+    run-done z r after bytes e =
         e
         ∙ ap₂ (λ (rows limits : List ℕ). checkedEnd budget (run (profileOf rows limits) (readingsOf (i .variables) (i .numbers)) budget)) (h .taken z .files .rows) (h .taken z .files .limits)
         ∙ ap (λ (k : ℕ). checkedUnless k i budget b present) (sym z ∙ shares)
 
 -- ---- the type check's verdict on rows
 module _ (rows limits : List ℕ) (v : Verdict) (table : List ℕ) (c : (lims : List ℕ) → Concludes v table (checkProfile (profileOf rows lims))) where
-  verdict-fails : (budget : ℕ) (b : Buffers) (layout : List ℕ) (o : Outcome TypeError (List Entry)) (q : Progress) → Concludes v table o → (v .error ≡ 0 → ⊥) → erasedResult (run-answer.Refused 17) (b .cells) (b .states) layout ≡ erasedVerdict o budget q b layout
+  verdict-fails : (budget : ℕ) (b : Buffers) (layout : List ℕ) (o : Outcome TypeError (List Entry)) (q : Progress) → Concludes v table o → (v .error ≡ 0 → ⊥) → erasedResult (run-answer.Refused 17) b layout ≡ erasedVerdict o budget q b layout
   unfolding Concludes erasedVerdict erasedResult runMeaning
   verdict-fails budget b layout (ok es) q h f = absurd (f (h .passed))
   verdict-fails budget b layout (fail e) q h f = refl
 
-  pub faulted : (who : List ℕ) (numbers : List ℤ) (budget : ℕ) (b : Buffers) (layout : List ℕ) → (v .error ≡ 0 → ⊥) → erasedResult (run-answer.Refused 17) (b .cells) (b .states) layout ≡ erasedRows rows limits who numbers budget b layout
+  pub faulted : (who : List ℕ) (numbers : List ℤ) (budget : ℕ) (b : Buffers) (layout : List ℕ) → (v .error ≡ 0 → ⊥) → erasedResult (run-answer.Refused 17) b layout ≡ erasedRows rows limits who numbers budget b layout
   unfolding erasedRows
   faulted who numbers budget b layout f = verdict-fails budget b layout (checkProfile (profileOf rows limits)) (run (profileOf rows limits) (readingsOf who numbers) budget) (c limits) f
 
@@ -110,24 +122,24 @@ module _ (rows limits : List ℕ) (v : Verdict) (table : List ℕ) (c : (lims : 
       let f = verdict-passes (checkProfile (profileOf rows limits)) (c limits) z in
       record { entries = f .entries; passed = f .is; layout-is = e ∙ f .table-is; long = ap length e ∙ l }
 
-pub passed-done : (rows limits who : List ℕ) (numbers : List ℤ) (budget : ℕ) (b : Buffers) (layout copy : List ℕ) → PassedRows rows limits copy → (r : RunAnswer) (after : List ℤ) (words : List ℕ)
-    → runResult r after words ≡ ran budget (run (profileOf rows limits) (readingsOf who numbers) budget) → erasedResult r after words copy ≡ erasedRows rows limits who numbers budget b layout
+pub passed-done : (rows limits who : List ℕ) (numbers : List ℤ) (budget : ℕ) (b : Buffers) (layout copy : List ℕ) → PassedRows rows limits copy → (r : RunAnswer) (after : Buffers)
+    → runResult r after ≡ ran budget (run (profileOf rows limits) (readingsOf who numbers) budget) → erasedResult r after copy ≡ erasedRows rows limits who numbers budget b layout
 unfolding erasedRows erasedVerdict erasedResult runResult
-passed-done rows limits who numbers budget b layout copy p r after words e =
+passed-done rows limits who numbers budget b layout copy p r after e =
     ap₂ (λ (c : RunCall) (l : List ℕ). withLayout c l) e (p .layout-is)
     ∙ ap (λ (o : Outcome TypeError (List Entry)). erasedVerdict o budget (run (profileOf rows limits) (readingsOf who numbers) budget) b layout) (sym (p .passed))
 
 -- ---- the erased run
 module _ (i : Inputs) (b : Buffers) (layout : List ℕ) (budget : ℕ) where
-  erased-refused : (n m : ℕ) → erasedRefusal i b layout ≡ n → n ≡ suc m → erasedResult (run-answer.Refused n) (b .cells) (b .states) layout ≡ erasedCall i budget b layout
+  erased-refused : (n m : ℕ) → erasedRefusal i b layout ≡ n → n ≡ suc m → erasedResult (run-answer.Refused n) b layout ≡ erasedCall i budget b layout
   unfolding erasedResult erasedCall erasedUnless runMeaning
   erased-refused n m e s = rw (e, s)
 
-  pub layout-wrong : (length layout ≡ layout-length → ⊥) → erasedResult (run-answer.Refused 1) (b .cells) (b .states) layout ≡ erasedCall i budget b layout
+  pub layout-wrong : (length layout ≡ layout-length → ⊥) → erasedResult (run-answer.Refused 1) b layout ≡ erasedCall i budget b layout
   layout-wrong h = erased-refused 1 0 (short-layout i b layout h) refl
 
   module _ {areas others bodies : List ℕ} {n : ℕ} {p : Pair} (l : length layout ≡ layout-length) (h : RunIs n p i b areas others bodies) where
-    pub erased-run-refused : (n ≡ 0 → ⊥) → erasedResult (run-answer.Refused n) (b .cells) (b .states) layout ≡ erasedCall i budget b layout
+    pub erased-run-refused : (n ≡ 0 → ⊥) → erasedResult (run-answer.Refused n) b layout ≡ erasedCall i budget b layout
     erased-run-refused k =
         erased-refused n _ (run-refuses i b layout l (λ z. k (h .refusal ∙ z)) ∙ sym (h .refusal)) (sym (suc-pred-eq-of-ne-zero k))
 
@@ -144,8 +156,8 @@ module _ (i : Inputs) (b : Buffers) (layout : List ℕ) (budget : ℕ) where
       by-verdict (fail e) q =
           ap (λ (k : ℕ). erasedUnless k i budget b layout) (sym (type-error-refuses i b layout l (sym (h .refusal) ∙ z) (fail e) q refl))
 
-      pub erased-done : (r : RunAnswer) (after : List ℤ) (words table : List ℕ)
-          → erasedResult r after words table ≡ erasedRows (take (p .rows) areas) (take (p .limits) others) (i .variables) (i .numbers) budget b layout
-          → erasedResult r after words table ≡ erasedCall i budget b layout
-      erased-done r after words table e =
+      pub erased-done : (r : RunAnswer) (after : Buffers) (table : List ℕ)
+          → erasedResult r after table ≡ erasedRows (take (p .rows) areas) (take (p .limits) others) (i .variables) (i .numbers) budget b layout
+          → erasedResult r after table ≡ erasedCall i budget b layout
+      erased-done r after table e =
           e ∙ rows-are ∙ (unfold erasedRows runOf in by-verdict (checkProfile (profileOf (rowsOf (i .profile)) (rowsOf (i .limits)))) refl)

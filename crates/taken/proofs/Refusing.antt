@@ -6,7 +6,7 @@ use Prim.Native.Nat.{ℕ}
 use native.Mathlib.Omega.{arith}
 use lib.ListN.{length}
 use borrow.Author.Tests.{eq-eqb, ne-eqb}
-use Rattle.lingua.specs.Numbers.{cells-length, states-length, layout-length, variable-bodies-length}
+use Rattle.lingua.specs.Numbers.{cells-length, states-length, open-cells-length, open-states-length, layout-length, present-bodies-length}
 use Rattle.lingua.specs.Errors.{bad-buffer, bad-reading, type-error-found}
 use Rattle.lingua.specs.Outcome.{Outcome, isOk}
 use Rattle.lingua.specs.Typing.{TypeError, Entry, checkProfile}
@@ -34,11 +34,20 @@ module _ (i : Inputs) (b : Buffers) where
   unfolding runFits
   short-states e f h = unfit (rw (eq-eqb (length (i .variables)) (length (i .numbers)) e, eq-eqb (length (b .cells)) cells-length f, ne-eqb (length (b .states)) states-length h))
 
+  pub short-open-cells : length (i .variables) ≡ length (i .numbers) → length (b .cells) ≡ cells-length → length (b .states) ≡ states-length → (length (b .open-cells) ≡ open-cells-length → ⊥) → runRefusal i b ≡ bad-buffer
+  unfolding runFits
+  short-open-cells e f g h = unfit (rw (eq-eqb (length (i .variables)) (length (i .numbers)) e, eq-eqb (length (b .cells)) cells-length f, eq-eqb (length (b .states)) states-length g, ne-eqb (length (b .open-cells)) open-cells-length h))
+
+  pub short-open-states : length (i .variables) ≡ length (i .numbers) → length (b .cells) ≡ cells-length → length (b .states) ≡ states-length → length (b .open-cells) ≡ open-cells-length → (length (b .open-states) ≡ open-states-length → ⊥) → runRefusal i b ≡ bad-buffer
+  unfolding runFits
+  short-open-states e f g f′ h = unfit (rw (eq-eqb (length (i .variables)) (length (i .numbers)) e, eq-eqb (length (b .cells)) cells-length f, eq-eqb (length (b .states)) states-length g, eq-eqb (length (b .open-cells)) open-cells-length f′, ne-eqb (length (b .open-states)) open-states-length h))
+
   -- ---- with the buffers as they should be
-  module _ (e : length (i .variables) ≡ length (i .numbers)) (f : length (b .cells) ≡ cells-length) (g : length (b .states) ≡ states-length) where
+  module _ (e : length (i .variables) ≡ length (i .numbers)) (f : length (b .cells) ≡ cells-length) (g : length (b .states) ≡ states-length)
+      (f′ : length (b .open-cells) ≡ open-cells-length) (g′ : length (b .open-states) ≡ open-states-length) where
     fit : runRefusal i b ≡ lowest (runRules true i)
     unfolding runRefusal runFits
-    fit = rw (eq-eqb (length (i .variables)) (length (i .numbers)) e, eq-eqb (length (b .cells)) cells-length f, eq-eqb (length (b .states)) states-length g)
+    fit = rw (eq-eqb (length (i .variables)) (length (i .numbers)) e, eq-eqb (length (b .cells)) cells-length f, eq-eqb (length (b .states)) states-length g, eq-eqb (length (b .open-cells)) open-cells-length f′, eq-eqb (length (b .open-states)) open-states-length g′)
 
     pub files-refused : (n : ℕ) → n ≡ lowest (pairRules (i .profile) (i .limits)) → (n ≡ 0 → ⊥) → runRefusal i b ≡ n
     files-refused n q h = fit ∙ files-refuse i (λ z. h (q ∙ z)) ∙ sym q
@@ -51,9 +60,9 @@ module _ (i : Inputs) (b : Buffers) where
 
 -- ---- the checked run: rule 1, by the length of the present bodies, stands before all others
 module _ (i : Inputs) (b : Buffers) (present : List ℕ) where
-  pub short-present : (length present ≡ variable-bodies-length → ⊥) → checkedRefusal i b present ≡ bad-buffer
+  pub short-present : (length present ≡ present-bodies-length → ⊥) → checkedRefusal i b present ≡ bad-buffer
   unfolding checkedRefusal
-  short-present h = ap (λ (t : Bool). lowest (runRules (t && runFits i b) i)) (ne-eqb (length present) variable-bodies-length h) ∙ unfit-refused i
+  short-present h = ap (λ (t : Bool). lowest (runRules (t && runFits i b) i)) (ne-eqb (length present) present-bodies-length h) ∙ unfit-refused i
 
 -- ---- the erased run
 module _ (i : Inputs) (b : Buffers) (layout : List ℕ) where

@@ -3,7 +3,7 @@ use mathlib.Core.Path.{_≡_}
 use mathlib.Core.List.{List}
 use Prim.Native.Nat.{ℕ}
 use lib.ListN.{length}
-use Rattle.lingua.specs.Numbers.{cells-length, states-length}
+use Rattle.lingua.specs.Numbers.{cells-length, states-length, open-cells-length, open-states-length}
 use Rattle.lingua.specs.Errors.{no-error}
 use Rattle.lingua.specs.Format.{rowsOf}
 use Rattle.lingua.specs.Inputs.{Inputs, Buffers}
@@ -22,6 +22,8 @@ pub record PairOf (t : Pair) (areas others bodies : List ℕ) : Type 0 where
 pub record RunTaken (t : Pair) (i : Inputs) (b : Buffers) (areas others bodies : List ℕ) : Type 0 where
   pub long-cells : length (b .cells) ≡ cells-length
   pub long-states : length (b .states) ≡ states-length
+  pub long-open-cells : length (b .open-cells) ≡ open-cells-length
+  pub long-open-states : length (b .open-states) ≡ open-states-length
   pub accepted : lowest (pairRules (i .profile) (i .limits)) ≡ 0
   pub files : TakenPair t (i .profile) (i .limits) areas others bodies
   pub readable : Readable (rowsOf (i .profile)) (i .variables) (i .numbers)

@@ -3,6 +3,7 @@
 use crate::refusal::run_refusal;
 use decoder::tables::Table;
 use decoder::tables::Tables;
+use frames::way::Way;
 use lingua::RunAnswer;
 use lingua::errors::BAD_BUFFER;
 use lingua::errors::NO_ERROR;
@@ -10,9 +11,10 @@ use lingua::errors::TYPE_ERROR_FOUND;
 use lingua::sizes::LAYOUT_LENGTH;
 use lingua::sizes::LIMIT_CELLS_LENGTH;
 use pair::Pair;
+use run::start::clear_cells;
+use run::start::clear_states;
 use run::start::start;
 use typecheck::whole::check_profile;
-use walk::way::Way;
 use whole_run::whole::run;
 ghost use mathlib.Core.Path.{_≡_};
 ghost use mathlib.Core.List.{List};
@@ -30,7 +32,7 @@ ghost use Rattle.rules.specs.Types.{BodiesBelow};
 ghost use Rattle.taken.specs.Taken.{PairOf};
 ghost use Rattle.taken.specs.Ways.{Startable, NumbersLimited, PassedRows, erasedRows};
 
-// The run of passed rows, with the layout table and no body.
+// The run of passed rows, with the layout table and no body; what an earlier run left in lent memory does not stay.
 fn passed_rows(
     rows: &[u8],
     tables: Tables,
@@ -42,15 +44,23 @@ fn passed_rows(
     budget: u16,
     cells: &mut [i64],
     states: &mut [u16],
+    open_cells: &mut [i64],
+    open_states: &mut [u16],
 ) -> RunAnswer
-    requires { ⌜ Startable (now rows) (now who) (now numbers) (buffers (now cells) (now states)) ⌝ }
+    requires { ⌜ Startable (now rows) (now who) (now numbers) (buffers (now cells) (now states) (now «open_cells») (now «open_states»)) ⌝ }
     requires { ⌜ AreTables (now rows) tables × IsTable (now limits) limit-section named ⌝ }
     requires { ⌜ PassedRows (now rows) (now limits) (now layout) × NumbersLimited (now rows) (now limits) ⌝ }
-    ensures { λ r. ⌜ runResult r (now (cells .exit)) (now (states .exit)) ≡ ran budget (meaning (profileOf (now (rows .entry)) (now (limits .entry))) (readingsOf (now (who .entry)) (now (numbers .entry))) budget) ⌝ }
+    ensures { λ r. ⌜ runResult r (buffers (now (cells .exit)) (now (states .exit)) (now («open_cells» .exit)) (now («open_states» .exit))) ≡ ran budget (meaning (profileOf (now (rows .entry)) (now (limits .entry))) (readingsOf (now (who .entry)) (now (numbers .entry))) budget) ⌝ }
 {
     let declarations = tables.declarations;
     let mut kept = [0i64; LIMIT_CELLS_LENGTH];
+    let procedures = tables.procedures;
+    let heads = procedures.heads;
+    let types = [0u8; 0];
     let mut bodies = [0u8; 0];
+    let mut none = [0u8; 0];
+    clear_cells(&mut *open_cells);
+    clear_states(&mut *open_states);
     start(
         rows,
         declarations,
@@ -65,6 +75,8 @@ fn passed_rows(
         way,
         rows,
         tables,
+        &heads,
+        &types,
         &mut bodies,
         layout,
         &kept,
@@ -73,6 +85,9 @@ fn passed_rows(
         budget,
         cells,
         states,
+        &mut none,
+        open_cells,
+        open_states,
     )
 }
 
@@ -100,12 +115,14 @@ fn erased_rows(
     budget: u16,
     cells: &mut [i64],
     states: &mut [u16],
+    open_cells: &mut [i64],
+    open_states: &mut [u16],
     layout: &mut [u16],
 ) -> RunAnswer
-    requires { ⌜ Startable (now rows) (now who) (now numbers) (buffers (now cells) (now states)) ⌝ }
+    requires { ⌜ Startable (now rows) (now who) (now numbers) (buffers (now cells) (now states) (now «open_cells») (now «open_states»)) ⌝ }
     requires { ⌜ AreTables (now rows) tables × IsTable (now limits) limit-section named ⌝ }
     requires { ⌜ BodiesBelow (now rows) (now bodies) (tableCount (now rows) type-section) × ((length (now layout) ≡ layout-length) × NumbersLimited (now rows) (now limits)) ⌝ }
-    ensures { λ r. ⌜ erasedResult r (now (cells .exit)) (now (states .exit)) (now (layout .exit)) ≡ erasedRows (now (rows .entry)) (now (limits .entry)) (now (who .entry)) (now (numbers .entry)) budget (buffers (now (cells .entry)) (now (states .entry))) (now (layout .entry)) ⌝ }
+    ensures { λ r. ⌜ erasedResult r (buffers (now (cells .exit)) (now (states .exit)) (now («open_cells» .exit)) (now («open_states» .exit))) (now (layout .exit)) ≡ erasedRows (now (rows .entry)) (now (limits .entry)) (now (who .entry)) (now (numbers .entry)) budget (buffers (now (cells .entry)) (now (states .entry)) (now («open_cells» .entry)) (now («open_states» .entry))) (now (layout .entry)) ⌝ }
 {
     let mut table = [0u16; LAYOUT_LENGTH];
     let verdict = check_profile(rows, tables, bodies, &mut table);
@@ -124,6 +141,8 @@ fn erased_rows(
         budget,
         cells,
         states,
+        open_cells,
+        open_states,
     )
 }
 
@@ -138,15 +157,27 @@ pub fn erased_taken(
     budget: u16,
     cells: &mut [i64],
     states: &mut [u16],
+    open_cells: &mut [i64],
+    open_states: &mut [u16],
     layout: &mut [u16],
 ) -> RunAnswer
     requires { ⌜ PairOf pair (now areas) (now others) (now bodies) ⌝ }
-    ensures { λ r. ⌜ ((prof lims : List ℕ) → PairIs pair prof lims (now (areas .entry)) (now (others .entry)) (now (bodies .entry)) → erasedResult r (now (cells .exit)) (now (states .exit)) (now (layout .exit)) ≡ erasedCall (inputs prof lims (now (who .entry)) (now (numbers .entry))) budget (buffers (now (cells .entry)) (now (states .entry))) (now (layout .entry))) ⌝ }
+    ensures { λ r. ⌜ ((prof lims : List ℕ) → PairIs pair prof lims (now (areas .entry)) (now (others .entry)) (now (bodies .entry)) → erasedResult r (buffers (now (cells .exit)) (now (states .exit)) (now («open_cells» .exit)) (now («open_states» .exit))) (now (layout .exit)) ≡ erasedCall (inputs prof lims (now (who .entry)) (now (numbers .entry))) budget (buffers (now (cells .entry)) (now (states .entry)) (now («open_cells» .entry)) (now («open_states» .entry))) (now (layout .entry))) ⌝ }
 {
     if layout.len() != LAYOUT_LENGTH {
         return RunAnswer::Refused(BAD_BUFFER);
     }
-    let refusal = run_refusal(pair, areas, bodies, who, numbers, cells, states);
+    let refusal = run_refusal(
+        pair,
+        areas,
+        bodies,
+        who,
+        numbers,
+        cells,
+        states,
+        open_cells,
+        open_states,
+    );
     if refusal != NO_ERROR {
         return RunAnswer::Refused(refusal);
     }
@@ -165,6 +196,8 @@ pub fn erased_taken(
         budget,
         cells,
         states,
+        open_cells,
+        open_states,
         layout,
     )
 }

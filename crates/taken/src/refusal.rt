@@ -3,6 +3,8 @@ use lingua::errors::BAD_BUFFER;
 use lingua::errors::BAD_READING;
 use lingua::errors::NO_ERROR;
 use lingua::sizes::CELLS_LENGTH;
+use lingua::sizes::OPEN_CELLS_LENGTH;
+use lingua::sizes::OPEN_STATES_LENGTH;
 use lingua::sizes::STATES_LENGTH;
 use pair::Pair;
 use profile::agreement::reading_wrong;
@@ -21,9 +23,11 @@ pub(crate) fn run_refusal(
     numbers: &[i64],
     cells: &[i64],
     states: &[u16],
+    open_cells: &[i64],
+    open_states: &[u16],
 ) -> u8
     requires { ⌜ ((others : List ℕ) × PairOf pair (now areas) others (now bodies)) ⌝ }
-    ensures { λ r. ⌜ ((prof lims others : List ℕ) → PairIs pair prof lims (now (areas .entry)) others (now (bodies .entry)) → RunIs r pair (inputs prof lims (now (who .entry)) (now (numbers .entry))) (buffers (now (cells .entry)) (now (states .entry))) (now (areas .entry)) others (now (bodies .entry))) ⌝ }
+    ensures { λ r. ⌜ ((prof lims others : List ℕ) → PairIs pair prof lims (now (areas .entry)) others (now (bodies .entry)) → RunIs r pair (inputs prof lims (now (who .entry)) (now (numbers .entry))) (buffers (now (cells .entry)) (now (states .entry)) (now («open_cells» .entry)) (now («open_states» .entry))) (now (areas .entry)) others (now (bodies .entry))) ⌝ }
 {
     if who.len() != numbers.len() {
         return BAD_BUFFER;
@@ -32,6 +36,12 @@ pub(crate) fn run_refusal(
         return BAD_BUFFER;
     }
     if states.len() != STATES_LENGTH {
+        return BAD_BUFFER;
+    }
+    if open_cells.len() != OPEN_CELLS_LENGTH {
+        return BAD_BUFFER;
+    }
+    if open_states.len() != OPEN_STATES_LENGTH {
         return BAD_BUFFER;
     }
     let files = pair.refusal;

@@ -1,74 +1,74 @@
 -- What the one walk of instructions asks of its memory and gives, in each of the two ways to run. Assumes nothing: these are definitions.
 use mathlib.Core.Path.{_≡_}
-use mathlib.Core.List.{List, []}
+use mathlib.Core.List.{List, [], List·Memᴰ}
 use Prim.Native.Nat.{ℕ, _+_, _*_, _≤_, _<_}
-use lib.IntN.{ℤ}
-use Rattle.lingua.specs.Numbers.{body-cells, instruction-section}
-use Rattle.lingua.specs.Outcome.{Result}
+use lib.IntN.{ℤ, pos}
+use lib.ListN.{length, replicate}
+use Rattle.lingua.specs.Numbers.{body-cells, cells-length, states-length, variable-bodies-length, instruction-section}
 use Rattle.lingua.specs.Rows.{instructionRow}
-use Rattle.lingua.specs.Store.{Variable, contents}
-use Rattle.lingua.specs.Evaluation.{evalTest}
-use Rattle.lingua.specs.Run.{exec}
-use Rattle.lingua.specs.Trees.{expressionTree, instructionTree}
+use Rattle.lingua.specs.Store.{Variable, assigned}
+use Rattle.lingua.specs.Run.{Calling, exec, called, Profile}
+use Rattle.lingua.specs.Trees.{instructionTree, givenValues, givenReferences}
+use Rattle.laws.specs.Reached.{stepsOf}
+use Rattle.safety.specs.ProfileScopes.{scopeRow}
 use Rattle.decoder.specs.Tables.{IsTable}
 use Rattle.decoder.specs.declared.tables.Table.{Table}
 use Rattle.decoder.specs.declared.decode.InstructionRow.{InstructionRow}
 use Rattle.decoder.specs.declared.decode.InstructionRow.the-variants as does
 use Rattle.decoder.specs.Decoded.{instructionMeaning}
 use Rattle.run.specs.declared.steps.Status.{Status}
-use Rattle.run.specs.declared.steps.Truth.{Truth}
 use Rattle.run.specs.Statuses.{stateOf}
-use Rattle.run.specs.Reached.{Lent, Holding, Going, Reached, Settles, Tells}
-use Rattle.checked_store.specs.Meaning.{Running as CheckedRunning}
-use Rattle.erased_row.specs.Meaning.{Running as ErasedRunning}
-use Rattle.walk.specs.declared.way.Way.{Way}
-use Rattle.walk.specs.declared.way.Way.the-variants as way
+use Rattle.run.specs.Reached.{Lent, Going, Reached}
+use Rattle.frames.specs.declared.way.Way.{Way}
+use Rattle.frames.specs.declared.way.Way.the-variants as way
+use Rattle.frames.specs.Meaning.{Context, context, Holds, proceduresIn, Callable}
 
 -- ---- what is given
--- what a run reads and does not change: the profile's rows with the table of its expressions, the layout table, the limits
-pub record Context : Type 0 where
-  pub rows : List ℕ
-  pub expressions : Table
-  pub layout : List ℕ
-  pub limits : List ℤ
+-- what a run reads and does not change: beside the context the bodies of the type rows and where the procedures begin
+pub record Setting : Type 0 where
+  pub context : Context
+  pub types : List ℕ
+  pub heads : List ℕ
 
-abbrev pub context : List ℕ → Table → List ℕ → List ℤ → Context
-context rows t layout limits = record { rows = rows; expressions = t; layout = layout; limits = limits }
+abbrev pub setting : List ℕ → Table → List ℕ → List ℤ → List ℕ → List ℕ → Setting
+setting rows t layout limits types heads = record { context = context rows t layout limits; types = types; heads = heads }
 
--- the checked run has the present bodies, and no layout table
-pub record CheckedIn (c : Context) (l : Lent) (vs : List Variable) : Type 0 where
-  pub no-layout : c .layout ≡ []
-  pub running : CheckedRunning (c .rows) (c .expressions) (c .limits) l vs
+-- ---- the area for the calls that may still be opened
+unfoldable pub AreaBodies : Way → ℕ → List ℕ → Type 0
+AreaBodies way.Checked n bodies = length bodies ≡ variable-bodies-length * n
+AreaBodies way.Erased n bodies = bodies ≡ []
 
--- the erased run has the layout table, and no body
-pub record ErasedIn (c : Context) (l : Lent) (vs : List Variable) : Type 0 where
-  pub no-bodies : l .bodies ≡ []
-  pub running : ErasedRunning (c .rows) (c .expressions) (c .layout) (c .limits) l vs
+-- room for n of them
+pub record AreaOf (w : Way) (n : ℕ) (o : Lent) : Type 0 where
+  pub cells : length (o .cells) ≡ cells-length * n
+  pub states : length (o .states) ≡ states-length * n
+  pub bodies : AreaBodies w n (o .bodies)
 
-unfoldable pub HoldsBy : Way → Context → Holding
-HoldsBy way.Checked c l vs = CheckedIn c l vs
-HoldsBy way.Erased c l vs = ErasedIn c l vs
-
--- what a run asks of lent memory that holds a store
-pub record Holds (w : Way) (c : Context) (l : Lent) (vs : List Variable) : Type 0 where
-  pub by : HoldsBy w c l vs
-
--- some such store, and room on the operand stack
-pub record Standing (w : Way) (c : Context) (l : Lent) (room : ℕ) : Type 0 where
-  pub store : List Variable
-  pub holds : Holds w c l store
-  pub enough : body-cells * (c .expressions .count + 1) ≤ room
-
--- the same under some limits, where they are not asked
-pub record StandsUnder (w : Way) (rows : List ℕ) (t : Table) (layout : List ℕ) (l : Lent) (room : ℕ) : Type 0 where
-  pub limits : List ℤ
-  pub standing : Standing w (context rows t layout limits) l room
+-- what calls do as long as n may still be opened
+abbrev pub calling : List ℕ → ℕ → Calling
+calling rows n = called assigned exec (proceduresIn rows) n
 
 -- ---- instructions
--- what an instruction asks
-pub record Asked (row : ℕ) (w : Way) (c : Context) (u : Table) (l : Lent) (m : Status) (room : ℕ) : Type 0 where
-  pub standing : Standing w c l room
-  pub instructions : IsTable (c .rows) instruction-section u
+-- an instruction row of scope a
+abbrev pub Under : List ℕ → ℕ → ℕ → Type 0
+Under rows a row = List·Memᴰ row (stepsOf rows (scopeRow rows a))
+
+-- a row's instruction with the variables of its scope in memory, and an area for n calls
+pub record Stands (row : ℕ) (w : Way) (p : Profile) (a n : ℕ) (s : Setting) (l o : Lent) (vs : List Variable) : Type 0 where
+  pub holds : Holds w p a (s .context) l vs
+  pub callable : Callable w p (s .context) (s .types) (s .heads)
+  pub under : Under (s .context .rows) a row
+  pub area : AreaOf w n o
+
+-- what an instruction asks: some such store
+pub record Asked (row : ℕ) (w : Way) (s : Setting) (u : Table) (l o : Lent) (m : Status) (room : ℕ) : Type 0 where
+  pub profile : Profile
+  pub scope : ℕ
+  pub may : ℕ
+  pub store : List Variable
+  pub stands : Stands row w profile scope may s l o store
+  pub enough : body-cells * (s .context .expressions .count + 1) ≤ room
+  pub instructions : IsTable (s .context .rows) instruction-section u
   pub there : row < u .count
   pub going : Going m
 
@@ -91,15 +91,45 @@ LoopAt rows row e i = Means rows row (does.Loop e i)
 abbrev pub HandleAt : List ℕ → ℕ → ℕ → ℕ → Type 0
 HandleAt rows row n i = Means rows row (does.Handle n i)
 
+abbrev pub CallAt : List ℕ → ℕ → ℕ → ℕ → ℕ → Type 0
+CallAt rows row k b c = Means rows row (does.Call k b c)
+
 -- what it gives: the run stands where the definition does, at every store that the memory may hold
-pub record Executes (row : ℕ) (w : Way) (c : Context) (l after : Lent) (m r : Status) : Type 0 where
-  pub reaches : (vs : List Variable) → Holds w c l vs → Reached (Holds w c) after r (exec (instructionTree (c .rows) row) (stateOf m vs))
+pub record Executes (row : ℕ) (w : Way) (s : Setting) (l o after free : Lent) (m r : Status) : Type 0 where
+  pub reaches : (p : Profile) (a n : ℕ) (vs : List Variable) → Stands row w p a n s l o vs
+      → Reached (Holds w p a (s .context)) o after free r (exec (calling (s .context .rows) n) (instructionTree (s .context .rows) row) (stateOf m vs))
 
--- ---- what differs between the ways
--- a store: the new one in memory, or the error and the memory as it was
-pub record Stores (w : Way) (c : Context) (l after : Lent) (r : ℕ) (f : List Variable → Result (List Variable)) : Type 0 where
-  pub settles : (vs : List Variable) → Holds w c l vs → Settles r (Holds w c) l after (f vs)
+-- ---- instructions that no other is part of, whatever the area is and whatever calls do
+pub record AskedLeaf (row : ℕ) (w : Way) (c : Context) (u : Table) (l : Lent) (m : Status) (room : ℕ) : Type 0 where
+  pub profile : Profile
+  pub scope : ℕ
+  pub store : List Variable
+  pub holds : Holds w profile scope c l store
+  pub under : Under (c .rows) scope row
+  pub enough : body-cells * (c .expressions .count + 1) ≤ room
+  pub instructions : IsTable (c .rows) instruction-section u
+  pub there : row < u .count
+  pub going : Going m
 
--- a test's answer
-pub record TellsTest (w : Way) (c : Context) (l : Lent) (e : ℕ) (r : Truth) : Type 0 where
-  pub tells : (vs : List Variable) → Holds w c l vs → Tells r (evalTest (expressionTree (c .rows) e) (contents vs))
+pub record ExecutesLeaf (row : ℕ) (w : Way) (c : Context) (l after : Lent) (m r : Status) : Type 0 where
+  pub reaches : (p : Profile) (a : ℕ) (vs : List Variable) → Holds w p a c l vs → Under (c .rows) a row → (calls : Calling) (o : Lent)
+      → Reached (Holds w p a c) o after o r (exec calls (instructionTree (c .rows) row) (stateOf m vs))
+
+-- ---- a call that has its step
+-- one more may be opened
+pub record Opening (row k b c : ℕ) (w : Way) (s : Setting) (u : Table) (l o : Lent) (m : Status) (room : ℕ) : Type 0 where
+  pub asked : Asked row w s u l o m room
+  pub called : CallAt (s .context .rows) row k b c
+  pub room-left : cells-length ≤ length (o .cells)
+  pub clean : m .error ≡ 0
+
+-- memory for a call's variables, as the machine gives it
+pub record Zeros (cells : List ℤ) (states bodies : List ℕ) : Type 0 where
+  pub cells-are : cells ≡ replicate cells-length (pos 0)
+  pub states-are : states ≡ replicate states-length 0
+  pub bodies-are : bodies ≡ replicate variable-bodies-length 0
+
+-- what the call does
+pub record Opens (row k b c : ℕ) (w : Way) (s : Setting) (l o after free : Lent) (m r : Status) : Type 0 where
+  pub reaches : (p : Profile) (a n : ℕ) (vs : List Variable) → Stands row w p a n s l o vs
+      → Reached (Holds w p a (s .context)) o after free r (calling (s .context .rows) n row k (givenValues (s .context .rows) k b) (givenReferences (s .context .rows) k c) (stateOf m vs))

@@ -1,4 +1,4 @@
-// One walk of instructions for both runs, which differ in an assignment, a yoke change, a test and a reading alone.
+// One walk of instructions for both runs, which differ in an assignment, a yoke change, a test and a copy alone.
+mod call; // call.rt: a call before and behind its body
 pub mod exec; // exec.rt: instructions, by their rows
-pub mod leaves; // leaves.rt: what differs between the two ways to run
-pub mod way; // way.rt: the two ways
+mod leaf; // leaf.rt: instructions that no other is part of

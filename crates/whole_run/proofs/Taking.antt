@@ -13,18 +13,18 @@ use Rattle.lingua.specs.Numbers.{declaration-section, reading-place, most-readi
 use Rattle.lingua.specs.Rows.{pairCount}
 use Rattle.lingua.specs.Value.{allOf}
 use Rattle.lingua.specs.Store.{Variable, Reading, readingTaken}
-use Rattle.lingua.specs.Run.{State, going, lastState, settled, takenUnless, takeReadings}
+use Rattle.lingua.specs.Run.{State, Profile, going, lastState, settled, takenUnless, takeReadings}
 use Rattle.lingua.specs.Refusal.{isNumberVariable, readingWrong}
 use Rattle.lingua.specs.Calls.{readingsOf}
 use Rattle.laws.specs.Outcomes.{false-is-true, and-left, and-right}
 use Rattle.run.specs.Statuses.{stateOf, progressOf, recorded}
 use Rattle.run.specs.declared.steps.Status.{Status}
-use Rattle.run.specs.Reached.{Lent, Going, Reached}
+use Rattle.run.specs.Reached.{Lent, Holding, Going, Reached}
 use Rattle.run.specs.Acting.{settles}
 use Rattle.run.specs.Memory.{reading}
-use Rattle.walk.specs.declared.way.Way.{Way}
-use Rattle.walk.specs.Meaning.{Context, Holds, Standing, Stores}
-use Rattle.whole_run.specs.Meaning.{Readable, Takes, TakesAll}
+use Rattle.frames.specs.declared.way.Way.{Way}
+use Rattle.frames.specs.Meaning.{Context, Holds, Standing, Stores}
+use Rattle.whole_run.specs.Meaning.{Readable, Kept, Takes, TakesAll}
 
 -- ---- rule 16
 or-none : (a b : Bool) → (a || b) ≡ false → (a ≡ false) × (b ≡ false)
@@ -58,16 +58,17 @@ recorded-going m r e place g q = subst (λ (x : Status). Going x) (sym q) (by e)
     by zero = g
     by (suc n) = record { not-out = g .not-out; clean = λ z. absurd (let k : ⊥ = omega (arith, z) in k) }
 
-progress-going : (b : Bool) (s : State) → b ≡ false → going s ≡ progressOf b s
-progress-going true s e = absurd (let k : _≡_ {A = ℕ} 0 1 = cc in let z : ⊥ = omega arith in z)
-progress-going false s e = refl
+going-state : (b : Bool) (s u : State) (os : List (List Variable)) → b ≡ false → going s ≡ progressOf b u os → s ≡ u
+going-state true s u os e q = absurd (let k : _≡_ {A = ℕ} 0 1 = cc in let z : ⊥ = omega arith in z)
+going-state false s u os e q = ap lastState q
 
-pub going-state : (b : Bool) (s u : State) → b ≡ false → going s ≡ progressOf b u → s ≡ u
-going-state b s u e q = ap lastState (q ∙ sym (progress-going b u e))
+kept-by : {M : Holding} {o l after : Lent} {m : Status} {s : State} → Reached M o l after m (going s) → m .out ≡ false → Kept M l m s
+kept-by {m = m} {s} h e = record { store = h .store; is = going-state (m .out) s _ (h .opens) e (h .is); running = h .running }
 
-pub takes : {w : Way} {c : Context} {l after : Lent} {m : Status} (r : Status) (e place n : ℕ) (z : ℤ) → Going m → r ≡ recorded m e place → Stores w c l after e (λ vs. readingTaken vs (reading n z)) → Takes w c l after m r place n z
-takes {m = m} r e place n z g q h =
-    record { goes = recorded-going m r e place g q; reaches = λ vs k. settles vs k m r e place (h .settles vs k) q (g .not-out) (g .clean) }
+pub takes : {w : Way} {c : Context} {l after : Lent} {m : Status} (r : Status) (e place n : ℕ) (z : ℤ) → Going m → r ≡ recorded m e place → Stores w c l after e (λ a. a ≡ 0) (λ vs. readingTaken vs (reading n z)) → Takes w c l after m r place n z
+takes {l = l} {m = m} r e place n z g q h =
+    let goes = recorded-going m r e place g q in
+    record { goes = goes; reaches = λ p vs k. kept-by (settles {free = l} vs k m r e place (h .settles p 0 vs refl k) q (g .not-out) (g .clean)) (goes .not-out) }
 
 -- ---- the inputs from an index on
 inputs-at : (who : List ℕ) (numbers : List ℤ) (i : ℕ) → length who ≡ length numbers → i < length who
@@ -97,33 +98,28 @@ unfolding takeReadings
 one-taken i r rs s e = ap (λ (b : Bool). takeReadings (suc i) rs (takenUnless b s i r)) (eq-eqb (s .error) 0 e)
 
 -- ---- where the loop stands: what is left of the definition, from here
-pub record Stands (w : Way) (c : Context) (l : Lent) (who : List ℕ) (numbers : List ℤ) (first moment : Status) (i : ℕ) (vs : List Variable) : Type 0 where
+pub record Stands (w : Way) (p : Profile) (c : Context) (l : Lent) (who : List ℕ) (numbers : List ℤ) (first moment : Status) (i : ℕ) (vs : List Variable) : Type 0 where
   pub store : List Variable
   pub is : takeReadings 0 (readingsOf who numbers) (stateOf first vs) ≡ takeReadings i (drop i (readingsOf who numbers)) (stateOf moment store)
-  pub running : Holds w c l store
+  pub running : Holds w p 0 c l store
 
 pub record Taking (w : Way) (c : Context) (l₀ l : Lent) (who : List ℕ) (numbers : List ℤ) (first moment : Status) (i : ℕ) : Type 0 where
   pub goes : Going moment
-  pub each : (vs : List Variable) → Holds w c l₀ vs → Stands w c l who numbers first moment i vs
+  pub each : (p : Profile) (vs : List Variable) → Holds w p 0 c l₀ vs → Stands w p c l who numbers first moment i vs
 
 pub taking-first : {w : Way} {c : Context} {l : Lent} {who : List ℕ} {numbers : List ℤ} {m : Status} → Going m → Taking w c l l who numbers m m 0
-taking-first g = record { goes = g; each = λ vs k. record { store = vs; is = refl; running = k } }
+taking-first g = record { goes = g; each = λ p vs k. record { store = vs; is = refl; running = k } }
 
 module _ {w : Way} {c : Context} {l₀ l : Lent} {who : List ℕ} {numbers : List ℤ} {first moment : Status} {i : ℕ} (h : Taking w c l₀ l who numbers first moment i) where
-  pub taking-standing : {room space : ℕ} → Standing w c l₀ room → room ≡ space → Standing w c l space
+  pub taking-standing : {room space : ℕ} → Standing w c l₀ room (λ a. a ≡ 0) → room ≡ space → Standing w c l space (λ a. a ≡ 0)
   taking-standing s e =
-      let k = h .each (s .store) (s .holds) in
-      record { store = k .store; holds = k .running; enough = omega (arith, s .enough, e) }
+      let k = h .each (s .profile) (s .store) (subst (λ (a : ℕ). Holds w (s .profile) a c l₀ (s .store)) (s .of-scope) (s .holds)) in
+      record { profile = s .profile; scope = 0; store = k .store; holds = k .running; of-scope = refl; enough = omega (arith, s .enough, e) }
 
   ends : (q : (s : State) → s .error ≡ moment .error → takeReadings i (drop i (readingsOf who numbers)) s ≡ s) → TakesAll w c l₀ l first moment (readingsOf who numbers)
   ends q = record {
     goes = h .goes;
-    reaches = λ vs k. let s = h .each vs k in record {
-      store = s .store;
-      is = ap going (s .is ∙ q (stateOf moment (s .store)) refl) ∙ progress-going (moment .out) (stateOf moment (s .store)) (h .goes .not-out);
-      running = s .running;
-      clean = h .goes .clean;
-    };
+    reaches = λ p vs k. let s = h .each p vs k in record { store = s .store; is = s .is ∙ q (stateOf moment (s .store)) refl; running = s .running };
   }
 
   pub taking-stops : (moment .error ≡ 0 → ⊥) → TakesAll w c l₀ l first moment (readingsOf who numbers)
@@ -139,11 +135,10 @@ module _ {w : Way} {c : Context} {l₀ l : Lent} {who : List ℕ} {numbers : Lis
   taking-more {after} r n place z f le k en ez ep e =
       record { goes = f .goes; each = each }
     where
-      each : (vs : List Variable) → Holds w c l₀ vs → Stands w c after who numbers first r (i + 1) vs
-      each vs u =
-          let s = h .each vs u in
-          let q = f .reaches (s .store) (s .running) in
-          let same : settled (stateOf moment (s .store)) place (readingTaken (s .store) (reading n z)) ≡ stateOf r (q .store) = going-state (r .out) _ _ (f .goes .not-out) (q .is) in
+      each : (p : Profile) (vs : List Variable) → Holds w p 0 c l₀ vs → Stands w p c after who numbers first r (i + 1) vs
+      each p vs u =
+          let s = h .each p vs u in
+          let q = f .reaches p (s .store) (s .running) in
           let here : reading (getD who i 0) (getD numbers i (pos 0)) ≡ reading n z = rw (en, ez) in
           record {
             store = q .store;
@@ -152,7 +147,7 @@ module _ {w : Way} {c : Context} {l₀ l : Lent} {who : List ℕ} {numbers : Lis
                 ∙ ap (λ (rs : List Reading). takeReadings i rs (stateOf moment (s .store))) (inputs-at who numbers i le k ∙ ap (λ (x : Reading). x ∷ drop (suc i) (readingsOf who numbers)) here)
                 ∙ one-taken i (reading n z) (drop (suc i) (readingsOf who numbers)) (stateOf moment (s .store)) e
                 ∙ ap (λ (j : ℕ). takeReadings (suc i) (drop (suc i) (readingsOf who numbers)) (settled (stateOf moment (s .store)) j (readingTaken (s .store) (reading n z)))) (sym ep)
-                ∙ ap (λ (v : State). takeReadings (suc i) (drop (suc i) (readingsOf who numbers)) v) same
+                ∙ ap (λ (v : State). takeReadings (suc i) (drop (suc i) (readingsOf who numbers)) v) (q .is)
                 ∙ ap (λ (j : ℕ). takeReadings j (drop j (readingsOf who numbers)) (stateOf r (q .store))) (sym (add-one i));
             running = q .running;
           }

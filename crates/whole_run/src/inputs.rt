@@ -1,11 +1,11 @@
 // The inputs of a run (document 01: readings): in order, without steps, and none after an error.
 use decoder::tables::Table;
+use frames::leaves::take_reading;
+use frames::way::Way;
 use lingua::errors::NO_ERROR;
 use lingua::sizes::READING_PLACE;
 use run::steps::Status;
 use run::steps::settled;
-use walk::leaves::take_reading;
-use walk::way::Way;
 ghost use mathlib.Core.Path.{_≡_};
 ghost use mathlib.Core.Bool.{true};
 ghost use Prim.Native.Nat.{_<_};
@@ -15,7 +15,7 @@ ghost use Rattle.lingua.specs.Rows.{pairCount};
 ghost use Rattle.lingua.specs.Refusal.{isNumberVariable};
 ghost use Rattle.lingua.specs.Calls.{readingsOf};
 ghost use Rattle.run.specs.Reached.{lent, Going};
-ghost use Rattle.walk.specs.Meaning.{context, Standing};
+ghost use Rattle.frames.specs.Meaning.{context, Standing};
 ghost use Rattle.whole_run.specs.Meaning.{Readable, Takes, TakesAll};
 
 // One input: its error is recorded with its place.
@@ -34,7 +34,7 @@ fn take_one(
     m: Status,
     stack: &mut [i64],
 ) -> Status
-    requires { ⌜ Standing way (context (now rows) t (now layout) (now kept)) (lent (now cells) (now states) (now bodies)) (length (now stack)) ⌝ }
+    requires { ⌜ Standing way (context (now rows) t (now layout) (now kept)) (lent (now cells) (now states) (now bodies)) (length (now stack)) (λ a. a ≡ 0) ⌝ }
     requires { ⌜ (n < pairCount (now rows) declaration-section) × (isNumberVariable (now rows) n ≡ true) ⌝ }
     requires { ⌜ Going m × (m .error ≡ 0) ⌝ }
     ensures { λ r. ⌜ Takes way (context (now (rows .entry)) t (now (layout .entry)) (now (kept .entry))) (lent (now (cells .entry)) (now (states .entry)) (now (bodies .entry))) (lent (now (cells .exit)) (now (states .exit)) (now (bodies .exit))) m r place n z ⌝ }
@@ -69,7 +69,7 @@ pub fn take_readings(
     m: Status,
     stack: &mut [i64],
 ) -> Status
-    requires { ⌜ Standing way (context (now rows) t (now layout) (now kept)) (lent (now cells) (now states) (now bodies)) (length (now stack)) ⌝ }
+    requires { ⌜ Standing way (context (now rows) t (now layout) (now kept)) (lent (now cells) (now states) (now bodies)) (length (now stack)) (λ a. a ≡ 0) ⌝ }
     requires { ⌜ Going m ⌝ }
     requires { ⌜ Readable (now rows) (now who) (now numbers) ⌝ }
     ensures { λ r. ⌜ TakesAll way (context (now (rows .entry)) t (now (layout .entry)) (now (kept .entry))) (lent (now (cells .entry)) (now (states .entry)) (now (bodies .entry))) (lent (now (cells .exit)) (now (states .exit)) (now (bodies .exit))) m r (readingsOf (now (who .entry)) (now (numbers .entry))) ⌝ }

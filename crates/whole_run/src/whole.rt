@@ -1,16 +1,16 @@
 // A whole run on begun memory: the inputs, then the program, which is the last instruction row.
 use crate::inputs::take_readings;
 use decoder::tables::Tables;
+use frames::way::Way;
 use lingua::RunAnswer;
 use lingua::sizes::STACK_LENGTH;
 use run::steps::ended;
 use run::steps::fresh;
 use walk::exec::exec;
-use walk::way::Way;
 ghost use Rattle.lingua.specs.Calls.{readingsOf};
 ghost use Rattle.decoder.specs.Tables.{AreTables};
 ghost use Rattle.run.specs.Reached.{lent};
-ghost use Rattle.walk.specs.Meaning.{context};
+ghost use Rattle.walk.specs.Meaning.{setting};
 ghost use Rattle.whole_run.specs.Meaning.{Begins, Readable, Runs};
 
 // Each level of an expression's tree has 64 cells of the operand stack.
@@ -18,6 +18,8 @@ pub fn run(
     way: Way,
     rows: &[u8],
     tables: Tables,
+    heads: &[usize],
+    types: &[u8],
     bodies: &mut [u8],
     layout: &[u16],
     kept: &[i64],
@@ -26,11 +28,15 @@ pub fn run(
     budget: u16,
     cells: &mut [i64],
     states: &mut [u16],
+    open_bodies: &mut [u8],
+    open_cells: &mut [i64],
+    open_states: &mut [u16],
 ) -> RunAnswer
     requires { ⌜ AreTables (now rows) tables ⌝ }
-    requires { ⌜ Begins way (context (now rows) (tables .expressions) (now layout) (now kept)) (lent (now cells) (now states) (now bodies)) ⌝ }
+    requires { ⌜ Begins way (setting (now rows) (tables .expressions) (now layout) (now kept) (now types) (now heads)) (lent (now cells) (now states) (now bodies)) (lent (now «open_cells») (now «open_states») (now «open_bodies»)) ⌝ }
     requires { ⌜ Readable (now rows) (now who) (now numbers) ⌝ }
-    ensures { λ r. ⌜ Runs way (context (now (rows .entry)) (tables .expressions) (now (layout .entry)) (now (kept .entry))) (lent (now (cells .entry)) (now (states .entry)) (now (bodies .entry))) (lent (now (cells .exit)) (now (states .exit)) (now (bodies .exit))) (readingsOf (now (who .entry)) (now (numbers .entry))) budget r ⌝ }
+    ensures { λ r. ⌜ Runs way (setting (now (rows .entry)) (tables .expressions) (now (layout .entry)) (now (kept .entry)) (now (types .entry)) (now (heads .entry))) (lent (now (cells .entry)) (now (states .entry)) (now (bodies .entry))) (lent (now («open_cells» .entry)) (now («open_states» .entry)) (now («open_bodies» .entry)))
+        (lent (now (cells .exit)) (now (states .exit)) (now (bodies .exit))) (lent (now («open_cells» .exit)) (now («open_states» .exit)) (now («open_bodies» .exit))) (readingsOf (now (who .entry)) (now (numbers .entry))) budget r ⌝ }
 {
     let t = tables.expressions;
     let u = tables.instructions;
@@ -57,11 +63,16 @@ pub fn run(
         rows,
         t,
         u,
-        &mut *bodies,
+        heads,
+        types,
+        bodies,
         layout,
         kept,
-        &mut *cells,
-        &mut *states,
+        cells,
+        states,
+        open_bodies,
+        open_cells,
+        open_states,
         taken,
         &mut stack,
     );

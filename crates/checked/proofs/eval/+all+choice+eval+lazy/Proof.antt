@@ -24,7 +24,7 @@ use Rattle.checked_row.proofs.Stacking.{first-stays, second-lies}
 use Rattle.checked_row.proofs.Seeing.{sees-none}
 use Rattle.checked.proofs.Walking.{no-list, current-list, element-held, list-cell, list-walks, element-current, sees-more, sees-all, all-is}
 use Rattle.checked_row.proofs.Simple.{quick-simple, quick-failed}
-use Rattle.checked_row.proofs.Cycle.{in-table, facts, by-row, lazy-error, lazy-settled, lazy-second-error, lazy-second-told, choice-error, choice-yes, choice-no}
+use Rattle.checked_row.proofs.Cycle.{in-table, facts, few-named, by-row, lazy-error, lazy-settled, lazy-second-error, lazy-second-told, choice-error, choice-yes, choice-no}
 use Prim.Native.Nat.{ℕ, _<_}
 use borrow.Fn.Kinds.{In}
 use borrow.Fn.PlainCycle.{Measures, is, falls, and}
@@ -261,11 +261,9 @@ eval-enum-known-says : (t : ℕ) → eval-lts.Need-enum-known-says (eval-calls t
 eval-enum-known-says t c = search needs
 
 eval-fetch-requires : (t : ℕ) → eval-lts.Need-fetch-requires (eval-calls t) (eval-at t) eval.Post
-unfolding RowFacts
 eval-fetch-requires t c κs =
     let w = c .before .before .before .before .before .before .before .before .pre .1 .ready .world in
-    let f = facts w (c .before .before .before .before .before .before .before .before .pre .1 .here) (says-as (c .before .before .says .given .1) (c .before .before .before .before .expression-row .ensures)) in
-    (record { store = c .before .before .before .before .before .before .before .before .pre .1 .ready .store; stored = w .stored; there = omega (arith, f, w .count) }, omega (arith, c .before .before .before .before .before .before .before .before .pre .1 .room))
+    (record { store = c .before .before .before .before .before .before .before .before .pre .1 .ready .store; stored = w .stored; there = few-named w (c .before .before .before .before .before .before .before .before .pre .1 .here) (says-as (c .before .before .says .given .1) (c .before .before .before .before .expression-row .ensures)) }, omega (arith, c .before .before .before .before .before .before .before .before .pre .1 .room))
 
 eval-enum-told-2 : (t : ℕ) → eval-lts.Need-enum-told-2 (eval-calls t) (eval-at t) eval.Post
 eval-enum-told-2 t c = search needs
@@ -383,11 +381,8 @@ eval-same-length-2 : (t : ℕ) → eval-lts.Need-same-length-2 (eval-calls t) (e
 eval-same-length-2 t c = search needs
 
 eval-returns-2 : (t : ℕ) → eval-lts.Need-returns-2 (eval-calls t) (eval-at t) eval.Post
-unfolding rowTree meaning RowFacts
-eval-returns-2 t c = λ vs x w h.
-    let s = says-as (c .before .before .before .before .says .given .1) (c .before .before .before .before .before .before .expression-row .ensures) in
-    let f = facts w (c .before .before .before .before .before .before .before .before .before .before .pre .1 .here) s in
-    by-row w (c .before .before .before .before .before .before .before .before .before .before .pre .1 .here) x s (c .before .fetch .ensures vs (w .stored) (omega (arith, f, w .count)))
+unfolding rowTree meaning
+eval-returns-2 t c = λ vs x w h. by-row w (c .before .before .before .before .before .before .before .before .before .before .pre .1 .here) x (says-as (c .before .before .before .before .says .given .1) (c .before .before .before .before .before .before .expression-row .ensures)) (c .before .fetch .ensures vs (w .stored))
 
 eval-same-length-3 : (t : ℕ) → eval-lts.Need-same-length-3 (eval-calls t) (eval-at t) eval.Post
 eval-same-length-3 t c = search needs

@@ -1,17 +1,16 @@
 -- `leaf` meets its contract: one law of Simple.antt for each leaf; any other row says nothing. Assumes nothing.
 use mathlib.Core.Path.{refl, sym, _∙_}
 use native.Mathlib.Omega.{arith}
-use lib.IntN.{pos}
-use borrow.Author.Tests.{not-true, not-false}
+use borrow.Author.Tests.{not-false}
 use Rattle.lingua.specs.Evaluation.{eval as meaning}
 use Rattle.profile.specs.Constants.{cell-as}
 use Rattle.profile.specs.Facts.{RowFacts, rowTree, says-as}
 use Rattle.profile.specs.Known.{row-known}
 use Rattle.cells.proofs.Moves.{cell-back}
-use Rattle.run.proofs.Parts.{states-room, cells-room}
-use Rattle.checked_row.proofs.Storing.{memory-of, body-room, present-held}
-use Rattle.checked_row.proofs.Cycle.{in-table, facts}
-use Rattle.checked_row.proofs.Simple.{no-gives, positive, there, own-first, constant-simple, variable-simple, current-long, current-simple, simple-by-row}
+use Rattle.run.proofs.Parts.{cells-room}
+use Rattle.checked_row.proofs.Storing.{memory-of, flag-there, filled-there, body-room, present-held}
+use Rattle.checked_row.proofs.Cycle.{in-table, facts, few-named}
+use Rattle.checked_row.proofs.Simple.{no-gives, positive, own-first, constant-simple, variable-simple, current-long, current-simple, simple-by-row}
 use borrow.Author.Needs.{needs}
 use Rattle.checked_row.proofs.quick.leaf.Statement.{statement}
 use Rattle.checked_row.proofs.quick.leaf.Tie as tie
@@ -49,28 +48,20 @@ enum-known-says : tie.Need-enum-known-says
 enum-known-says c = search needs
 
 is-filled-requires : tie.Need-is-filled-requires
-unfolding RowFacts
 is-filled-requires c κs =
     let w = c .before .before .before .before .before .before .before .pre .ready .world in
-    let f = facts w (c .before .before .before .before .before .before .before .pre .here) (says-as (c .before .says .given .1) (c .before .before .before .expression-row .ensures)) in
-    states-room (memory-of (w .stored)) _ (there w f)
+    flag-there (w .stored) _ (few-named w (c .before .before .before .before .before .before .before .pre .here) (says-as (c .before .says .given .1) (c .before .before .before .expression-row .ensures)))
 
 returns-2 : tie.Need-returns-2
 returns-2 c = λ vs x w h. no-gives _ _
 
 mul-simple-tag : tie.Need-mul-simple-tag
-unfolding RowFacts
-mul-simple-tag c =
-    let w = c .before .before .before .before .before .before .before .before .before .pre .ready .world in
-    let f = facts w (c .before .before .before .before .before .before .before .before .before .pre .here) (says-as (c .before .before .before .says .given .1) (c .before .before .before .before .before .expression-row .ensures)) in
-    omega (arith, f, w .count, w .stored .few)
+mul-simple-tag c = omega (arith, few-named (c .before .before .before .before .before .before .before .before .before .pre .ready .world) (c .before .before .before .before .before .before .before .before .before .pre .here) (says-as (c .before .before .before .says .given .1) (c .before .before .before .before .before .expression-row .ensures)))
 
 shared-slice-read-simple-tag : tie.Need-shared-slice-read-simple-tag
-unfolding RowFacts
 shared-slice-read-simple-tag c =
-    let w = c .before .before .before .before .before .before .before .before .before .before .pre .ready .world in
-    let f = facts w (c .before .before .before .before .before .before .before .before .before .before .pre .here) (says-as (c .before .before .before .before .says .given .1) (c .before .before .before .before .before .before .expression-row .ensures)) in
-    omega (arith, body-room (w .stored) _ (there w f))
+    let s = c .before .before .before .before .before .before .before .before .before .before .pre .ready .world .stored in
+    omega (arith, body-room s _ (filled-there s _ (sym (c .before .before .is-filled .ensures) ∙ not-false _ (c .before .if2 .left))))
 
 simple-tag-requires-2 : tie.Need-simple-tag-requires-2
 simple-tag-requires-2 c κs = search needs
@@ -79,25 +70,15 @@ returns-3 : tie.Need-returns-3
 returns-3 c = λ vs x w h. no-gives _ _
 
 mul-stack : tie.Need-mul-stack
-unfolding RowFacts
-mul-stack c =
-    let w = c .before .before .before .before .before .before .before .before .before .before .before .before .pre .ready .world in
-    let f = facts w (c .before .before .before .before .before .before .before .before .before .before .before .before .pre .here) (says-as (c .before .before .before .before .before .before .says .given .1) (c .before .before .before .before .before .before .before .before .expression-row .ensures)) in
-    omega (arith, f, w .count, w .stored .few)
+mul-stack c = omega (arith, few-named (c .before .before .before .before .before .before .before .before .before .before .before .before .pre .ready .world) (c .before .before .before .before .before .before .before .before .before .before .before .before .pre .here) (says-as (c .before .before .before .before .before .before .says .given .1) (c .before .before .before .before .before .before .before .before .expression-row .ensures)))
 
 mul-stack-2 : tie.Need-mul-stack-2
-unfolding RowFacts
-mul-stack-2 c =
-    let w = c .before .before .before .before .before .before .before .before .before .before .before .before .pre .ready .world in
-    let f = facts w (c .before .before .before .before .before .before .before .before .before .before .before .before .pre .here) (says-as (c .before .before .before .before .before .before .says .given .1) (c .before .before .before .before .before .before .before .before .expression-row .ensures)) in
-    omega (arith, f, w .count, w .stored .few)
+mul-stack-2 c = omega (arith, few-named (c .before .before .before .before .before .before .before .before .before .before .before .before .pre .ready .world) (c .before .before .before .before .before .before .before .before .before .before .before .before .pre .here) (says-as (c .before .before .before .before .before .before .says .given .1) (c .before .before .before .before .before .before .before .before .expression-row .ensures)))
 
 shared-slice-copy-out-stack : tie.Need-shared-slice-copy-out-stack
-unfolding RowFacts
 shared-slice-copy-out-stack c =
-    let w = c .before .before .before .before .before .before .before .before .before .before .before .before .pre .ready .world in
-    let f = facts w (c .before .before .before .before .before .before .before .before .before .before .before .before .pre .here) (says-as (c .before .before .before .before .before .before .says .given .1) (c .before .before .before .before .before .before .before .before .expression-row .ensures)) in
-    omega (arith, cells-room (memory-of (w .stored)) _ (there w f))
+    let s = c .before .before .before .before .before .before .before .before .before .before .before .before .pre .ready .world .stored in
+    omega (arith, cells-room (memory-of s) _ (filled-there s _ (sym (c .before .before .before .before .is-filled .ensures) ∙ not-false _ (c .before .before .before .if2 .left))))
 
 slice-set-from-stack-2 : tie.Need-slice-set-from-stack-2
 slice-set-from-stack-2 c = omega (arith, c .before .before .before .before .before .before .before .before .before .before .before .before .before .pre .room)
@@ -151,10 +132,9 @@ same-length-2 : tie.Need-same-length-2
 same-length-2 c = search needs
 
 returns-6 : tie.Need-returns-6
-unfolding rowTree meaning RowFacts
+unfolding rowTree meaning
 returns-6 c = λ vs x w h.
-    let f = facts w (c .before .before .before .before .before .before .before .before .before .before .before .before .before .pre .here) (says-as (c .before .before .before .before .before .before .before .says .given .1) (c .before .before .before .before .before .before .before .before .before .expression-row .ensures)) in
-    let lt = there w f in
+    let lt = filled-there (w .stored) _ (sym (c .before .before .before .before .before .is-filled .ensures) ∙ not-false _ (c .before .before .before .before .if2 .left)) in
     simple-by-row w (c .before .before .before .before .before .before .before .before .before .before .before .before .before .pre .here) x (says-as (c .before .before .before .before .before .before .before .says .given .1) (c .before .before .before .before .before .before .before .before .before .expression-row .ensures))
     (variable-simple (w .stored) _ lt (c .before .before .before .before .before .before .before .before .before .before .before .before .before .args .stack .now) _ _ (sym (c .before .before .before .before .before .is-filled .ensures) ∙ not-false _ (c .before .before .before .before .if2 .left)) (c .before .before .simple-tag2 .ensures _ _ (present-held (w .stored) _ lt _ refl) (own-first (c .before .before .before .before .before .before .before .before .before .before .before .before .before .args .variables .now) (c .before .before .before .before .before .before .before .says .given .0 .0))) (cell-back _ (c .stack .given)) (omega (arith, c .before .before .before .before .before .before .before .before .before .before .before .before .before .pre .room)))
 

@@ -10,7 +10,7 @@ use Rattle.checked_store.proofs.change.change_yoke.Tie as tie
 yoke-holds-requires : tie.Need-yoke-holds-requires
 yoke-holds-requires c κs =
     let r = c .before .before .before .before .before .pre .0 in
-    (record { store = r .store; world = r .running .world }, (omega (arith, r .there, r .running .world .count), (c .before .before .before .before .before .pre .1 .0, omega (arith, c .before .before .before .before .before .pre .1 .1))))
+    (record { store = r .store; world = r .running .world }, (omega (arith, r .there, r .running .world .stored .few), (c .before .before .before .before .before .pre .1 .0, omega (arith, c .before .before .before .before .before .pre .1 .1))))
 
 same-length : tie.Need-same-length
 same-length c = search needs

@@ -21,7 +21,7 @@ use Rattle.profile.specs.Facts.{says-as}
 use Rattle.cells.proofs.Operands.{both-long}
 use Rattle.cells.proofs.Walking.{turn-room, next-place}
 use Rattle.erased.proofs.Walking.{Listed, ready-listed, list-cell, list-walks, element-ready, firstResults, sees-more, all-evaluates}
-use Rattle.erased_row.proofs.Cycle.{facts, tree-is, ready-as, evaluates-as, constant-evaluates, has-variable, variable-evaluates, has-current, current-evaluates, unary-ready, has-unary, unary-evaluates, binary-first, binary-second, first-under, has-binary, binary-evaluates, lazy-first, lazy-next, lazy-error, lazy-settled, lazy-second, choice-test, choice-first, choice-other, choice-error, choice-yes, choice-no}
+use Rattle.erased_row.proofs.Cycle.{facts, tree-is, variable-few, ready-as, evaluates-as, constant-evaluates, has-variable, variable-evaluates, has-current, current-evaluates, unary-ready, has-unary, unary-evaluates, binary-first, binary-second, first-under, has-binary, binary-evaluates, lazy-first, lazy-next, lazy-error, lazy-settled, lazy-second, choice-test, choice-first, choice-other, choice-error, choice-yes, choice-no}
 use Prim.Native.Nat.{ℕ, _<_}
 use borrow.Fn.Kinds.{In}
 use borrow.Fn.PlainCycle.{Measures, is, falls, and}
@@ -227,12 +227,11 @@ eval-enum-known-says : (t : ℕ) → eval-lts.Need-enum-known-says (eval-calls t
 eval-enum-known-says t c = search needs
 
 eval-fetch-requires : (t : ℕ) → eval-lts.Need-fetch-requires (eval-calls t) (eval-at t) eval.Post
-unfolding RowFacts rowTree
+unfolding rowTree
 eval-fetch-requires t c κs =
     let s = says-as (c .before .before .says .given .1) (c .before .before .before .before .expression-row .ensures) in
-    let f = facts (c .before .before .before .before .before .before .before .before .pre .1 .0 .world) (c .before .before .before .before .before .before .before .before .pre .1 .1 .0) s in
     let r = ready-as (tree-is (c .before .before .before .before .before .before .before .before .pre .1 .0 .world) (c .before .before .before .before .before .before .before .before .pre .1 .1 .0) s) (c .before .before .before .before .before .before .before .before .pre .1 .0) in
-    (has-variable r f, (layout-room (c .before .before .before .before .before .before .before .before .pre .1 .0 .world) (c .before .before .before .before .before .before .before .before .pre .1 .1 .0), omega (arith, c .before .before .before .before .before .before .before .before .pre .1 .1 .1)))
+    (has-variable r (variable-few (c .before .before .before .before .before .before .before .before .pre .1 .0 .world) (c .before .before .before .before .before .before .before .before .pre .1 .1 .0) s), (layout-room (c .before .before .before .before .before .before .before .before .pre .1 .0 .world) (c .before .before .before .before .before .before .before .before .pre .1 .1 .0), omega (arith, c .before .before .before .before .before .before .before .before .pre .1 .1 .1)))
 
 eval-enum-told-2 : (t : ℕ) → eval-lts.Need-enum-told-2 (eval-calls t) (eval-at t) eval.Post
 eval-enum-told-2 t c = search needs
@@ -397,11 +396,10 @@ eval-same-length-3 : (t : ℕ) → eval-lts.Need-same-length-3 (eval-calls t) (e
 eval-same-length-3 t c = search needs
 
 eval-returns-3 : (t : ℕ) → eval-lts.Need-returns-3 (eval-calls t) (eval-at t) eval.Post
-unfolding RowFacts rowTree
+unfolding rowTree
 eval-returns-3 t c =
     let s = says-as (c .before .before .before .before .says .given .1) (c .before .before .before .before .before .before .expression-row .ensures) in
-    let f = facts (c .before .before .before .before .before .before .before .before .before .before .pre .1 .0 .world) (c .before .before .before .before .before .before .before .before .before .before .pre .1 .1 .0) s in
-    evaluates-as (tree-is (c .before .before .before .before .before .before .before .before .before .before .pre .1 .0 .world) (c .before .before .before .before .before .before .before .before .before .before .pre .1 .1 .0) s) (variable-evaluates f (c .before .fetch .ensures))
+    evaluates-as (tree-is (c .before .before .before .before .before .before .before .before .before .before .pre .1 .0 .world) (c .before .before .before .before .before .before .before .before .before .before .pre .1 .1 .0) s) (variable-evaluates (c .before .fetch .ensures))
 
 eval-same-length-4 : (t : ℕ) → eval-lts.Need-same-length-4 (eval-calls t) (eval-at t) eval.Post
 eval-same-length-4 t c = search needs

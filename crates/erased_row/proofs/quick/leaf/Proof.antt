@@ -6,10 +6,10 @@ use Rattle.profile.specs.Constants.{cell-as}
 use Rattle.profile.specs.Facts.{RowFacts, rowTree, says-as}
 use Rattle.profile.specs.Known.{row-known}
 use Rattle.cells.proofs.Moves.{cell-back}
-use Rattle.run.proofs.Parts.{states-room, cells-room}
-use Rattle.erased_row.proofs.Storing.{leaves-constant, leaves-empty}
+use Rattle.run.proofs.Parts.{cells-room}
+use Rattle.erased_row.proofs.Storing.{leaves-constant, flag-there, filled-there, leaves-empty}
 use Rattle.erased_row.proofs.Passing.{table-of, layout-room}
-use Rattle.erased_row.proofs.Cycle.{facts, tree-is, ready-as, evaluates-as, constant-evaluates, has-variable, variable-evaluates, has-current, current-evaluates}
+use Rattle.erased_row.proofs.Cycle.{facts, tree-is, variable-few, memory-of, ready-as, evaluates-as, constant-evaluates, variable-evaluates, has-current, current-evaluates}
 use Rattle.erased_row.proofs.OneCell.{at-once, left-over, current-cell, cell-current, cell-filled}
 use borrow.Author.Needs.{needs}
 use Rattle.erased_row.proofs.quick.leaf.Statement.{statement}
@@ -42,41 +42,26 @@ returns : tie.Need-returns
 returns c = left-over
 
 is-filled-requires : tie.Need-is-filled-requires
-unfolding RowFacts rowTree
 is-filled-requires c κs =
-    let s = says-as (c .before .before .before .says .given .1) (c .before .before .before .before .before .expression-row .ensures) in
-    let f = facts (c .before .before .before .before .before .before .before .before .before .pre .0 .world) (c .before .before .before .before .before .before .before .before .before .pre .1 .0) s in
-    let h = has-variable (ready-as (tree-is (c .before .before .before .before .before .before .before .before .before .pre .0 .world) (c .before .before .before .before .before .before .before .before .before .pre .1 .0) s) (c .before .before .before .before .before .before .before .before .before .pre .0)) f in
-    states-room (h .memory) _ (h .there)
+    let w = c .before .before .before .before .before .before .before .before .before .pre .0 .world in
+    flag-there (memory-of w) _ (variable-few w (c .before .before .before .before .before .before .before .before .before .pre .1 .0) (says-as (c .before .before .before .says .given .1) (c .before .before .before .before .before .expression-row .ensures)))
 
 returns-2 : tie.Need-returns-2
-unfolding RowFacts rowTree
+unfolding rowTree
 returns-2 c =
     let s = says-as (c .before .before .before .before .before .says .given .1) (c .before .before .before .before .before .before .before .expression-row .ensures) in
-    let f = facts (c .before .before .before .before .before .before .before .before .before .before .before .pre .0 .world) (c .before .before .before .before .before .before .before .before .before .before .before .pre .1 .0) s in
-    at-once (evaluates-as (tree-is (c .before .before .before .before .before .before .before .before .before .before .before .pre .0 .world) (c .before .before .before .before .before .before .before .before .before .before .before .pre .1 .0) s) (variable-evaluates f (λ vs vars h l z. leaves-empty h _ l _ _ (sym (c .before .is-filled .ensures) ∙ not-true _ (c .if2 .taken)))))
+    at-once (evaluates-as (tree-is (c .before .before .before .before .before .before .before .before .before .before .before .pre .0 .world) (c .before .before .before .before .before .before .before .before .before .before .before .pre .1 .0) s) (variable-evaluates (λ vs vars h z. leaves-empty h _ _ _ (sym (c .before .is-filled .ensures) ∙ not-true _ (c .if2 .taken)))))
 
 mul-stack : tie.Need-mul-stack
-unfolding RowFacts
-mul-stack c =
-    let w = c .before .before .before .before .before .before .before .before .before .before .before .pre .0 .world in
-    let f = facts w (c .before .before .before .before .before .before .before .before .before .before .before .pre .1 .0) (says-as (c .before .before .before .before .before .says .given .1) (c .before .before .before .before .before .before .before .expression-row .ensures)) in
-    omega (arith, f, w .count, w .few)
+mul-stack c = omega (arith, variable-few (c .before .before .before .before .before .before .before .before .before .before .before .pre .0 .world) (c .before .before .before .before .before .before .before .before .before .before .before .pre .1 .0) (says-as (c .before .before .before .before .before .says .given .1) (c .before .before .before .before .before .before .before .expression-row .ensures)))
 
 mul-stack-2 : tie.Need-mul-stack-2
-unfolding RowFacts
-mul-stack-2 c =
-    let w = c .before .before .before .before .before .before .before .before .before .before .before .pre .0 .world in
-    let f = facts w (c .before .before .before .before .before .before .before .before .before .before .before .pre .1 .0) (says-as (c .before .before .before .before .before .says .given .1) (c .before .before .before .before .before .before .before .expression-row .ensures)) in
-    omega (arith, f, w .count, w .few)
+mul-stack-2 c = omega (arith, variable-few (c .before .before .before .before .before .before .before .before .before .before .before .pre .0 .world) (c .before .before .before .before .before .before .before .before .before .before .before .pre .1 .0) (says-as (c .before .before .before .before .before .says .given .1) (c .before .before .before .before .before .before .before .expression-row .ensures)))
 
 shared-slice-copy-out-stack : tie.Need-shared-slice-copy-out-stack
-unfolding RowFacts rowTree
 shared-slice-copy-out-stack c =
-    let s = says-as (c .before .before .before .before .before .says .given .1) (c .before .before .before .before .before .before .before .expression-row .ensures) in
-    let f = facts (c .before .before .before .before .before .before .before .before .before .before .before .pre .0 .world) (c .before .before .before .before .before .before .before .before .before .before .before .pre .1 .0) s in
-    let h = has-variable (ready-as (tree-is (c .before .before .before .before .before .before .before .before .before .before .before .pre .0 .world) (c .before .before .before .before .before .before .before .before .before .before .before .pre .1 .0) s) (c .before .before .before .before .before .before .before .before .before .before .before .pre .0)) f in
-    omega (arith, cells-room (h .memory) _ (h .there))
+    let h = memory-of (c .before .before .before .before .before .before .before .before .before .before .before .pre .0 .world) in
+    omega (arith, cells-room h _ (filled-there h _ (sym (c .before .is-filled .ensures) ∙ not-false _ (c .if2 .left))))
 
 slice-set-from-stack-2 : tie.Need-slice-set-from-stack-2
 slice-set-from-stack-2 c = omega (arith, c .before .before .before .before .before .before .before .before .before .before .before .before .pre .1 .1)
@@ -137,13 +122,12 @@ same-length-3 : tie.Need-same-length-3
 same-length-3 c = search needs
 
 returns-5 : tie.Need-returns-5
-unfolding RowFacts rowTree
+unfolding rowTree
 returns-5 c =
     let s = says-as (c .before .before .before .before .before .before .says .given .1) (c .before .before .before .before .before .before .before .before .expression-row .ensures) in
-    let f = facts (c .before .before .before .before .before .before .before .before .before .before .before .before .pre .0 .world) (c .before .before .before .before .before .before .before .before .before .before .before .before .pre .1 .0) s in
     at-once
     (evaluates-as (tree-is (c .before .before .before .before .before .before .before .before .before .before .before .before .pre .0 .world) (c .before .before .before .before .before .before .before .before .before .before .before .before .pre .1 .0) s)
-    (variable-evaluates f (λ vs vars h l z. cell-filled h _ l (c .before .before .before .before .before .before .before .before .before .before .before .before .args .stack .now) _ (sym (c .before .before .is-filled .ensures) ∙ not-false _ (c .before .if2 .left)) (omega (arith, c .before .before .before .if1 .left, c .before .before .before .before .size-at .ensures, z)) (cell-back _ (c .stack .given)) (omega (arith, c .before .before .before .before .before .before .before .before .before .before .before .before .pre .1 .1)))))
+    (variable-evaluates (λ vs vars h z. cell-filled h _ (c .before .before .before .before .before .before .before .before .before .before .before .before .args .stack .now) _ (sym (c .before .before .is-filled .ensures) ∙ not-false _ (c .before .if2 .left)) (omega (arith, c .before .before .before .if1 .left, c .before .before .before .before .size-at .ensures, z)) (cell-back _ (c .stack .given)) (omega (arith, c .before .before .before .before .before .before .before .before .before .before .before .before .pre .1 .1)))))
 
 returns-6 : tie.Need-returns-6
 returns-6 c = left-over

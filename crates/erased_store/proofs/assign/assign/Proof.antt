@@ -1,13 +1,13 @@
 -- `assign` meets its contract, by those of `eval_plain` and `store`. Assumes nothing.
 use native.Mathlib.Omega.{arith}
 use Rattle.erased_row.proofs.Passing.{layout-room}
-use Rattle.erased_store.proofs.Instructions.{assign-ready, not-assigned, given, given-value, assigned-settles}
+use Rattle.erased_store.proofs.Instructions.{assign-there, assign-ready, not-assigned, given, given-value, assigned-settles}
 use borrow.Author.Needs.{needs}
 use Rattle.erased_store.proofs.assign.assign.Statement.{statement}
 use Rattle.erased_store.proofs.assign.assign.Tie as tie
 
 eval-plain-requires : tie.Need-eval-plain-requires
-eval-plain-requires c κs = let r = c .before .before .before .before .before .before .pre .0 .running in (assign-ready r (c .before .before .before .before .before .before .pre .1 .0 .2), (c .before .before .before .before .before .before .pre .1 .0 .1, omega (arith, c .before .before .before .before .before .before .pre .1 .0 .1, c .before .before .before .before .before .before .pre .1 .1)))
+eval-plain-requires c κs = let r = c .before .before .before .before .before .before .pre .0 in (assign-ready (r .running) (r .of-scope), (c .before .before .before .before .before .before .pre .1 .0, omega (arith, c .before .before .before .before .before .before .pre .1 .0, c .before .before .before .before .before .before .pre .1 .1)))
 
 same-length : tie.Need-same-length
 same-length c = search needs
@@ -19,13 +19,13 @@ same-length-3 : tie.Need-same-length-3
 same-length-3 c = search needs
 
 returns : tie.Need-returns
-returns c = λ vs w. not-assigned w (c .before .before .before .before .before .before .before .before .before .pre .1 .0 .2) (c .before .before .eval-plain .ensures) (c .if1 .taken)
+returns c = λ p a vs w row. not-assigned w row (c .before .before .eval-plain .ensures) (c .if1 .taken)
 
 size-at-requires : tie.Need-size-at-requires
-size-at-requires c κs = layout-room (c .before .before .before .before .before .before .before .before .before .pre .0 .running .world) (c .before .before .before .before .before .before .before .before .before .pre .1 .0 .1)
+size-at-requires c κs = layout-room (c .before .before .before .before .before .before .before .before .before .pre .0 .running .world) (c .before .before .before .before .before .before .before .before .before .pre .1 .0)
 
 store-requires : tie.Need-store-requires
-store-requires c κs = let r = c .before .before .before .before .before .before .before .before .before .before .before .before .before .pre .0 in let e = c .before .before .before .before .before .before .eval-plain .ensures in (record { store = r .store; running = r .running; there = omega (arith, r .running .world .count, c .before .before .before .before .before .before .before .before .before .before .before .before .before .pre .1 .0 .0); composite = given (r .running) (c .before .before .before .before .before .before .before .before .before .before .before .before .before .pre .1 .0 .2) e (c .before .before .before .before .if1 .left); is = given-value (r .running) (c .before .before .before .before .before .before .before .before .before .before .before .before .before .pre .1 .0 .2) e (c .before .before .before .before .if1 .left) (c .before .before .before .before .before .before .before .before .before .before .before .before .before .pre .1 .0 .1) _ (c .before .before .before .size-at .ensures) }, omega (arith, c .before .before .before .before .before .before .before .before .before .before .before .before .before .pre .1 .1, c .before .before .before .before .before .before .eval-plain .kept))
+store-requires c κs = let r = c .before .before .before .before .before .before .before .before .before .before .before .before .before .pre .0 in let e = c .before .before .before .before .before .before .eval-plain .ensures in (record { profile = r .profile; scope = r .scope; store = r .store; running = r .running; there = assign-there (r .running) (r .of-scope); composite = given (r .running) (r .of-scope) e (c .before .before .before .before .if1 .left); is = given-value (r .running) (r .of-scope) e (c .before .before .before .before .if1 .left) (c .before .before .before .before .before .before .before .before .before .before .before .before .before .pre .1 .0) _ (c .before .before .before .size-at .ensures) }, omega (arith, c .before .before .before .before .before .before .before .before .before .before .before .before .before .pre .1 .1, c .before .before .before .before .before .before .eval-plain .kept))
 
 same-length-4 : tie.Need-same-length-4
 same-length-4 c = search needs
@@ -37,7 +37,7 @@ same-length-6 : tie.Need-same-length-6
 same-length-6 c = search needs
 
 returns-2 : tie.Need-returns-2
-returns-2 c = λ vs w. let e = c .before .before .before .before .before .before .before .before .before .before .before .eval-plain .ensures in assigned-settles w (c .before .before .before .before .before .before .before .before .before .before .before .before .before .before .before .before .before .before .pre .1 .0 .2) e (c .before .before .before .before .before .before .before .before .before .if1 .left) (c .before .before .before .before .store .ensures vs _ w (omega (arith, w .world .count, c .before .before .before .before .before .before .before .before .before .before .before .before .before .before .before .before .before .before .pre .1 .0 .0)) (given-value w (c .before .before .before .before .before .before .before .before .before .before .before .before .before .before .before .before .before .before .pre .1 .0 .2) e (c .before .before .before .before .before .before .before .before .before .if1 .left) (c .before .before .before .before .before .before .before .before .before .before .before .before .before .before .before .before .before .before .pre .1 .0 .1) _ (c .before .before .before .before .before .before .before .before .size-at .ensures)))
+returns-2 c = λ p a vs w row. let e = c .before .before .before .before .before .before .before .before .before .before .before .eval-plain .ensures in assigned-settles w row e (c .before .before .before .before .before .before .before .before .before .if1 .left) (c .before .before .before .before .store .ensures p a vs _ w (assign-there w row) (given-value w row e (c .before .before .before .before .before .before .before .before .before .if1 .left) (c .before .before .before .before .before .before .before .before .before .before .before .before .before .before .before .before .before .before .pre .1 .0) _ (c .before .before .before .before .before .before .before .before .size-at .ensures)))
 
 pub assign-spec : {M : Type 1} → statement M
 assign-spec =

@@ -3,7 +3,8 @@ use native.Mathlib.Omega.{arith}
 use Rattle.run.proofs.Parts.{word-room}
 use Rattle.run.proofs.Settling.{keeps}
 use Rattle.erased_row.proofs.Cycle.{memory-of}
-use Rattle.erased_store.proofs.Assigning.{yoke-there, always-satisfied, value-narrow, value-ready, value-copied, own-admits, yoke-fails, room}
+use Rattle.erased_store.proofs.Assigning.{yoke-there, always-satisfied, value-ready, own-admits, yoke-fails, room}
+use Rattle.erased_store.proofs.Values.{value-copied}
 use borrow.Author.Needs.{needs}
 use Rattle.erased_store.proofs.store.store.Statement.{statement}
 use Rattle.erased_store.proofs.store.store.Tie as tie
@@ -24,19 +25,19 @@ same-length-3 : tie.Need-same-length-3
 same-length-3 c = search needs
 
 returns : tie.Need-returns
-returns c = λ vs x w l f. c .before .before .before .store-within .ensures _ _ _ vs x w l f (always-satisfied w _ l (c .before .before .before .before .before .before .before .before .yoke-of .ensures) x (c .before .before .before .before .before .before .before .if1 .taken))
+returns c = λ p a vs x w l f. c .before .before .before .store-within .ensures p a _ _ _ vs x w l f (always-satisfied w _ l (c .before .before .before .before .before .before .before .before .yoke-of .ensures) x (c .before .before .before .before .before .before .before .if1 .taken))
 
 slice-aggregate-copy : tie.Need-slice-aggregate-copy
 slice-aggregate-copy c = search needs
 
 copy-requires : tie.Need-copy-requires
-copy-requires c κs = let r = c .before .before .before .before .before .before .before .before .pre .0 in let k = value-narrow (r .running) _ (r .there) (r .is) in (omega (arith, k, c .before .before .before .before .before .before .before .before .pre .1), omega (arith, k))
+copy-requires c κs = let k = c .before .before .before .before .before .before .before .before .pre .0 .is .narrow in (omega (arith, k, c .before .before .before .before .before .before .before .before .pre .1), omega (arith, k))
 
 slice-aggregate-satisfies : tie.Need-slice-aggregate-satisfies
 slice-aggregate-satisfies c = search needs
 
 satisfies-requires : tie.Need-satisfies-requires
-satisfies-requires c κs = let r = c .before .before .before .before .before .before .before .before .before .before .before .before .before .before .pre .0 in let y = yoke-there (r .running) (c .before .before .before .before .before .before .before .before .before .before .before .before .before .before .args .n) (r .there) (c .before .before .before .before .before .before .before .before .before .yoke-of .ensures) in (value-ready (r .running) (c .before .before .before .before .before .before .before .before .before .before .before .before .before .before .args .n) (r .there) (value-copied (r .running) _ (r .there) (r .is) _ (c .before .before .before .before .before .copy .ensures)) (c .before .before .before .before .before .before .before .before .before .yoke-of .ensures), (y, omega (arith, y, c .before .before .before .before .before .before .before .before .before .before .before .before .before .before .pre .1)))
+satisfies-requires c κs = let r = c .before .before .before .before .before .before .before .before .before .before .before .before .before .before .pre .0 in let y = yoke-there (r .running) (c .before .before .before .before .before .before .before .before .before .before .before .before .before .before .args .n) (r .there) (c .before .before .before .before .before .before .before .before .before .yoke-of .ensures) in (value-ready (r .running) (c .before .before .before .before .before .before .before .before .before .before .before .before .before .before .args .n) (r .there) (value-copied (r .is) _ (c .before .before .before .before .before .copy .ensures)) (c .before .before .before .before .before .before .before .before .before .yoke-of .ensures), (y, omega (arith, y, c .before .before .before .before .before .before .before .before .before .before .before .before .before .before .pre .1)))
 
 same-length-4 : tie.Need-same-length-4
 same-length-4 c = search needs
@@ -48,13 +49,13 @@ same-length-6 : tie.Need-same-length-6
 same-length-6 c = search needs
 
 returns-2 : tie.Need-returns-2
-returns-2 c = λ vs x w l f. keeps _ (c .if2 .taken) (yoke-fails w _ x (f .declared-body) (own-admits w _ l (value-copied w _ l f _ (c .before .before .before .before .before .before .before .before .copy .ensures)) (c .before .before .before .before .before .before .before .before .before .before .before .before .yoke-of .ensures) (c .before .before .satisfies .ensures)) (c .if2 .taken))
+returns-2 c = λ p a vs x w l f. keeps _ (c .if2 .taken) (yoke-fails w _ x (f .declared-body) (own-admits w _ l (value-copied f _ (c .before .before .before .before .before .before .before .before .copy .ensures)) (c .before .before .before .before .before .before .before .before .before .before .before .before .yoke-of .ensures) (c .before .before .satisfies .ensures)) (c .if2 .taken))
 
 slice-aggregate-store-within : tie.Need-slice-aggregate-store-within
 slice-aggregate-store-within c = search needs
 
 store-within-requires-2 : tie.Need-store-within-requires-2
-store-within-requires-2 c κs = let r = c .before .before .before .before .before .before .before .before .before .before .before .before .before .before .before .before .before .before .before .before .pre .0 in room (r .running) _ (r .there) (value-copied (r .running) _ (r .there) (r .is) _ (c .before .before .before .before .before .before .before .before .before .before .before .copy .ensures)) (search needs)
+store-within-requires-2 c κs = let r = c .before .before .before .before .before .before .before .before .before .before .before .before .before .before .before .before .before .before .before .before .pre .0 in room (r .running) _ (r .there) (value-copied (r .is) _ (c .before .before .before .before .before .before .before .before .before .before .before .copy .ensures)) (search needs)
 
 same-length-7 : tie.Need-same-length-7
 same-length-7 c = search needs
@@ -66,7 +67,7 @@ same-length-9 : tie.Need-same-length-9
 same-length-9 c = search needs
 
 returns-3 : tie.Need-returns-3
-returns-3 c = λ vs x w l f. let g = value-copied w _ l f _ (c .before .before .before .before .before .before .before .before .before .before .before .before .before .before .before .copy .ensures) in c .before .before .before .store-within2 .ensures _ _ _ vs x w l g (record { holds = own-admits w _ l g (c .before .before .before .before .before .before .before .before .before .before .before .before .before .before .before .before .before .before .before .yoke-of .ensures) (c .before .before .before .before .before .before .before .before .before .satisfies .ensures) .answer (c .before .before .before .before .before .before .before .if2 .left) })
+returns-3 c = λ p a vs x w l f. let g = value-copied f _ (c .before .before .before .before .before .before .before .before .before .before .before .before .before .before .before .copy .ensures) in c .before .before .before .store-within2 .ensures p a _ _ _ vs x w l g (record { holds = own-admits w _ l g (c .before .before .before .before .before .before .before .before .before .before .before .before .before .before .before .before .before .before .before .yoke-of .ensures) (c .before .before .before .before .before .before .before .before .before .satisfies .ensures) .answer (c .before .before .before .before .before .before .before .if2 .left) })
 
 pub store-spec : {M : Type 1} → statement M
 store-spec =

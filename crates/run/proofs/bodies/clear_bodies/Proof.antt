@@ -10,10 +10,10 @@ use Rattle.run.proofs.bodies.clear_bodies.Statement.{statement}
 use Rattle.run.proofs.bodies.clear_bodies.Tie as tie
 
 abbrev Inv-loop : tie.InvT-loop
-Inv-loop variables₀ i₀ variables i = (i ≤ 1536) × (variables ≡ replicate i 0 ++ drop i variables₀) × (length variables ≡ length variables₀)
+Inv-loop variables₀ n i₀ variables i = (i ≤ n) × (variables ≡ replicate i 0 ++ drop i variables₀) × (length variables ≡ length variables₀)
 
 abbrev μ-loop : tie.MeasureT-loop
-μ-loop variables₀ i₀ variables i = 1536 - i
+μ-loop variables₀ n i₀ variables i = n - i
 
 loop-holds : tie.Need-loop-holds Inv-loop μ-loop
 loop-holds c = (omega arith, refl, refl)
@@ -34,7 +34,7 @@ same-length : tie.Need-same-length Inv-loop μ-loop
 same-length c = c .before .loop .inv .2
 
 returns : tie.Need-returns Inv-loop μ-loop
-returns c = filled (now (c .before .before .args .variables)) (c .before .loop .variables) 0 1536 (c .before .loop .i) (c .before .loop .inv .1) (omega arith) (c .before .before .pre)
+returns c = filled (now (c .before .before .args .variables)) (c .before .loop .variables) 0 (length (now (c .before .before .args .variables))) (c .before .loop .i) (c .before .loop .inv .1) (omega arith) refl
 
 pub clear-bodies-spec : {M : Type 1} → statement M
 clear-bodies-spec =

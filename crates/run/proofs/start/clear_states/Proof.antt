@@ -10,10 +10,10 @@ use Rattle.run.proofs.start.clear_states.Statement.{statement}
 use Rattle.run.proofs.start.clear_states.Tie as tie
 
 abbrev Inv-loop : tie.InvT-loop
-Inv-loop states₀ i₀ states i = (i ≤ 32) × (states ≡ replicate i 0 ++ drop i states₀) × (length states ≡ length states₀)
+Inv-loop states₀ n i₀ states i = (i ≤ n) × (states ≡ replicate i 0 ++ drop i states₀) × (length states ≡ length states₀)
 
 abbrev μ-loop : tie.MeasureT-loop
-μ-loop states₀ i₀ states i = 32 - i
+μ-loop states₀ n i₀ states i = n - i
 
 loop-holds : tie.Need-loop-holds Inv-loop μ-loop
 loop-holds c = (omega arith, refl, refl)
@@ -37,7 +37,7 @@ same-length : tie.Need-same-length Inv-loop μ-loop
 same-length c = c .before .loop .inv .2
 
 returns : tie.Need-returns Inv-loop μ-loop
-returns c = filled (now (c .before .before .args .states)) (c .before .loop .states) 0 32 (c .before .loop .i) (c .before .loop .inv .1) (omega arith) (c .before .before .pre)
+returns c = filled (now (c .before .before .args .states)) (c .before .loop .states) 0 (length (now (c .before .before .args .states))) (c .before .loop .i) (c .before .loop .inv .1) (omega arith) refl
 
 pub clear-states-spec : {M : Type 1} → statement M
 clear-states-spec =

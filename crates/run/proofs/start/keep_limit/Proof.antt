@@ -5,7 +5,7 @@ use lib.ListN.{length-set}
 use Rattle.lingua.specs.Numbers.{limit-section}
 use Rattle.profile.proofs.Declaring.{pairs}
 use Rattle.profile.proofs.Finding.{is-found, is-nothing}
-use Rattle.run.proofs.Unfilled.{few-variables}
+use Rattle.safety.specs.Accepted.{few-variables}
 use Rattle.run.proofs.Keeping.{find-name, found-room, limit-of-none, limit-kept}
 use borrow.Author.Needs.{needs}
 use Rattle.run.proofs.start.keep_limit.Statement.{statement}
@@ -72,7 +72,7 @@ same-length c = search needs
 
 returns-2 : tie.Need-returns-2
 returns-2 c =
-    limit-kept (now (c .before .before .before .before .before .before .before .before .before .args .rows)) (now (c .before .before .before .before .before .before .before .before .before .args .limits)) (now (c .before .before .before .before .before .before .before .before .before .args .kept)) (c .before .before .before .before .before .before .before .before .before .args .l) (omega (arith, c .before .before .before .before .before .before .before .before .before .pre .1 .1 .0, pairs (now (c .before .before .before .before .before .before .before .before .before .args .limits)) limit-section (c .before .before .before .before .before .before .before .before .before .args .u) (c .before .before .before .before .before .before .before .before .before .pre .1 .0 .1))) (c .before .before .before .before .before .before .before .before .before .pre .1 .1 .1) (c .before .before .before .before .before .before .before .before .before .pre .0 .names) (few-variables (now (c .before .before .before .before .before .before .before .before .before .args .rows)) (c .before .before .before .before .before .before .before .before .before .pre .0)) _
+    limit-kept (now (c .before .before .before .before .before .before .before .before .before .args .rows)) (now (c .before .before .before .before .before .before .before .before .before .args .limits)) (now (c .before .before .before .before .before .before .before .before .before .args .kept)) (c .before .before .before .before .before .before .before .before .before .args .l) (omega (arith, c .before .before .before .before .before .before .before .before .before .pre .1 .1 .0, pairs (now (c .before .before .before .before .before .before .before .before .before .args .limits)) limit-section (c .before .before .before .before .before .before .before .before .before .args .u) (c .before .before .before .before .before .before .before .before .before .pre .1 .0 .1))) (c .before .before .before .before .before .before .before .before .before .pre .1 .1 .1) (c .before .before .before .before .before .before .before .before .before .pre .0 .names) (few-variables (now (c .before .before .before .before .before .before .before .before .before .args .rows)) (c .before .before .before .before .before .before .before .before .before .pre .0) 0 (omega arith)) _
     (is-found _ _ (c .before .before .before .before .before .find .result) _ (c .before .before .before .found .given .1) (find-name (now (c .before .before .before .before .before .before .before .before .before .args .rows)) (now (c .before .before .before .before .before .before .before .before .before .args .limits)) (c .before .before .before .before .before .before .before .before .before .args .u) (c .before .before .before .before .before .before .before .before .before .args .l) (c .before .before .before .before .before .find .result) _ (c .before .before .before .before .before .before .before .before .before .pre .1 .0 .1) (c .before .before .before .before .before .before .bytes-at .ensures .0) (c .before .before .before .before .before .find .ensures))) _ _ (c .before .limit-low .ensures) (c .limit-high .ensures) (c .before .limit-low .ok) (c .limit-high .ok)
 
 pub keep-limit-spec : {M : Type 1} → statement M

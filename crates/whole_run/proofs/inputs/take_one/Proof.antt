@@ -1,6 +1,6 @@
 -- `whole_run::inputs::take_one` meets its contract: the reading is taken, or its error recorded. Assumes nothing.
 use mir.ValLaws.{toZ-ofZ}
-use Rattle.walk.proofs.Ways.{stores-number}
+use Rattle.frames.proofs.Ways.{stores-number}
 use Rattle.whole_run.proofs.Taking.{takes}
 use borrow.Author.Needs.{needs}
 use Rattle.whole_run.proofs.inputs.take_one.Statement.{statement}

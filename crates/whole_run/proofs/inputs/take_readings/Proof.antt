@@ -7,7 +7,7 @@ use borrow.Author.Needs.{needs}
 use lib.ListN.{length}
 use Rattle.cells.proofs.Moves.{cell-back}
 use Rattle.run.specs.Reached.{lent}
-use Rattle.walk.specs.Meaning.{context}
+use Rattle.frames.specs.Meaning.{context}
 use Rattle.whole_run.proofs.Taking.{few-readings, reads-variable, Taking, taking-first, taking-standing, taking-stops, taking-ends, taking-more}
 use Rattle.whole_run.proofs.inputs.take_readings.Statement.{statement}
 use Rattle.whole_run.proofs.inputs.take_readings.Tie as tie
