@@ -11,7 +11,7 @@ use Rattle.lingua.specs.Numbers.{layout-length}
 use Rattle.lingua.specs.Errors.{bad-buffer}
 use Rattle.lingua.specs.Value.{allOf}
 use Rattle.lingua.specs.Format.{rowsOf}
-use Rattle.lingua.specs.Refusal.{lowest, fileRules, rowRules, wholeFileRules, pairRules, typeCheckRefusal}
+use Rattle.lingua.specs.Refusal.{placeIn, rank, lowest, fileRules, rowRules, wholeFileRules, pairRules, typeCheckRefusal}
 use Rattle.lingua.specs.Trees.{profileOf}
 use Rattle.lingua.specs.Typing.{checkProfile}
 use Rattle.lingua.specs.Answers.{typeCheckMeaning}
@@ -27,7 +27,7 @@ use Rattle.typecheck.specs.Verdicts.{Concludes}
 use Rattle.typecheck.proofs.Answering.{verdict-passed, verdict-failed}
 
 above-one : (prof lims : List ℕ) → allAbove 1 (pairRules prof lims) ≡ true
-unfolding pairRules wholeFileRules fileRules rowRules allOf
+unfolding pairRules wholeFileRules fileRules rowRules allOf rank placeIn
 above-one prof lims = refl
 
 call-refused : (prof lims layout : List ℕ) (n m : ℕ) → typeCheckRefusal prof lims layout ≡ n → n ≡ suc m → typeCheckResult (check-answer.Refused n) layout ≡ typeCheckCall prof lims layout

@@ -22,13 +22,17 @@ pub fn run_both(
     budget: u16,
     cells: &mut [i64],
     states: &mut [u16],
+    open_cells: &mut [i64],
+    open_states: &mut [u16],
     bodies: &mut [u8],
     erased_cells: &mut [i64],
     erased_states: &mut [u16],
+    erased_open_cells: &mut [i64],
+    erased_open_states: &mut [u16],
     layout: &mut [u16],
 ) -> BothAnswers
-    ensures { λ r. ⌜ BothRuns (inputs (now (profile .entry)) (now (limits .entry)) (now (who .entry)) (now (numbers .entry))) budget (buffers (now (cells .entry)) (now (states .entry))) (now (bodies .entry)) (buffers (now («erased_cells» .entry)) (now («erased_states» .entry))) (now (layout .entry))
-        r (now (cells .exit)) (now (states .exit)) (now (bodies .exit)) (now («erased_cells» .exit)) (now («erased_states» .exit)) (now (layout .exit)) ⌝ }
+    ensures { λ r. ⌜ BothRuns (inputs (now (profile .entry)) (now (limits .entry)) (now (who .entry)) (now (numbers .entry))) budget (buffers (now (cells .entry)) (now (states .entry)) (now («open_cells» .entry)) (now («open_states» .entry))) (now (bodies .entry)) (buffers (now («erased_cells» .entry)) (now («erased_states» .entry)) (now («erased_open_cells» .entry)) (now («erased_open_states» .entry))) (now (layout .entry))
+        r (buffers (now (cells .exit)) (now (states .exit)) (now («open_cells» .exit)) (now («open_states» .exit))) (now (bodies .exit)) (buffers (now («erased_cells» .exit)) (now («erased_states» .exit)) (now («erased_open_cells» .exit)) (now («erased_open_states» .exit))) (now (layout .exit)) ⌝ }
 {
     let mut areas = [0u8; AREAS_LENGTH];
     let mut others = [0u8; AREA_BYTES];
@@ -44,6 +48,8 @@ pub fn run_both(
         budget,
         cells,
         states,
+        open_cells,
+        open_states,
         bodies,
     );
     let erased = erased_taken(
@@ -56,6 +62,8 @@ pub fn run_both(
         budget,
         erased_cells,
         erased_states,
+        erased_open_cells,
+        erased_open_states,
         layout,
     );
     BothAnswers {

@@ -1,5 +1,6 @@
 // The checked run as a public call (document 01: desk run). Any bytes and any buffers may be handed in; a refusal leaves all lent memory as
-// it was. A record may gain or lose an attribute while the run goes on, so the present bodies are handed out with the cells.
+// it was. A record may gain or lose an attribute while the run goes on, so the present bodies are handed out with the cells: the profile's,
+// then those of the calls that are open where the budget ran out.
 use lingua::RunAnswer;
 use lingua::sizes::AREA_BYTES;
 use lingua::sizes::AREAS_LENGTH;
@@ -19,10 +20,13 @@ pub fn run_checked(
     budget: u16,
     cells: &mut [i64],
     states: &mut [u16],
+    open_cells: &mut [i64],
+    open_states: &mut [u16],
     bodies: &mut [u8],
 ) -> RunAnswer
-    ensures { λ r. ⌜ checkedResult r (now (cells .exit)) (now (states .exit)) (now (bodies .exit)) ≡ checkedCall (inputs (now (profile .entry)) (now (limits .entry)) (now (who .entry)) (now (numbers .entry))) budget (buffers (now (cells .entry)) (now (states .entry))) (now (bodies .entry)) ⌝ }
-    ensures { λ r. ⌜ CheckedHolds (inputs (now (profile .entry)) (now (limits .entry)) (now (who .entry)) (now (numbers .entry))) (buffers (now (cells .entry)) (now (states .entry))) (now (bodies .entry)) (checkedResult r (now (cells .exit)) (now (states .exit)) (now (bodies .exit))) ⌝ }
+    ensures { λ r. ⌜ checkedResult r (buffers (now (cells .exit)) (now (states .exit)) (now («open_cells» .exit)) (now («open_states» .exit))) (now (bodies .exit))
+        ≡ checkedCall (inputs (now (profile .entry)) (now (limits .entry)) (now (who .entry)) (now (numbers .entry))) budget (buffers (now (cells .entry)) (now (states .entry)) (now («open_cells» .entry)) (now («open_states» .entry))) (now (bodies .entry)) ⌝ }
+    ensures { λ r. ⌜ CheckedHolds (inputs (now (profile .entry)) (now (limits .entry)) (now (who .entry)) (now (numbers .entry))) (buffers (now (cells .entry)) (now (states .entry)) (now («open_cells» .entry)) (now («open_states» .entry))) (now (bodies .entry)) (checkedResult r (buffers (now (cells .exit)) (now (states .exit)) (now («open_cells» .exit)) (now («open_states» .exit))) (now (bodies .exit))) ⌝ }
 {
     let mut areas = [0u8; AREAS_LENGTH];
     let mut others = [0u8; AREA_BYTES];
@@ -38,6 +42,8 @@ pub fn run_checked(
         budget,
         cells,
         states,
+        open_cells,
+        open_states,
         bodies,
     )
 }

@@ -18,9 +18,12 @@ pub fn run_erased(
     budget: u16,
     cells: &mut [i64],
     states: &mut [u16],
+    open_cells: &mut [i64],
+    open_states: &mut [u16],
     layout: &mut [u16],
 ) -> RunAnswer
-    ensures { λ r. ⌜ erasedResult r (now (cells .exit)) (now (states .exit)) (now (layout .exit)) ≡ erasedCall (inputs (now (profile .entry)) (now (limits .entry)) (now (who .entry)) (now (numbers .entry))) budget (buffers (now (cells .entry)) (now (states .entry))) (now (layout .entry)) ⌝ }
+    ensures { λ r. ⌜ erasedResult r (buffers (now (cells .exit)) (now (states .exit)) (now («open_cells» .exit)) (now («open_states» .exit))) (now (layout .exit))
+        ≡ erasedCall (inputs (now (profile .entry)) (now (limits .entry)) (now (who .entry)) (now (numbers .entry))) budget (buffers (now (cells .entry)) (now (states .entry)) (now («open_cells» .entry)) (now («open_states» .entry))) (now (layout .entry)) ⌝ }
 {
     let mut areas = [0u8; AREAS_LENGTH];
     let mut others = [0u8; AREA_BYTES];
@@ -36,6 +39,8 @@ pub fn run_erased(
         budget,
         cells,
         states,
+        open_cells,
+        open_states,
         layout,
     )
 }

@@ -17,13 +17,15 @@ use Rattle.lingua.specs.Value.{cellsOf, Composite}
 use Rattle.lingua.specs.Store.{Variable, variableAt, presentOf, presentBody, contents, filledFlag, cellsIn, statesIn, bodiesIn, filledAt}
 use Rattle.lingua.specs.Run.{run, lastState}
 use Rattle.lingua.specs.Rows.{untilZero, pairCount}
-use Rattle.lingua.specs.Trees.{tabulateFrom, tabulate, nameAt, declarationAt, profileOf}
+use Rattle.lingua.specs.Trees.{tabulateFrom, tabulate, nameAt, declarationIn, declarationAt, profileOf}
 use Rattle.lingua.specs.Format.{rowsOf}
 use Rattle.lingua.specs.Refusal.{lowest, pairRules}
 use Rattle.lingua.specs.Report.{newline, cellTexts, contentText, variableLines}
-use Rattle.laws.specs.Formed.{formed-bounds}
-use Rattle.safety.specs.Accepted.{accepted-pair, accepted-invariant}
-use Rattle.safety.specs.Memory.{states-at, run-length, present-formed}
+use Rattle.laws.specs.Formed.{formed-bounds, formed-as}
+use Rattle.safety.specs.Accepted.{accepted-pair, accepted-invariant, profile-well-made}
+use Rattle.safety.specs.Formed.{ContentsFormed}
+use Rattle.safety.specs.Programs.{kept-body}
+use Rattle.safety.specs.Memory.{states-at, run-length, Known, end-known}
 use Rattle.rules.specs.Accepted.{counts}
 use Rattle.run.proofs.Parts.{content-at}
 use Rattle.checked_row.proofs.Storing.{memory-of}
@@ -39,7 +41,7 @@ lines-of : (rows lims : List ℕ) (cells : List ℤ) (states : List ℕ) (ws : L
     → length vs ≡ n
     → ((k : ℕ) → k < n → contentText (variableAt vs k .content) ≡ contentOf (filledAt states (i + k)) (bodyCells cells ws (i + k)))
     → variableLines (tabulateFrom i n (λ d. declarationAt rows lims d)) vs ≡ memoryLines rows cells states ws i n
-unfolding variableLines tabulateFrom memoryLines memoryLine variableLine declarationAt
+unfolding variableLines tabulateFrom memoryLines memoryLine variableLine declarationIn declarationAt
 lines-of rows lims cells states ws i zero vs e h = refl
 lines-of rows lims cells states ws i (suc n) [] e h = absurd (let z : ⊥ = omega arith in z)
 lines-of rows lims cells states ws i (suc n) (v ∷ vs) e h =
@@ -65,10 +67,18 @@ module _ (prof lims : List ℕ) (e : lowest (pairRules prof lims) ≡ 0) (budget
 
   store-length : length store ≡ pairCount rows declaration-section
   unfolding profileOf tabulate
-  store-length = run-length (profileOf (rowsOf prof) (rowsOf lims)) [] budget ∙ length-tabulate (λ d. declarationAt rows (rowsOf lims) d) 0 (pairCount rows declaration-section)
+  store-length = run-length (profileOf (rowsOf prof) (rowsOf lims)) (profile-well-made (rowsOf prof) (accepted-pair prof lims e) (rowsOf lims)) [] budget ∙ length-tabulate (λ d. declarationAt rows (rowsOf lims) d) 0 (pairCount rows declaration-section)
 
   formed : (d : ℕ) → WellFormed (presentBody (variableAt store d))
-  formed d = present-formed rows (rowsOf lims) (accepted-pair prof lims e) [] budget d
+  unfolding ContentsFormed
+  formed d = by (contents store d) refl
+    where
+      known : Known (rowsOf prof) (profileOf (rowsOf prof) (rowsOf lims) .declarations) (lastState (run (profileOf (rowsOf prof) (rowsOf lims)) [] budget) .store)
+      known = end-known (rowsOf prof) (accepted-pair prof lims e) (rowsOf lims) [] budget
+
+      by : (c : Option Composite) → contents store d ≡ c → WellFormed (presentOf (variableAt store d .body) c)
+      by none q = formed-as (sym (kept-body (profileOf (rowsOf prof) (rowsOf lims) .declarations) store (known .kept) d)) (known .declared d)
+      by (some x) q = known .formed d x q
 
   -- the memory holds the store
   pub store-left : Left rows (bodiesIn store) (cellsIn store) (statesIn store) store

@@ -1,7 +1,7 @@
 -- The variables' lines as they are read off the caller's memory that a run leaves. Assumes nothing: these are definitions.
 use mathlib.Core.Path.{_≡_}
 use mathlib.Core.List.{List, [], _++_}
-use Prim.Native.Nat.{ℕ, zero, suc, _*_}
+use Prim.Native.Nat.{ℕ, zero, suc, _*_, _<_}
 use lib.ListN.{length, take, drop}
 use lib.IntN.{ℤ}
 use Rattle.lingua.specs.Numbers.{body-cells, declaration-section}
@@ -13,6 +13,14 @@ use Rattle.lingua.specs.Format.{rowsOf}
 use Rattle.lingua.specs.Refusal.{lowest, pairRules}
 use Rattle.checked_row.specs.Meaning.{Stored}
 use Rattle.text.specs.Line.{variableLine}
+
+-- present bodies of some store that has a variable d
+pub record HasBody (present : List ℕ) (d : ℕ) : Type 0 where
+  pub cells : List ℤ
+  pub states : List ℕ
+  pub store : List Variable
+  pub stored : Stored present cells states store
+  pub there : d < length store
 
 -- memory that a run left: it holds a store of the declared variables, with their present bodies
 pub record Left (rows present : List ℕ) (cells : List ℤ) (states : List ℕ) (vs : List Variable) : Type 0 where

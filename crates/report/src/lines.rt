@@ -16,13 +16,13 @@ ghost use Rattle.lingua.specs.Body.{size};
 ghost use Rattle.lingua.specs.Rows.{pairCount};
 ghost use Rattle.lingua.specs.Store.{Variable, variableAt, presentBody};
 ghost use Rattle.decoder.specs.Tables.{IsTable};
-ghost use Rattle.checked_row.specs.Meaning.{Stored, HasStored};
+ghost use Rattle.checked_row.specs.Meaning.{Stored};
 ghost use Rattle.text.specs.Appended.{Appended};
-ghost use Rattle.report.specs.Memory.{Left, HasLeft, memoryLine, memoryLines};
+ghost use Rattle.report.specs.Memory.{HasBody, Left, HasLeft, memoryLine, memoryLines};
 
 // How many cells the present body of variable d takes.
 fn present_cells(bodies: &[u8], d: usize) -> usize
-    requires { ⌜ ((cells : List ℤ) × ((states : List ℕ) × HasStored (now bodies) cells states d)) ⌝ }
+    requires { ⌜ HasBody (now bodies) d ⌝ }
     ensures { λ r. ⌜ ((cells : List ℤ) (states : List ℕ) (vs : List Variable) → Stored (now (bodies .entry)) cells states vs → d < length vs → r ≡ size (presentBody (variableAt vs d))) ⌝ }
 {
     let body = present(bodies, d);

@@ -8,7 +8,7 @@ mod variables; // variables.rt: the variables' lines of two files
 use libc::STDOUT_FILENO;
 use lingua::sizes::LONGEST_FILE;
 
-// A profile has at most 8,704 bytes, so a file that fills a buffer is refused for its length, as it would be whole.
+// A profile has at most 11,264 bytes, so a file that fills a buffer is refused for its length, as it would be whole.
 fn main() {
     let mut profile = [0u8; LONGEST_FILE + 1];
     let mut limits = [0u8; LONGEST_FILE + 1];

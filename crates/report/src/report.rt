@@ -1,9 +1,12 @@
-// The whole report. Both files are taken once, for the run and for the names.
+// The whole report. Both files are taken once, for the run and for the names. It tells of the profile's own variables, not of open calls.
 use crate::answers::put_answer;
 use crate::variables::put_variables;
 use lingua::sizes::AREA_BYTES;
 use lingua::sizes::AREAS_LENGTH;
 use lingua::sizes::CELLS_LENGTH;
+use lingua::sizes::OPEN_CELLS_LENGTH;
+use lingua::sizes::OPEN_STATES_LENGTH;
+use lingua::sizes::PRESENT_BODIES_LENGTH;
 use lingua::sizes::REPORT_BUDGET;
 use lingua::sizes::STATES_LENGTH;
 use lingua::sizes::TYPE_BODIES_LENGTH;
@@ -28,7 +31,9 @@ pub(crate) fn report_text(profile: &[u8], limits: &[u8], out: &mut [u8]) -> usiz
     let numbers = [0i64; 0];
     let mut cells = [0i64; CELLS_LENGTH];
     let mut states = [0u16; STATES_LENGTH];
-    let mut bodies = [0u8; VARIABLE_BODIES_LENGTH];
+    let mut open_cells = [0i64; OPEN_CELLS_LENGTH];
+    let mut open_states = [0u16; OPEN_STATES_LENGTH];
+    let mut bodies = [0u8; PRESENT_BODIES_LENGTH];
     let answer = checked_taken(
         pair,
         &areas,
@@ -39,8 +44,18 @@ pub(crate) fn report_text(profile: &[u8], limits: &[u8], out: &mut [u8]) -> usiz
         REPORT_BUDGET,
         &mut cells,
         &mut states,
+        &mut open_cells,
+        &mut open_states,
         &mut bodies,
     );
     let end = put_answer(answer, out);
-    put_variables(pair, &areas, &cells, &states, &bodies, out, end)
+    put_variables(
+        pair,
+        &areas,
+        &cells,
+        &states,
+        &bodies[..VARIABLE_BODIES_LENGTH],
+        out,
+        end,
+    )
 }

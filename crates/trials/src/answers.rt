@@ -53,22 +53,26 @@ pub(crate) fn run_line(
     kept: bool,
     cells: &[i64],
     states: &[u16],
+    open_cells: &[i64],
+    open_states: &[u16],
     out: &mut [u8],
 ) -> usize {
-    match answer {
-        RunAnswer::Refused(number) => refused(number, kept, out),
-        RunAnswer::Finished { steps } => ended_line(ending(0, 0, 0, steps), cells, states, out),
+    let ended = match answer {
+        RunAnswer::Refused(number) => return refused(number, kept, out),
+        RunAnswer::Finished { steps } => ending(0, 0, 0, steps),
         RunAnswer::Failed {
             error,
             place,
             steps,
-        } => ended_line(ending(1, error, place, steps), cells, states, out),
+        } => ending(1, error, place, steps),
         RunAnswer::Out {
             error,
             place,
             steps,
-        } => ended_line(ending(2, error, place, steps), cells, states, out),
-    }
+        } => ending(2, error, place, steps),
+    };
+    let end = put_registers(ended, cells, states, out);
+    open_line(end, open_cells, open_states, out)
 }
 
 fn put_ended(ended: Ended, out: &mut [u8]) -> usize {
@@ -79,11 +83,19 @@ fn put_ended(ended: Ended, out: &mut [u8]) -> usize {
     put_field(out, place, ended.steps as u64)
 }
 
-fn ended_line(ended: Ended, cells: &[i64], states: &[u16], out: &mut [u8]) -> usize {
+fn put_registers(ended: Ended, cells: &[i64], states: &[u16], out: &mut [u8]) -> usize {
     let numbers = put_ended(ended, out);
     let before = put_bytes(out, numbers, b" cells ");
     let between = put_cells(out, before, cells);
     let after = put_bytes(out, between, b" marks ");
+    put_words(out, after, states)
+}
+
+// The open calls, and the line's end.
+fn open_line(at: usize, cells: &[i64], states: &[u16], out: &mut [u8]) -> usize {
+    let before = put_bytes(out, at, b" open ");
+    let between = put_cells(out, before, cells);
+    let after = put(out, between, b' ');
     let end = put_words(out, after, states);
     put(out, end, b'\n')
 }

@@ -21,9 +21,11 @@ use lingua::FileKind;
 use lingua::sizes::BLOCK_BYTES;
 use lingua::sizes::CELLS_LENGTH;
 use lingua::sizes::LAYOUT_LENGTH;
+use lingua::sizes::OPEN_CELLS_LENGTH;
+use lingua::sizes::OPEN_STATES_LENGTH;
+use lingua::sizes::PRESENT_BODIES_LENGTH;
 use lingua::sizes::ROWS_LENGTH;
 use lingua::sizes::STATES_LENGTH;
-use lingua::sizes::VARIABLE_BODIES_LENGTH;
 
 pub enum KindFound {
     Of(FileKind),
@@ -208,6 +210,7 @@ fn run_files(line: &[u8], kind: RunKind, profile: &[u8], limits: &[u8], out: &mu
     )
 }
 
+// The area for open calls, which every run is lent, lies here once and not with each run's other buffers.
 fn run(
     kind: RunKind,
     profile: &[u8],
@@ -217,11 +220,70 @@ fn run(
     budget: u16,
     out: &mut [u8],
 ) -> usize {
+    let mut cells = [nonsense::CELL; OPEN_CELLS_LENGTH];
+    let mut states = [nonsense::WORD; OPEN_STATES_LENGTH];
+    run_kind(
+        kind,
+        profile,
+        limits,
+        variables,
+        numbers,
+        budget,
+        &mut cells,
+        &mut states,
+        out,
+    )
+}
+
+fn run_kind(
+    kind: RunKind,
+    profile: &[u8],
+    limits: &[u8],
+    variables: &[u16],
+    numbers: &[i64],
+    budget: u16,
+    open_cells: &mut [i64],
+    open_states: &mut [u16],
+    out: &mut [u8],
+) -> usize {
     match kind {
-        RunKind::Desk => run_checked(profile, limits, variables, numbers, budget, false, out),
-        RunKind::Bodies => run_checked(profile, limits, variables, numbers, budget, true, out),
-        RunKind::Chair => run_erased(profile, limits, variables, numbers, budget, out),
+        RunKind::Desk => run_checked(
+            profile,
+            limits,
+            variables,
+            numbers,
+            budget,
+            false,
+            open_cells,
+            open_states,
+            out,
+        ),
+        RunKind::Bodies => run_checked(
+            profile,
+            limits,
+            variables,
+            numbers,
+            budget,
+            true,
+            open_cells,
+            open_states,
+            out,
+        ),
+        RunKind::Chair => run_erased(
+            profile,
+            limits,
+            variables,
+            numbers,
+            budget,
+            open_cells,
+            open_states,
+            out,
+        ),
     }
+}
+
+fn area_kept(cells: &[i64], states: &[u16]) -> bool {
+    nonsense::cells_kept(cells) && nonsense::words_kept(states)
 }
 
 // A desk line shows the cells and the state words; `present` asks for the present bodies of the same run in their place.
@@ -232,11 +294,13 @@ fn run_checked(
     numbers: &[i64],
     budget: u16,
     present: bool,
+    open_cells: &mut [i64],
+    open_states: &mut [u16],
     out: &mut [u8],
 ) -> usize {
     let mut cells = [nonsense::CELL; CELLS_LENGTH];
     let mut states = [nonsense::WORD; STATES_LENGTH];
-    let mut bodies = [nonsense::BYTE; VARIABLE_BODIES_LENGTH];
+    let mut bodies = [nonsense::BYTE; PRESENT_BODIES_LENGTH];
     let answer = calls::checked_run::run_checked(
         profile,
         limits,
@@ -245,15 +309,17 @@ fn run_checked(
         budget,
         &mut cells,
         &mut states,
+        &mut *open_cells,
+        &mut *open_states,
         &mut bodies,
     );
-    let kept = nonsense::cells_kept(&cells)
-        && nonsense::words_kept(&states)
+    let kept = area_kept(&cells, &states)
+        && area_kept(open_cells, open_states)
         && nonsense::bytes_kept(&bodies);
     if present {
         return bodies_line(answer, kept, &bodies, out);
     }
-    run_line(answer, kept, &cells, &states, out)
+    run_line(answer, kept, &cells, &states, open_cells, open_states, out)
 }
 
 fn run_erased(
@@ -262,6 +328,8 @@ fn run_erased(
     variables: &[u16],
     numbers: &[i64],
     budget: u16,
+    open_cells: &mut [i64],
+    open_states: &mut [u16],
     out: &mut [u8],
 ) -> usize {
     let mut cells = [nonsense::CELL; CELLS_LENGTH];
@@ -275,10 +343,12 @@ fn run_erased(
         budget,
         &mut cells,
         &mut states,
+        &mut *open_cells,
+        &mut *open_states,
         &mut layout,
     );
-    let kept = nonsense::cells_kept(&cells)
-        && nonsense::words_kept(&states)
+    let kept = area_kept(&cells, &states)
+        && area_kept(open_cells, open_states)
         && nonsense::words_kept(&layout);
-    run_line(answer, kept, &cells, &states, out)
+    run_line(answer, kept, &cells, &states, open_cells, open_states, out)
 }

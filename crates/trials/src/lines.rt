@@ -7,8 +7,8 @@ use crate::answers::bad_case;
 use crate::cases::answer;
 use crate::fields::find;
 use crate::first;
+use crate::output::send;
 use libc::STDIN_FILENO;
-use libc::STDOUT_FILENO;
 
 // Where the input stands: what was read and not yet taken lies from `from` to `to`. While `skipping`, it belongs to a
 // line that was too long and has its answer already.
@@ -123,8 +123,4 @@ fn read_more(kept: usize, skipping: bool, input: &mut [u8], out: &mut [u8]) -> R
 fn send_answer(line: &[u8], out: &mut [u8]) -> bool {
     let n = answer(line, out);
     send(n, out)
-}
-
-fn send(n: usize, out: &[u8]) -> bool {
-    io::write_all(STDOUT_FILENO, first::bytes(out, n))
 }

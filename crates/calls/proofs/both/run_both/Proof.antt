@@ -28,7 +28,7 @@ slice-aggregate-checked-taken-3 : tie.Need-slice-aggregate-checked-taken-3
 slice-aggregate-checked-taken-3 c = search needs
 
 checked-taken-requires : tie.Need-checked-taken-requires
-checked-taken-requires c κs = record { prof = _; lims = _; is = c .before .before .before .before .before .before .before .before .before .take-pair .ensures }
+checked-taken-requires c κs = record { prof = _; lims = _; is = c .before .before .before .before .before .before .before .before .before .before .before .take-pair .ensures }
 
 slice-aggregate-erased-taken : tie.Need-slice-aggregate-erased-taken
 slice-aggregate-erased-taken c = search needs
@@ -40,7 +40,7 @@ slice-aggregate-erased-taken-3 : tie.Need-slice-aggregate-erased-taken-3
 slice-aggregate-erased-taken-3 c = search needs
 
 erased-taken-requires : tie.Need-erased-taken-requires
-erased-taken-requires c κs = record { prof = _; lims = _; is = c .before .before .before .before .before .before .before .before .before .before .before .before .before .before .before .before .before .before .before .before .before .take-pair .ensures }
+erased-taken-requires c κs = record { prof = _; lims = _; is = c .before .before .before .before .before .before .before .before .before .before .before .before .before .before .before .before .before .before .before .before .before .before .before .before .before .before .before .before .take-pair .ensures }
 
 same-length : tie.Need-same-length
 same-length c = search needs
@@ -60,8 +60,20 @@ same-length-5 c = search needs
 same-length-6 : tie.Need-same-length-6
 same-length-6 c = search needs
 
+same-length-7 : tie.Need-same-length-7
+same-length-7 c = search needs
+
+same-length-8 : tie.Need-same-length-8
+same-length-8 c = search needs
+
+same-length-9 : tie.Need-same-length-9
+same-length-9 c = search needs
+
+same-length-10 : tie.Need-same-length-10
+same-length-10 c = search needs
+
 returns : tie.Need-returns
-returns c = both-run _ (c .before .before .before .before .before .before .before .before .before .before .before .before .before .before .before .before .before .checked-taken .ensures _ _ (c .before .before .before .before .before .before .before .before .before .before .before .before .before .before .before .before .before .before .before .before .before .before .before .before .before .before .before .take-pair .ensures)) (c .before .before .before .before .before .erased-taken .ensures _ _ (c .before .before .before .before .before .before .before .before .before .before .before .before .before .before .before .before .before .before .before .before .before .before .before .before .before .before .before .take-pair .ensures))
+returns c = both-run _ (c .before .before .before .before .before .before .before .before .before .before .before .before .before .before .before .before .before .before .before .before .before .before .before .before .before .checked-taken .ensures _ _ (c .before .before .before .before .before .before .before .before .before .before .before .before .before .before .before .before .before .before .before .before .before .before .before .before .before .before .before .before .before .before .before .before .before .before .before .before .before .take-pair .ensures)) (c .before .before .before .before .before .before .before .before .erased-taken .ensures _ _ (c .before .before .before .before .before .before .before .before .before .before .before .before .before .before .before .before .before .before .before .before .before .before .before .before .before .before .before .before .before .before .before .before .before .before .before .before .before .take-pair .ensures))
 
 pub run-both-spec : {M : Type 1} → statement M
 run-both-spec =
@@ -85,4 +97,8 @@ run-both-spec =
     same-length-4
     same-length-5
     same-length-6
+    same-length-7
+    same-length-8
+    same-length-9
+    same-length-10
     returns)

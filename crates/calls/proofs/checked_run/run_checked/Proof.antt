@@ -28,7 +28,7 @@ slice-aggregate-checked-taken-3 : tie.Need-slice-aggregate-checked-taken-3
 slice-aggregate-checked-taken-3 c = search needs
 
 checked-taken-requires : tie.Need-checked-taken-requires
-checked-taken-requires c κs = record { prof = _; lims = _; is = c .before .before .before .before .before .before .before .before .before .take-pair .ensures }
+checked-taken-requires c κs = record { prof = _; lims = _; is = c .before .before .before .before .before .before .before .before .before .before .before .take-pair .ensures }
 
 same-length : tie.Need-same-length
 same-length c = search needs
@@ -39,8 +39,14 @@ same-length-2 c = search needs
 same-length-3 : tie.Need-same-length-3
 same-length-3 c = search needs
 
+same-length-4 : tie.Need-same-length-4
+same-length-4 c = search needs
+
+same-length-5 : tie.Need-same-length-5
+same-length-5 c = search needs
+
 returns : tie.Need-returns
-returns c = let e = c .before .before .before .before .before .checked-taken .ensures _ _ (c .before .before .before .before .before .before .before .before .before .before .before .before .before .before .before .take-pair .ensures) in (e, checked-holds _ (c .before .before .before .before .before .before .before .before .before .before .before .before .before .before .before .before .before .before .before .before .before .before .before .before .args .budget) _ _ _ e)
+returns c = let e = c .before .before .before .before .before .before .before .before .checked-taken .ensures _ _ (c .before .before .before .before .before .before .before .before .before .before .before .before .before .before .before .before .before .before .before .before .take-pair .ensures) in (e, checked-holds _ (c .before .before .before .before .before .before .before .before .before .before .before .before .before .before .before .before .before .before .before .before .before .before .before .before .before .before .before .before .before .before .args .budget) _ _ _ e)
 
 pub run-checked-spec : {M : Type 1} → statement M
 run-checked-spec =
@@ -57,4 +63,6 @@ run-checked-spec =
     same-length
     same-length-2
     same-length-3
+    same-length-4
+    same-length-5
     returns)

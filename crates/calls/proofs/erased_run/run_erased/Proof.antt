@@ -27,7 +27,7 @@ slice-aggregate-erased-taken-3 : tie.Need-slice-aggregate-erased-taken-3
 slice-aggregate-erased-taken-3 c = search needs
 
 erased-taken-requires : tie.Need-erased-taken-requires
-erased-taken-requires c κs = record { prof = _; lims = _; is = c .before .before .before .before .before .before .before .before .before .take-pair .ensures }
+erased-taken-requires c κs = record { prof = _; lims = _; is = c .before .before .before .before .before .before .before .before .before .before .before .take-pair .ensures }
 
 same-length : tie.Need-same-length
 same-length c = search needs
@@ -38,8 +38,14 @@ same-length-2 c = search needs
 same-length-3 : tie.Need-same-length-3
 same-length-3 c = search needs
 
+same-length-4 : tie.Need-same-length-4
+same-length-4 c = search needs
+
+same-length-5 : tie.Need-same-length-5
+same-length-5 c = search needs
+
 returns : tie.Need-returns
-returns c = c .before .before .before .before .before .erased-taken .ensures _ _ (c .before .before .before .before .before .before .before .before .before .before .before .before .before .before .before .take-pair .ensures)
+returns c = c .before .before .before .before .before .before .before .before .erased-taken .ensures _ _ (c .before .before .before .before .before .before .before .before .before .before .before .before .before .before .before .before .before .before .before .before .take-pair .ensures)
 
 pub run-erased-spec : {M : Type 1} → statement M
 run-erased-spec =
@@ -56,4 +62,6 @@ run-erased-spec =
     same-length
     same-length-2
     same-length-3
+    same-length-4
+    same-length-5
     returns)

@@ -4,10 +4,10 @@ use Rattle.report.proofs.lines.present_cells.Statement.{statement}
 use Rattle.report.proofs.lines.present_cells.Tie as tie
 
 present-requires : tie.Need-present-requires
-present-requires c κs = let h = c .before .pre .1 .1 in body-room (h .stored) _ (h .there)
+present-requires c κs = let h = c .before .pre in body-room (h .stored) _ (h .there)
 
 measure-body-requires : tie.Need-measure-body-requires
-measure-body-requires c κs = let h = c .before .before .pre .1 .1 in record { body = _; holds = present-held (h .stored) _ (h .there) _ (c .present .ensures) }
+measure-body-requires c κs = let h = c .before .before .pre in record { body = _; holds = present-held (h .stored) _ (h .there) _ (c .present .ensures) }
 
 returns : tie.Need-returns
 returns c = λ cells states vs h l. c .measure-body .ensures _ (present-held h _ l _ (c .before .present .ensures)) .is-cells

@@ -23,7 +23,7 @@ bytes-at-requires : tie.Need-bytes-at-requires
 bytes-at-requires c κs = search needs
 
 present-cells-requires : tie.Need-present-cells-requires
-present-cells-requires c κs = let h = c .before .before .before .before .before .pre .1 .1 in (_, (_, record { store = h .store; stored = h .left .stored; there = there (h .left) (c .before .before .before .before .before .pre .0) (c .before .before .before .before .before .pre .1 .0) }))
+present-cells-requires c κs = let h = c .before .before .before .before .before .pre .1 .1 in record { cells = _; states = _; store = h .store; stored = h .left .stored; there = there (h .left) (c .before .before .before .before .before .pre .0) (c .before .before .before .before .before .pre .1 .0) }
 
 mul-from : tie.Need-mul-from
 mul-from c =
