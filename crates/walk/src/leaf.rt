@@ -14,7 +14,7 @@ ghost use Rattle.run.specs.Reached.{lent, Going, Passes};
 ghost use Rattle.frames.specs.Meaning.{context};
 ghost use Rattle.walk.specs.Meaning.{AskedLeaf, AssignAt, SetYokeAt, ExecutesLeaf};
 
-pub fn skip(m: Status) -> Status
+pub(crate) fn skip(m: Status) -> Status
     requires { ⌜ Going m ⌝ }
     ensures { λ r. ⌜ ((row : ℕ) → Passes m r (skipTree row)) ⌝ }
 {
@@ -25,7 +25,7 @@ pub fn skip(m: Status) -> Status
 }
 
 // Variable n takes what expression row e gives.
-pub fn assignment(
+pub(crate) fn assignment(
     row: usize,
     n: usize,
     e: usize,
@@ -69,7 +69,7 @@ pub fn assignment(
 }
 
 // Variable n's yoke becomes y.
-pub fn yoke_change(
+pub(crate) fn yoke_change(
     row: usize,
     n: usize,
     y: usize,
