@@ -1,6 +1,6 @@
 -- Worked examples of procedures (document 02, 3): copies in and out, limits, too many open calls, what a run out of budget leaves, and the
 -- type check of a call; then the same of files, whose variables a row names, and the refusals. Each is computed and compared. Assumes nothing.
-use mathlib.Core.Path.{_≡_, refl}
+use mathlib.Core.Path.{_≡_, refl, ap, _∙_}
 use mathlib.Core.Bool.{true, false}
 use mathlib.Core.List.{List, [], _∷_, _++_}
 use mathlib.Core.Option.{Option, none}
@@ -22,10 +22,11 @@ use Rattle.lingua.specs.Format.{profile, limits, fileOf, lengthWrong}
 use Rattle.lingua.specs.Refusal.{readRefusal, typeCheckRefusal}
 use Rattle.lingua.specs.Answers.{answered, Ending, ending, passed}
 use Rattle.lingua.specs.Inputs.{inputs, buffers}
-use Rattle.lingua.specs.Calls.{endingOf, runOf, typeCheckCall, checkedCall}
+use Rattle.lingua.specs.Calls.{CheckedCall, endingOf, runOf, typeCheckCall, checkedCall}
 use Rattle.lingua.specs.Edges.{literal, one-by-zero, up-to-600, below-five}
-use Rattle.lingua.specs.Examples.{row, example-limits, example-limits-file, fives}
+use Rattle.lingua.specs.Examples.{row, example-limits, example-limits-file, limits-made, fives}
 use Rattle.lingua.specs.Computing.{computing}
+use Rattle.lingua.specs.Quick.{quickly, made, file-made, readBy, read-by, refusedBy, refused-by, type-check-by, checked-by}
 
 -- ---- a profile with SPEED, up to 600, and GAIN; procedure 0 has a gain by value and a speed by reference
 abbrev pub plain : Yoke → Option Limit → Declaration
@@ -244,14 +245,14 @@ two-cells m n = pos m ∷ (replicate 63 (pos 0) ++ (pos n ∷ replicate 959 (pos
 -- SPEED is 120, no call is open, and both have their declared body
 pub ramp-gives : checkedCall (inputs (file ramp-rows) example-limits-file [] []) 9 fives (replicate present-bodies-length 7)
     ≡ record { answer = answered (ending 0 0 0 4); registers = buffers (two-cells 120 20) (1 ∷ 0 ∷ 1 ∷ replicate 29 0) (replicate 16384 (pos 0)) (replicate 512 0); bodies = (2 ∷ replicate 95 0) ++ (2 ∷ replicate 26015 0) }
-unfolding computing ramp-rows example-limits-file example-limits
-ramp-gives = refl
+unfolding computing quickly ramp-rows example-limits
+ramp-gives = checked-by (file-made profile 7 ramp-rows) limits-made 9 fives (replicate present-bodies-length 7) ∙ refl
 
 -- out in the body: the call is open, its variables filled by the copies
 pub ramp-out : checkedCall (inputs (file ramp-rows) example-limits-file [] []) 3 fives (replicate present-bodies-length 7) .registers
     ≡ buffers (two-cells 100 20) (1 ∷ 0 ∷ 1 ∷ replicate 29 0) (two-cells 20 100 ++ replicate 15360 (pos 0)) (1 ∷ 0 ∷ 1 ∷ replicate 509 0)
-unfolding computing ramp-rows example-limits-file example-limits
-ramp-out = refl
+unfolding computing quickly ramp-rows example-limits
+ramp-out = ap (λ (c : CheckedCall). c .registers) (checked-by (file-made profile 7 ramp-rows) limits-made 3 fives (replicate present-bodies-length 7)) ∙ refl
 
 -- 650 is too much for the profile's SPEED, which has the limit, and not for the procedure's, though it has the name: the place is the call's
 pub ramp-limit : ramp-run (with-gain 38 2) 9 ≡ ending 1 yoke-not-satisfied 3 4
@@ -260,8 +261,8 @@ ramp-limit = refl
 
 pub ramp-passes : typeCheckCall (file ramp-rows) example-limits-file (replicate 1024 5)
     ≡ record { answer = answered passed; layout = 1 ∷ 0 ∷ 1 ∷ 0 ∷ 1 ∷ 0 ∷ 1 ∷ 0 ∷ 1 ∷ replicate 1015 0 }
-unfolding computing ramp-rows example-limits-file example-limits
-ramp-passes = refl
+unfolding computing quickly ramp-rows example-limits
+ramp-passes = type-check-by (file-made profile 7 ramp-rows) limits-made (replicate 1024 5) ∙ refl
 
 -- 22 blocks, and not 23
 pub blocks-22 : lengthWrong profile (replicate 11264 0) ≡ false
@@ -276,6 +277,9 @@ blocks-23 = refl
 abbrev pub reads : List ℕ → ℕ
 reads rows = readRefusal profile (file rows) (replicate rows-length 5)
 
+pub reads-by : (rows : List ℕ) → reads rows ≡ readBy profile (made profile 7 rows) (replicate rows-length 5)
+reads-by rows = read-by profile (file-made profile 7 rows) (replicate rows-length 5)
+
 abbrev pub same-body : List ℕ
 same-body = row 6 2 []
 
@@ -289,13 +293,13 @@ unfolding computing ramp-rows
 sum-scope = refl
 
 pub shared-body : reads (ramp-rows ++ same-body) ≡ bad-use
-unfolding computing ramp-rows
-shared-body = refl
+unfolding computing quickly ramp-rows
+shared-body = reads-by (ramp-rows ++ same-body) ∙ refl
 
 -- with that procedure first, the body names variables that it does not have
 pub shared-first : reads (take 160 ramp-rows ++ (same-body ++ drop 160 ramp-rows)) ≡ bad-reference
-unfolding computing ramp-rows
-shared-first = refl
+unfolding computing quickly ramp-rows
+shared-first = reads-by (take 160 ramp-rows ++ (same-body ++ drop 160 ramp-rows)) ∙ refl
 
 -- so too where the program reaches the body; the program's own row is under none
 pub program-reaches : instructionScope (set ramp-rows 152 0) 0 ≡ 1
@@ -309,51 +313,51 @@ program-scope = refl
 -- ---- refusals
 -- section 6 without its first row; nine procedures; a body that is the last row
 pub no-header : reads (take 160 ramp-rows ++ drop 170 ramp-rows) ≡ bad-form
-unfolding computing ramp-rows
-no-header = refl
+unfolding computing quickly ramp-rows
+no-header = reads-by (take 160 ramp-rows ++ drop 170 ramp-rows) ∙ refl
 
 pub nine-procedures : reads (ramp-rows ++ (same-body ++ (same-body ++ (same-body ++ (same-body ++ (same-body ++ (same-body ++ (same-body ++ same-body)))))))) ≡ bad-count
-unfolding computing ramp-rows
-nine-procedures = refl
+unfolding computing quickly ramp-rows
+nine-procedures = reads-by (ramp-rows ++ (same-body ++ (same-body ++ (same-body ++ (same-body ++ (same-body ++ (same-body ++ (same-body ++ same-body)))))))) ∙ refl
 
 pub last-body : reads (set ramp-rows 162 5) ≡ bad-reference
-unfolding computing ramp-rows
-last-body = refl
+unfolding computing quickly ramp-rows
+last-body = reads-by (set ramp-rows 162 5) ∙ refl
 
 -- a call of no procedure, and a variable that the profile does not have
 pub no-such-procedure : reads (set ramp-rows 132 1) ≡ bad-reference
-unfolding computing ramp-rows
-no-such-procedure = refl
+unfolding computing quickly ramp-rows
+no-such-procedure = reads-by (set ramp-rows 132 1) ∙ refl
 
 pub no-such-variable : reads (with-call 2 0 ramp-rows) ≡ bad-reference
-unfolding computing ramp-rows
-no-such-variable = refl
+unfolding computing quickly ramp-rows
+no-such-variable = reads-by (with-call 2 0 ramp-rows) ∙ refl
 
 -- more parameters than variables, and bits above the parameter's; a variable that is not there comes first
 pub few-variables : reads (with-parameters 2 1 ramp-rows) ≡ bad-parameters
-unfolding computing ramp-rows
-few-variables = refl
+unfolding computing quickly ramp-rows
+few-variables = reads-by (with-parameters 2 1 ramp-rows) ∙ refl
 
 pub bits-above : reads (with-call 17 0 ramp-rows) ≡ bad-parameters
-unfolding computing ramp-rows
-bits-above = refl
+unfolding computing quickly ramp-rows
+bits-above = reads-by (with-call 17 0 ramp-rows) ∙ refl
 
 pub reference-before-count : reads (with-parameters 2 1 (with-call 33 0 ramp-rows)) ≡ bad-reference
-unfolding computing ramp-rows
-reference-before-count = refl
+unfolding computing quickly ramp-rows
+reference-before-count = reads-by (with-parameters 2 1 (with-call 33 0 ramp-rows)) ∙ refl
 
 -- two parameters of one sort: one variable twice is refused by reference alone
 pub twice-by-reference : reads (with-parameters 0 2 (with-call 0 0 ramp-rows)) ≡ repeated-reference
-unfolding computing ramp-rows
-twice-by-reference = refl
+unfolding computing quickly ramp-rows
+twice-by-reference = reads-by (with-parameters 0 2 (with-call 0 0 ramp-rows)) ∙ refl
 
 pub once-each : reads (with-parameters 0 2 (with-call 0 1 ramp-rows)) ≡ 0
-unfolding computing ramp-rows
-once-each = refl
+unfolding computing quickly ramp-rows
+once-each = reads-by (with-parameters 0 2 (with-call 0 1 ramp-rows)) ∙ refl
 
 pub twice-by-value : reads (with-parameters 2 0 (with-call 0 0 ramp-rows)) ≡ 0
-unfolding computing ramp-rows
-twice-by-value = refl
+unfolding computing quickly ramp-rows
+twice-by-value = reads-by (with-parameters 2 0 (with-call 0 0 ramp-rows)) ∙ refl
 
 -- 18, then 19, then 14: the limits' model is another
 unfoldable pub other-model : List ℕ
@@ -362,14 +366,18 @@ other-model = fileOf limits 8 example-limits
 abbrev pub paired-with-other : List ℕ → ℕ
 paired-with-other rows = typeCheckRefusal (file rows) other-model (replicate 1024 5)
 
+pub paired-by : (rows : List ℕ) → paired-with-other rows ≡ refusedBy (made profile 7 rows) (made limits 8 example-limits) (replicate 1024 5)
+unfolding other-model
+paired-by rows = refused-by (file-made profile 7 rows) (file-made limits 8 example-limits) (replicate 1024 5)
+
 pub parameters-first : paired-with-other (with-parameters 0 2 (with-call 16 0 ramp-rows)) ≡ bad-parameters
-unfolding computing ramp-rows other-model example-limits
-parameters-first = refl
+unfolding computing quickly ramp-rows example-limits
+parameters-first = paired-by (with-parameters 0 2 (with-call 16 0 ramp-rows)) ∙ refl
 
 pub repeated-next : paired-with-other (with-parameters 0 2 (with-call 0 0 ramp-rows)) ≡ repeated-reference
-unfolding computing ramp-rows other-model example-limits
-repeated-next = refl
+unfolding computing quickly ramp-rows example-limits
+repeated-next = paired-by (with-parameters 0 2 (with-call 0 0 ramp-rows)) ∙ refl
 
 pub models-last : paired-with-other ramp-rows ≡ models-differ
-unfolding computing ramp-rows other-model example-limits
-models-last = refl
+unfolding computing quickly ramp-rows example-limits
+models-last = paired-by ramp-rows ∙ refl

@@ -1,5 +1,5 @@
 -- Worked examples beside the edges, where a definition is easiest to get wrong. Each is computed and compared. Assumes nothing.
-use mathlib.Core.Path.{_≡_, refl}
+use mathlib.Core.Path.{_≡_, refl, ap, _∙_}
 use mathlib.Core.Bool.{true, false}
 use mathlib.Core.List.{List, [], _∷_, _++_}
 use mathlib.Core.Option.{some, none}
@@ -27,6 +27,7 @@ use Rattle.lingua.specs.Refusal.{typeCheckRefusal}
 use Rattle.lingua.specs.Report.{reportText}
 use Rattle.lingua.specs.Edges.{literal, truth-literal, one-by-zero, speed, program, up-to-600, below-five}
 use Rattle.lingua.specs.Computing.{computing}
+use Rattle.lingua.specs.Quick.{quickly, one-pass, made, file-made, refused-by, type-check-by, erased-by, report-by}
 
 -- ---- cells
 -- a word's cell: "AB" is 65 * 256^7 + 66 * 256^6
@@ -440,14 +441,23 @@ example-profile-file = fileOf profile 7 example-rows
 unfoldable pub example-limits-file : List ℕ
 example-limits-file = fileOf limits 7 example-limits
 
+-- both, with their checks in one pass, by which the examples below compute
+pub profile-made : example-profile-file ≡ made profile 7 example-rows
+unfolding example-profile-file
+profile-made = file-made profile 7 example-rows
+
+pub limits-made : example-limits-file ≡ made limits 7 example-limits
+unfolding example-limits-file
+limits-made = file-made limits 7 example-limits
+
 -- the check of a limits file's block with no limits, and of the example's, as another implementation has them
 pub empty-check : blockCheck (76 ∷ 73 ∷ 77 ∷ 83 ∷ 0 ∷ 1 ∷ 7 ∷ 0 ∷ replicate 500 0) ≡ 2728029194
-unfolding computing
-empty-check = refl
+unfolding computing quickly
+empty-check = one-pass (76 ∷ 73 ∷ 77 ∷ 83 ∷ 0 ∷ 1 ∷ 7 ∷ 0 ∷ replicate 500 0) ∙ refl
 
 pub example-check : drop 508 example-profile-file ≡ 161 ∷ 131 ∷ 103 ∷ 59 ∷ []
-unfolding computing example-profile-file example-rows
-example-check = refl
+unfolding computing quickly example-rows
+example-check = ap (drop 508) profile-made ∙ refl
 
 pub example-reads-back : rowsOf example-profile-file ≡ example-rows
 unfolding computing example-profile-file example-rows
@@ -455,18 +465,18 @@ example-reads-back = refl
 
 -- the lowest number over both files: the profile's check is wrong, and the limits file's marker
 pub lowest-of-both : typeCheckRefusal (set example-profile-file 508 0) (set example-limits-file 0 0) (replicate 1024 0) ≡ bad-marker
-unfolding computing example-profile-file example-rows example-limits-file example-limits
-lowest-of-both = refl
+unfolding computing quickly example-rows example-limits
+lowest-of-both = refused-by (ap (λ (p : List ℕ). set p 508 0) profile-made) (ap (λ (l : List ℕ). set l 0 0) limits-made) (replicate 1024 0) ∙ refl
 
 pub check-alone : typeCheckRefusal (set example-profile-file 508 0) example-limits-file (replicate 1024 0) ≡ bad-check
-unfolding computing example-profile-file example-rows example-limits-file example-limits
-check-alone = refl
+unfolding computing quickly example-rows example-limits
+check-alone = refused-by (ap (λ (p : List ℕ). set p 508 0) profile-made) limits-made (replicate 1024 0) ∙ refl
 
 -- the report's example: "end 0 error 0 place 0 steps 1", "SPEED 120", "TURN -"
 pub example-report : reportText example-profile-file example-limits-file
     ≡ 101 ∷ 110 ∷ 100 ∷ 32 ∷ 48 ∷ 32 ∷ 101 ∷ 114 ∷ 114 ∷ 111 ∷ 114 ∷ 32 ∷ 48 ∷ 32 ∷ 112 ∷ 108 ∷ 97 ∷ 99 ∷ 101 ∷ 32 ∷ 48 ∷ 32 ∷ 115 ∷ 116 ∷ 101 ∷ 112 ∷ 115 ∷ 32 ∷ 49 ∷ 10 ∷ 83 ∷ 80 ∷ 69 ∷ 69 ∷ 68 ∷ 32 ∷ 49 ∷ 50 ∷ 48 ∷ 10 ∷ 84 ∷ 85 ∷ 82 ∷ 78 ∷ 32 ∷ 45 ∷ 10 ∷ []
-unfolding computing example-profile-file example-rows example-limits-file example-limits
-example-report = refl
+unfolding computing quickly example-rows example-limits
+example-report = report-by profile-made limits-made ∙ refl
 
 -- the example with SPEED := true
 unfoldable pub wrong-rows : List ℕ
@@ -475,10 +485,14 @@ wrong-rows = set (set example-rows 51 1) 52 1
 unfoldable pub wrong-file : List ℕ
 wrong-file = fileOf profile 7 wrong-rows
 
+pub wrong-made : wrong-file ≡ made profile 7 wrong-rows
+unfolding wrong-file
+wrong-made = file-made profile 7 wrong-rows
+
 -- the type check zeroes the layout table; an erased run is refused with 17 and leaves it
 pub type-error-zeroes : typeCheckCall wrong-file example-limits-file (replicate 1024 5) ≡ record { answer = answered (faulted 15 512); layout = replicate 1024 0 }
-unfolding computing example-rows example-limits-file example-limits wrong-rows wrong-file
-type-error-zeroes = refl
+unfolding computing quickly example-rows example-limits wrong-rows
+type-error-zeroes = type-check-by wrong-made limits-made (replicate 1024 5) ∙ refl
 
 -- the caller's buffers, full of fives
 abbrev pub fives : Buffers
@@ -486,5 +500,5 @@ fives = buffers (replicate 1024 (pos 5)) (replicate 32 5) (replicate 16384 (pos 
 
 pub refused-leaves : erasedCall (inputs wrong-file example-limits-file [] []) 9 fives (replicate 1024 5)
     ≡ record { answer = refused type-error-found; registers = fives; layout = replicate 1024 5 }
-unfolding computing example-rows example-limits-file example-limits wrong-rows wrong-file
-refused-leaves = refl
+unfolding computing quickly example-rows example-limits wrong-rows
+refused-leaves = erased-by wrong-made limits-made 9 fives (replicate 1024 5) ∙ refl

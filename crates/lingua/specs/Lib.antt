@@ -26,6 +26,7 @@ pub mod Answers
 pub mod Calls
 pub mod Report
 pub mod Computing
+pub mod Quick
 pub mod Edges
 pub mod Examples
 pub mod CallExamples
