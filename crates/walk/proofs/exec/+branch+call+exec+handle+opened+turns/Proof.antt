@@ -137,7 +137,7 @@ unfolding instructionRowTree
 branch-returns t c = executes (c .before .before .before .before .before .before .before .before .before .before .pre .1 .0) (c .before .before .before .before .before .before .before .before .before .before .pre .1 .1) (λ p b n vs h. branch-passed (calling _ n) vs (h .holds) (c .before .before .before .before .before .before .before .before .before .before .pre .1 .0 .going) _ _ _ _ (c .if1 .taken))
 
 branch-stepped-requires : (t : ℕ) → branch-lts.Need-stepped-requires (branch-calls t) (branch-at t) branch.Post
-branch-stepped-requires t c κs = search needs
+branch-stepped-requires t c κs = tt
 
 branch-returns-2 : (t : ℕ) → branch-lts.Need-returns-2 (branch-calls t) (branch-at t) branch.Post
 unfolding instructionRowTree
@@ -150,19 +150,19 @@ branch-cast-settled : (t : ℕ) → branch-lts.Need-cast-settled (branch-calls t
 branch-cast-settled t c = record { fits = narrow (c .before .before .before .before .before .before .before .before .before .before .before .before .before .before .before .before .before .before .before .before .pre .1 .0) }
 
 branch-settled-requires : (t : ℕ) → branch-lts.Need-settled-requires (branch-calls t) (branch-at t) branch.Post
-branch-settled-requires t c κs = search needs
+branch-settled-requires t c κs = tt
 
 branch-same-length : (t : ℕ) → branch-lts.Need-same-length (branch-calls t) (branch-at t) branch.Post
-branch-same-length t c = search needs
+branch-same-length t c = refl
 
 branch-same-length-2 : (t : ℕ) → branch-lts.Need-same-length-2 (branch-calls t) (branch-at t) branch.Post
-branch-same-length-2 t c = search needs
+branch-same-length-2 t c = refl
 
 branch-same-length-3 : (t : ℕ) → branch-lts.Need-same-length-3 (branch-calls t) (branch-at t) branch.Post
-branch-same-length-3 t c = search needs
+branch-same-length-3 t c = refl
 
 branch-same-length-4 : (t : ℕ) → branch-lts.Need-same-length-4 (branch-calls t) (branch-at t) branch.Post
-branch-same-length-4 t c = search needs
+branch-same-length-4 t c = c .before .before .before .before .test .kept .1 .1 .1 .1 .1 .1 .1 .1 .0
 
 branch-returns-3 : (t : ℕ) → branch-lts.Need-returns-3 (branch-calls t) (branch-at t) branch.Post
 unfolding instructionRowTree
@@ -173,25 +173,25 @@ unfolding InstructionFacts
 branch-exec-requires t c κs = let f = facts (c .before .before .before .before .before .before .before .before .before .before .before .before .before .before .before .before .before .before .before .before .before .before .before .before .before .before .before .before .pre .1 .0) (c .before .before .before .before .before .before .before .before .before .before .before .before .before .before .before .before .before .before .before .before .before .before .before .before .before .before .before .before .pre .1 .1) in (omega (arith, c .before .before .before .before .before .before .before .before .before .before .before .before .before .before .before .before .before .before .before .before .before .before .before .before .before .before .before .before .pre .0, f .1), part (c .before .before .before .before .before .before .before .before .before .before .before .before .before .before .before .before .before .before .before .before .before .before .before .before .before .before .before .before .pre .1 .0) (c .before .before .before .before .before .before .before .before .before .before .before .before .before .before .before .before .before .before .before .before .before .before .before .before .before .before .before .before .pre .1 .1) (branch-first _ _ _) (c .before .before .before .before .before .before .before .before .before .before .before .before .before .before .before .before .before .before .before .before .before .before .before .before .before .before .before .before .pre .1 .0 .store) (c .before .before .before .before .before .before .before .before .before .before .before .before .before .before .before .before .before .before .before .before .before .before .before .before .before .before .before .before .pre .1 .0 .stands .holds) refl (omega (arith, c .before .before .before .before .before .before .before .before .before .before .before .test .kept)) (f .1) (going-after (c .before .before .before .before .before .before .before .before .before .before .before .before .before .before .before .before .before .before .before .before .before .before .before .before .before .before .before .before .pre .1 .0 .going) (c .before .before .before .before .before .before .before .before .before .before .before .before .before .before .before .before .before .stepped .ensures) (c .before .before .before .before .before .before .before .before .before .before .before .before .before .before .before .before .if2 .left)))
 
 branch-same-length-5 : (t : ℕ) → branch-lts.Need-same-length-5 (branch-calls t) (branch-at t) branch.Post
-branch-same-length-5 t c = search needs
+branch-same-length-5 t c = c .before .before .before .before .before .before .before .before .before .before .before .exec .kept .1 .1 .1 .1 .1 .1 .1 .0
 
 branch-same-length-6 : (t : ℕ) → branch-lts.Need-same-length-6 (branch-calls t) (branch-at t) branch.Post
-branch-same-length-6 t c = search needs
+branch-same-length-6 t c = c .before .before .before .before .before .before .before .before .before .before .before .exec .kept .1 .1 .1 .1 .1 .1 .1 .1 .1 .1 .0
 
 branch-same-length-7 : (t : ℕ) → branch-lts.Need-same-length-7 (branch-calls t) (branch-at t) branch.Post
-branch-same-length-7 t c = search needs
+branch-same-length-7 t c = c .before .before .before .before .before .before .before .before .before .before .before .exec .kept .1 .1 .1 .1 .1 .1 .1 .1 .1 .1 .1 .0
 
 branch-same-length-8 : (t : ℕ) → branch-lts.Need-same-length-8 (branch-calls t) (branch-at t) branch.Post
-branch-same-length-8 t c = search needs
+branch-same-length-8 t c = c .before .before .before .before .before .before .before .before .before .before .before .exec .kept .1 .1 .1 .1 .1 .1 .1 .1 .1 .1 .1 .1 .0
 
 branch-same-length-9 : (t : ℕ) → branch-lts.Need-same-length-9 (branch-calls t) (branch-at t) branch.Post
-branch-same-length-9 t c = search needs
+branch-same-length-9 t c = c .before .before .before .before .before .before .before .before .before .before .before .exec .kept .1 .1 .1 .1 .1 .1 .1 .1 .1 .1 .1 .1 .1 .0
 
 branch-same-length-10 : (t : ℕ) → branch-lts.Need-same-length-10 (branch-calls t) (branch-at t) branch.Post
-branch-same-length-10 t c = search needs
+branch-same-length-10 t c = c .before .before .before .before .before .before .before .before .before .before .before .exec .kept .1 .1 .1 .1 .1 .1 .1 .1 .1 .1 .1 .1 .1 .1 .0
 
 branch-same-length-11 : (t : ℕ) → branch-lts.Need-same-length-11 (branch-calls t) (branch-at t) branch.Post
-branch-same-length-11 t c = search needs
+branch-same-length-11 t c = c .before .before .before .before .before .before .before .before .before .before .before .exec .kept .1 .1 .1 .1 .1 .1 .1 .1 .1 .1 .1 .1 .1 .1 .1 .1 .0 ∙ c .before .before .before .before .before .before .before .before .before .before .before .before .before .before .before .before .before .before .before .before .before .before .before .test .kept .1 .1 .1 .1 .1 .1 .1 .1 .0
 
 branch-returns-4 : (t : ℕ) → branch-lts.Need-returns-4 (branch-calls t) (branch-at t) branch.Post
 unfolding instructionRowTree
@@ -202,25 +202,25 @@ unfolding InstructionFacts
 branch-exec-requires-2 t c κs = let f = facts (c .before .before .before .before .before .before .before .before .before .before .before .before .before .before .before .before .before .before .before .before .before .before .before .before .before .before .before .before .pre .1 .0) (c .before .before .before .before .before .before .before .before .before .before .before .before .before .before .before .before .before .before .before .before .before .before .before .before .before .before .before .before .pre .1 .1) in (omega (arith, c .before .before .before .before .before .before .before .before .before .before .before .before .before .before .before .before .before .before .before .before .before .before .before .before .before .before .before .before .pre .0, f .2), part (c .before .before .before .before .before .before .before .before .before .before .before .before .before .before .before .before .before .before .before .before .before .before .before .before .before .before .before .before .pre .1 .0) (c .before .before .before .before .before .before .before .before .before .before .before .before .before .before .before .before .before .before .before .before .before .before .before .before .before .before .before .before .pre .1 .1) (branch-second _ _ _) (c .before .before .before .before .before .before .before .before .before .before .before .before .before .before .before .before .before .before .before .before .before .before .before .before .before .before .before .before .pre .1 .0 .store) (c .before .before .before .before .before .before .before .before .before .before .before .before .before .before .before .before .before .before .before .before .before .before .before .before .before .before .before .before .pre .1 .0 .stands .holds) refl (omega (arith, c .before .before .before .before .before .before .before .before .before .before .before .test .kept)) (f .2) (going-after (c .before .before .before .before .before .before .before .before .before .before .before .before .before .before .before .before .before .before .before .before .before .before .before .before .before .before .before .before .pre .1 .0 .going) (c .before .before .before .before .before .before .before .before .before .before .before .before .before .before .before .before .before .stepped .ensures) (c .before .before .before .before .before .before .before .before .before .before .before .before .before .before .before .before .if2 .left)))
 
 branch-same-length-12 : (t : ℕ) → branch-lts.Need-same-length-12 (branch-calls t) (branch-at t) branch.Post
-branch-same-length-12 t c = search needs
+branch-same-length-12 t c = c .before .before .before .before .before .before .before .before .before .before .before .exec2 .kept .1 .1 .1 .1 .1 .1 .1 .0
 
 branch-same-length-13 : (t : ℕ) → branch-lts.Need-same-length-13 (branch-calls t) (branch-at t) branch.Post
-branch-same-length-13 t c = search needs
+branch-same-length-13 t c = c .before .before .before .before .before .before .before .before .before .before .before .exec2 .kept .1 .1 .1 .1 .1 .1 .1 .1 .1 .1 .0
 
 branch-same-length-14 : (t : ℕ) → branch-lts.Need-same-length-14 (branch-calls t) (branch-at t) branch.Post
-branch-same-length-14 t c = search needs
+branch-same-length-14 t c = c .before .before .before .before .before .before .before .before .before .before .before .exec2 .kept .1 .1 .1 .1 .1 .1 .1 .1 .1 .1 .1 .0
 
 branch-same-length-15 : (t : ℕ) → branch-lts.Need-same-length-15 (branch-calls t) (branch-at t) branch.Post
-branch-same-length-15 t c = search needs
+branch-same-length-15 t c = c .before .before .before .before .before .before .before .before .before .before .before .exec2 .kept .1 .1 .1 .1 .1 .1 .1 .1 .1 .1 .1 .1 .0
 
 branch-same-length-16 : (t : ℕ) → branch-lts.Need-same-length-16 (branch-calls t) (branch-at t) branch.Post
-branch-same-length-16 t c = search needs
+branch-same-length-16 t c = c .before .before .before .before .before .before .before .before .before .before .before .exec2 .kept .1 .1 .1 .1 .1 .1 .1 .1 .1 .1 .1 .1 .1 .0
 
 branch-same-length-17 : (t : ℕ) → branch-lts.Need-same-length-17 (branch-calls t) (branch-at t) branch.Post
-branch-same-length-17 t c = search needs
+branch-same-length-17 t c = c .before .before .before .before .before .before .before .before .before .before .before .exec2 .kept .1 .1 .1 .1 .1 .1 .1 .1 .1 .1 .1 .1 .1 .1 .0
 
 branch-same-length-18 : (t : ℕ) → branch-lts.Need-same-length-18 (branch-calls t) (branch-at t) branch.Post
-branch-same-length-18 t c = search needs
+branch-same-length-18 t c = c .before .before .before .before .before .before .before .before .before .before .before .exec2 .kept .1 .1 .1 .1 .1 .1 .1 .1 .1 .1 .1 .1 .1 .1 .1 .1 .0 ∙ c .before .before .before .before .before .before .before .before .before .before .before .before .before .before .before .before .before .before .before .before .before .before .before .test .kept .1 .1 .1 .1 .1 .1 .1 .1 .0
 
 branch-returns-5 : (t : ℕ) → branch-lts.Need-returns-5 (branch-calls t) (branch-at t) branch.Post
 unfolding instructionRowTree
@@ -231,7 +231,7 @@ unfolding instructionRowTree
 call-returns t c = executes (c .before .before .before .before .before .before .before .before .before .before .pre .1 .0) (c .before .before .before .before .before .before .before .before .before .before .pre .1 .1) (λ p b n vs h. call-passed (calling _ n) vs (h .holds) (c .before .before .before .before .before .before .before .before .before .before .pre .1 .0 .going) _ _ _ _ (c .if1 .taken))
 
 call-stepped-requires : (t : ℕ) → call-lts.Need-stepped-requires (call-calls t) (call-at t) call.Post
-call-stepped-requires t c κs = search needs
+call-stepped-requires t c κs = tt
 
 call-returns-2 : (t : ℕ) → call-lts.Need-returns-2 (call-calls t) (call-at t) call.Post
 unfolding instructionRowTree
@@ -241,7 +241,7 @@ call-cast-settled : (t : ℕ) → call-lts.Need-cast-settled (call-calls t) (cal
 call-cast-settled t c = record { fits = narrow (c .before .before .before .before .before .before .before .before .before .before .before .before .before .pre .1 .0) }
 
 call-settled-requires : (t : ℕ) → call-lts.Need-settled-requires (call-calls t) (call-at t) call.Post
-call-settled-requires t c κs = search needs
+call-settled-requires t c κs = tt
 
 call-returns-3 : (t : ℕ) → call-lts.Need-returns-3 (call-calls t) (call-at t) call.Post
 unfolding instructionRowTree
@@ -260,25 +260,25 @@ call-opened-requires : (t : ℕ) → call-lts.Need-opened-requires (call-calls t
 call-opened-requires t c κs = (omega (arith, c .before .before .before .before .before .before .before .before .before .before .before .before .before .before .before .before .before .before .before .before .before .before .before .pre .0), (record { asked = stepped-asked (c .before .before .before .before .before .before .before .before .before .before .before .before .before .before .before .before .before .before .before .before .before .before .before .pre .1 .0) (going-after (c .before .before .before .before .before .before .before .before .before .before .before .before .before .before .before .before .before .before .before .before .before .before .before .pre .1 .0 .going) (c .before .before .before .before .before .before .before .before .before .before .before .before .stepped .ensures) (c .before .before .before .before .before .before .before .before .before .before .before .if2 .left)); called = (c .before .before .before .before .before .before .before .before .before .before .before .before .before .before .before .before .before .before .before .before .before .before .before .pre .1 .1); room-left = omega (arith, c .before .before .before .before .before .before .before .before .before .before .if3 .left); clean = c .before .before .before .before .before .before .before .before .before .before .before .before .stepped .ensures .error ∙ c .before .before .before .before .before .before .before .before .before .before .before .before .before .if1 .left }, record { cells-are = refl; states-are = refl; bodies-are = refl }))
 
 call-same-length : (t : ℕ) → call-lts.Need-same-length (call-calls t) (call-at t) call.Post
-call-same-length t c = search needs
+call-same-length t c = c .before .before .before .before .before .before .before .before .before .before .before .before .before .before .opened .kept .1 .1 .1 .1 .1 .1 .1 .1 .1 .1 .1 .1 .1 .0
 
 call-same-length-2 : (t : ℕ) → call-lts.Need-same-length-2 (call-calls t) (call-at t) call.Post
-call-same-length-2 t c = search needs
+call-same-length-2 t c = c .before .before .before .before .before .before .before .before .before .before .before .before .before .before .opened .kept .1 .1 .1 .1 .1 .1 .1 .1 .1 .1 .1 .1 .1 .1 .1 .1 .0
 
 call-same-length-3 : (t : ℕ) → call-lts.Need-same-length-3 (call-calls t) (call-at t) call.Post
-call-same-length-3 t c = search needs
+call-same-length-3 t c = c .before .before .before .before .before .before .before .before .before .before .before .before .before .before .opened .kept .1 .1 .1 .1 .1 .1 .1 .1 .1 .1 .1 .1 .1 .1 .1 .1 .1 .0
 
 call-same-length-4 : (t : ℕ) → call-lts.Need-same-length-4 (call-calls t) (call-at t) call.Post
-call-same-length-4 t c = search needs
+call-same-length-4 t c = c .before .before .before .before .before .before .before .before .before .before .before .before .before .before .opened .kept .1 .1 .1 .1 .1 .1 .1 .1 .1 .1 .1 .1 .1 .1 .1 .1 .1 .1 .0
 
 call-same-length-5 : (t : ℕ) → call-lts.Need-same-length-5 (call-calls t) (call-at t) call.Post
-call-same-length-5 t c = search needs
+call-same-length-5 t c = c .before .before .before .before .before .before .before .before .before .before .before .before .before .before .opened .kept .1 .1 .1 .1 .1 .1 .1 .1 .1 .1 .1 .1 .1 .1 .1 .1 .1 .1 .1 .0
 
 call-same-length-6 : (t : ℕ) → call-lts.Need-same-length-6 (call-calls t) (call-at t) call.Post
-call-same-length-6 t c = search needs
+call-same-length-6 t c = c .before .before .before .before .before .before .before .before .before .before .before .before .before .before .opened .kept .1 .1 .1 .1 .1 .1 .1 .1 .1 .1 .1 .1 .1 .1 .1 .1 .1 .1 .1 .1 .0
 
 call-same-length-7 : (t : ℕ) → call-lts.Need-same-length-7 (call-calls t) (call-at t) call.Post
-call-same-length-7 t c = search needs
+call-same-length-7 t c = c .before .before .before .before .before .before .before .before .before .before .before .before .before .before .opened .kept .1 .1 .1 .1 .1 .1 .1 .1 .1 .1 .1 .1 .1 .1 .1 .1 .1 .1 .1 .1 .1 .1 .0
 
 call-returns-4 : (t : ℕ) → call-lts.Need-returns-4 (call-calls t) (call-at t) call.Post
 unfolding instructionRowTree
@@ -313,25 +313,25 @@ unfolding InstructionFacts
 exec-exec-requires t c κs = let f = facts (c .before .before .before .before .before .before .before .before .before .before .before .before .before .before .before .before .before .before .before .pre .1) (meant-as (c .before .before .before .before .before .before .before .before .says3 .given .1) (c .before .before .before .before .before .before .before .before .before .before .instruction-row .ensures)) in (omega (arith, c .before .before .before .before .before .before .before .before .before .before .before .before .before .before .before .before .before .before .before .pre .0, f .0), part (c .before .before .before .before .before .before .before .before .before .before .before .before .before .before .before .before .before .before .before .pre .1) (meant-as (c .before .before .before .before .before .before .before .before .says3 .given .1) (c .before .before .before .before .before .before .before .before .before .before .instruction-row .ensures)) (first-of-two _ _) (c .before .before .before .before .before .before .before .before .before .before .before .before .before .before .before .before .before .before .before .pre .1 .store) (c .before .before .before .before .before .before .before .before .before .before .before .before .before .before .before .before .before .before .before .pre .1 .stands .holds) refl refl (f .0) (c .before .before .before .before .before .before .before .before .before .before .before .before .before .before .before .before .before .before .before .pre .1 .going))
 
 exec-same-length : (t : ℕ) → exec-lts.Need-same-length (exec-calls t) (exec-at t) exec.Post
-exec-same-length t c = search needs
+exec-same-length t c = c .before .before .before .before .before .before .before .before .before .before .before .before .exec .kept .1 .1 .1 .1 .1 .1 .1 .0
 
 exec-same-length-2 : (t : ℕ) → exec-lts.Need-same-length-2 (exec-calls t) (exec-at t) exec.Post
-exec-same-length-2 t c = search needs
+exec-same-length-2 t c = c .before .before .before .before .before .before .before .before .before .before .before .before .exec .kept .1 .1 .1 .1 .1 .1 .1 .1 .1 .1 .0
 
 exec-same-length-3 : (t : ℕ) → exec-lts.Need-same-length-3 (exec-calls t) (exec-at t) exec.Post
-exec-same-length-3 t c = search needs
+exec-same-length-3 t c = c .before .before .before .before .before .before .before .before .before .before .before .before .exec .kept .1 .1 .1 .1 .1 .1 .1 .1 .1 .1 .1 .0
 
 exec-same-length-4 : (t : ℕ) → exec-lts.Need-same-length-4 (exec-calls t) (exec-at t) exec.Post
-exec-same-length-4 t c = search needs
+exec-same-length-4 t c = c .before .before .before .before .before .before .before .before .before .before .before .before .exec .kept .1 .1 .1 .1 .1 .1 .1 .1 .1 .1 .1 .1 .0
 
 exec-same-length-5 : (t : ℕ) → exec-lts.Need-same-length-5 (exec-calls t) (exec-at t) exec.Post
-exec-same-length-5 t c = search needs
+exec-same-length-5 t c = c .before .before .before .before .before .before .before .before .before .before .before .before .exec .kept .1 .1 .1 .1 .1 .1 .1 .1 .1 .1 .1 .1 .1 .0
 
 exec-same-length-6 : (t : ℕ) → exec-lts.Need-same-length-6 (exec-calls t) (exec-at t) exec.Post
-exec-same-length-6 t c = search needs
+exec-same-length-6 t c = c .before .before .before .before .before .before .before .before .before .before .before .before .exec .kept .1 .1 .1 .1 .1 .1 .1 .1 .1 .1 .1 .1 .1 .1 .0
 
 exec-same-length-7 : (t : ℕ) → exec-lts.Need-same-length-7 (exec-calls t) (exec-at t) exec.Post
-exec-same-length-7 t c = search needs
+exec-same-length-7 t c = c .before .before .before .before .before .before .before .before .before .before .before .before .exec .kept .1 .1 .1 .1 .1 .1 .1 .1 .1 .1 .1 .1 .1 .1 .1 .1 .0
 
 exec-returns : (t : ℕ) → exec-lts.Need-returns (exec-calls t) (exec-at t) exec.Post
 unfolding instructionRowTree
@@ -370,158 +370,158 @@ unfolding instructionRowTree
 exec-returns-2 t c = executes (c .before .before .before .before .before .before .before .before .before .before .before .before .pre .1) (meant-as (c .before .enum-told .given .1) (c .before .before .before .instruction-row .ensures)) (λ p b n vs h. let q = c .skip .ensures (c .before .before .before .before .before .before .before .before .before .before .before .before .args .row) in stays vs (h .holds) (q .clean) (q .is (calling _ n) vs))
 
 exec-same-length-8 : (t : ℕ) → exec-lts.Need-same-length-8 (exec-calls t) (exec-at t) exec.Post
-exec-same-length-8 t c = search needs
+exec-same-length-8 t c = c .before .before .before .before .before .before .assignment .kept .1 .1 .1 .1 .1 .1 .1 .0
 
 exec-same-length-9 : (t : ℕ) → exec-lts.Need-same-length-9 (exec-calls t) (exec-at t) exec.Post
-exec-same-length-9 t c = search needs
+exec-same-length-9 t c = c .before .before .before .before .before .before .assignment .kept .1 .1 .1 .1 .1 .1 .1 .1 .1 .1 .0
 
 exec-same-length-10 : (t : ℕ) → exec-lts.Need-same-length-10 (exec-calls t) (exec-at t) exec.Post
-exec-same-length-10 t c = search needs
+exec-same-length-10 t c = c .before .before .before .before .before .before .assignment .kept .1 .1 .1 .1 .1 .1 .1 .1 .1 .1 .1 .0
 
 exec-same-length-11 : (t : ℕ) → exec-lts.Need-same-length-11 (exec-calls t) (exec-at t) exec.Post
-exec-same-length-11 t c = search needs
+exec-same-length-11 t c = c .before .before .before .before .before .before .assignment .kept .1 .1 .1 .1 .1 .1 .1 .1 .1 .1 .1 .1 .1 .0
 
 exec-returns-3 : (t : ℕ) → exec-lts.Need-returns-3 (exec-calls t) (exec-at t) exec.Post
 exec-returns-3 t c = leaf-answers (c .before .before .before .before .before .before .before .before .before .before .before .before .before .before .before .before .before .before .before .before .before .before .before .pre .1) (c .before .before .before .before .before .before .assignment .ensures)
 
 exec-same-length-12 : (t : ℕ) → exec-lts.Need-same-length-12 (exec-calls t) (exec-at t) exec.Post
-exec-same-length-12 t c = search needs
+exec-same-length-12 t c = refl
 
 exec-same-length-13 : (t : ℕ) → exec-lts.Need-same-length-13 (exec-calls t) (exec-at t) exec.Post
-exec-same-length-13 t c = search needs
+exec-same-length-13 t c = refl
 
 exec-same-length-14 : (t : ℕ) → exec-lts.Need-same-length-14 (exec-calls t) (exec-at t) exec.Post
-exec-same-length-14 t c = search needs
+exec-same-length-14 t c = c .before .before .before .yoke-change .kept .1 .1 .1 .1 .1 .1 .1 .1 .1 .1 .1 .0
 
 exec-same-length-15 : (t : ℕ) → exec-lts.Need-same-length-15 (exec-calls t) (exec-at t) exec.Post
-exec-same-length-15 t c = search needs
+exec-same-length-15 t c = c .before .before .before .yoke-change .kept .1 .1 .1 .1 .1 .1 .1 .1 .1 .1 .1 .1 .1 .0
 
 exec-returns-4 : (t : ℕ) → exec-lts.Need-returns-4 (exec-calls t) (exec-at t) exec.Post
 exec-returns-4 t c = leaf-answers (c .before .before .before .before .before .before .before .before .before .before .before .before .before .before .before .before .before .before .before .before .pre .1) (c .before .before .before .yoke-change .ensures)
 
 exec-same-length-16 : (t : ℕ) → exec-lts.Need-same-length-16 (exec-calls t) (exec-at t) exec.Post
-exec-same-length-16 t c = omega (arith, c .before .before .before .before .before .before .before .before .before .before .before .before .before .before .before .before .before .before .before .before .before .before .before .before .before .before .before .before .before .before .before .exec .kept .1 .1 .1 .1 .1 .1 .1 .0, c .before .before .before .before .before .before .before .before .before .before .before .exec2 .kept .1 .1 .1 .1 .1 .1 .1 .0)
+exec-same-length-16 t c = c .before .before .before .before .before .before .before .before .before .before .before .exec2 .kept .1 .1 .1 .1 .1 .1 .1 .0 ∙ c .before .before .before .before .before .before .before .before .before .before .before .before .before .before .before .before .before .before .before .before .before .before .before .before .before .before .before .before .before .before .before .exec .kept .1 .1 .1 .1 .1 .1 .1 .0
 
 exec-same-length-17 : (t : ℕ) → exec-lts.Need-same-length-17 (exec-calls t) (exec-at t) exec.Post
-exec-same-length-17 t c = omega (arith, c .before .before .before .before .before .before .before .before .before .before .before .before .before .before .before .before .before .before .before .before .before .before .before .before .before .before .before .before .before .before .before .exec .kept .1 .1 .1 .1 .1 .1 .1 .1 .1 .1 .0, c .before .before .before .before .before .before .before .before .before .before .before .exec2 .kept .1 .1 .1 .1 .1 .1 .1 .1 .1 .1 .0)
+exec-same-length-17 t c = c .before .before .before .before .before .before .before .before .before .before .before .exec2 .kept .1 .1 .1 .1 .1 .1 .1 .1 .1 .1 .0 ∙ c .before .before .before .before .before .before .before .before .before .before .before .before .before .before .before .before .before .before .before .before .before .before .before .before .before .before .before .before .before .before .before .exec .kept .1 .1 .1 .1 .1 .1 .1 .1 .1 .1 .0
 
 exec-same-length-18 : (t : ℕ) → exec-lts.Need-same-length-18 (exec-calls t) (exec-at t) exec.Post
-exec-same-length-18 t c = omega (arith, c .before .before .before .before .before .before .before .before .before .before .before .before .before .before .before .before .before .before .before .before .before .before .before .before .before .before .before .before .before .before .before .exec .kept .1 .1 .1 .1 .1 .1 .1 .1 .1 .1 .1 .0, c .before .before .before .before .before .before .before .before .before .before .before .exec2 .kept .1 .1 .1 .1 .1 .1 .1 .1 .1 .1 .1 .0)
+exec-same-length-18 t c = c .before .before .before .before .before .before .before .before .before .before .before .exec2 .kept .1 .1 .1 .1 .1 .1 .1 .1 .1 .1 .1 .0 ∙ c .before .before .before .before .before .before .before .before .before .before .before .before .before .before .before .before .before .before .before .before .before .before .before .before .before .before .before .before .before .before .before .exec .kept .1 .1 .1 .1 .1 .1 .1 .1 .1 .1 .1 .0
 
 exec-same-length-19 : (t : ℕ) → exec-lts.Need-same-length-19 (exec-calls t) (exec-at t) exec.Post
-exec-same-length-19 t c = omega (arith, c .before .before .before .before .before .before .before .before .before .before .before .before .before .before .before .before .before .before .before .before .before .before .before .before .before .before .before .before .before .before .before .exec .kept .1 .1 .1 .1 .1 .1 .1 .1 .1 .1 .1 .1 .0, c .before .before .before .before .before .before .before .before .before .before .before .exec2 .kept .1 .1 .1 .1 .1 .1 .1 .1 .1 .1 .1 .1 .0)
+exec-same-length-19 t c = c .before .before .before .before .before .before .before .before .before .before .before .exec2 .kept .1 .1 .1 .1 .1 .1 .1 .1 .1 .1 .1 .1 .0 ∙ c .before .before .before .before .before .before .before .before .before .before .before .before .before .before .before .before .before .before .before .before .before .before .before .before .before .before .before .before .before .before .before .exec .kept .1 .1 .1 .1 .1 .1 .1 .1 .1 .1 .1 .1 .0
 
 exec-same-length-20 : (t : ℕ) → exec-lts.Need-same-length-20 (exec-calls t) (exec-at t) exec.Post
-exec-same-length-20 t c = omega (arith, c .before .before .before .before .before .before .before .before .before .before .before .before .before .before .before .before .before .before .before .before .before .before .before .before .before .before .before .before .before .before .before .exec .kept .1 .1 .1 .1 .1 .1 .1 .1 .1 .1 .1 .1 .1 .0, c .before .before .before .before .before .before .before .before .before .before .before .exec2 .kept .1 .1 .1 .1 .1 .1 .1 .1 .1 .1 .1 .1 .1 .0)
+exec-same-length-20 t c = c .before .before .before .before .before .before .before .before .before .before .before .exec2 .kept .1 .1 .1 .1 .1 .1 .1 .1 .1 .1 .1 .1 .1 .0 ∙ c .before .before .before .before .before .before .before .before .before .before .before .before .before .before .before .before .before .before .before .before .before .before .before .before .before .before .before .before .before .before .before .exec .kept .1 .1 .1 .1 .1 .1 .1 .1 .1 .1 .1 .1 .1 .0
 
 exec-same-length-21 : (t : ℕ) → exec-lts.Need-same-length-21 (exec-calls t) (exec-at t) exec.Post
-exec-same-length-21 t c = omega (arith, c .before .before .before .before .before .before .before .before .before .before .before .before .before .before .before .before .before .before .before .before .before .before .before .before .before .before .before .before .before .before .before .exec .kept .1 .1 .1 .1 .1 .1 .1 .1 .1 .1 .1 .1 .1 .1 .0, c .before .before .before .before .before .before .before .before .before .before .before .exec2 .kept .1 .1 .1 .1 .1 .1 .1 .1 .1 .1 .1 .1 .1 .1 .0)
+exec-same-length-21 t c = c .before .before .before .before .before .before .before .before .before .before .before .exec2 .kept .1 .1 .1 .1 .1 .1 .1 .1 .1 .1 .1 .1 .1 .1 .0 ∙ c .before .before .before .before .before .before .before .before .before .before .before .before .before .before .before .before .before .before .before .before .before .before .before .before .before .before .before .before .before .before .before .exec .kept .1 .1 .1 .1 .1 .1 .1 .1 .1 .1 .1 .1 .1 .1 .0
 
 exec-same-length-22 : (t : ℕ) → exec-lts.Need-same-length-22 (exec-calls t) (exec-at t) exec.Post
-exec-same-length-22 t c = omega (arith, c .before .before .before .before .before .before .before .before .before .before .before .before .before .before .before .before .before .before .before .before .before .before .before .before .before .before .before .before .before .before .before .exec .kept .1 .1 .1 .1 .1 .1 .1 .1 .1 .1 .1 .1 .1 .1 .1 .1 .0, c .before .before .before .before .before .before .before .before .before .before .before .exec2 .kept .1 .1 .1 .1 .1 .1 .1 .1 .1 .1 .1 .1 .1 .1 .1 .1 .0)
+exec-same-length-22 t c = c .before .before .before .before .before .before .before .before .before .before .before .exec2 .kept .1 .1 .1 .1 .1 .1 .1 .1 .1 .1 .1 .1 .1 .1 .1 .1 .0 ∙ c .before .before .before .before .before .before .before .before .before .before .before .before .before .before .before .before .before .before .before .before .before .before .before .before .before .before .before .before .before .before .before .exec .kept .1 .1 .1 .1 .1 .1 .1 .1 .1 .1 .1 .1 .1 .1 .1 .1 .0
 
 exec-returns-5 : (t : ℕ) → exec-lts.Need-returns-5 (exec-calls t) (exec-at t) exec.Post
 unfolding instructionRowTree
 exec-returns-5 t c = executes (c .before .before .before .before .before .before .before .before .before .before .before .before .before .before .before .before .before .before .before .before .before .before .before .before .before .before .before .before .before .before .before .before .before .before .before .before .before .before .before .before .before .before .before .before .before .before .before .before .before .before .before .pre .1) (meant-as (c .before .before .before .before .before .before .before .before .before .before .before .before .before .before .before .before .before .before .before .before .before .before .before .before .before .before .before .before .before .before .before .before .before .before .before .before .before .before .before .before .says3 .given .1) (c .before .before .before .before .before .before .before .before .before .before .before .before .before .before .before .before .before .before .before .before .before .before .before .before .before .before .before .before .before .before .before .before .before .before .before .before .before .before .before .before .before .before .instruction-row .ensures)) (λ p b n vs h. let x = (c .before .before .before .before .before .before .before .before .before .before .before .before .before .before .before .before .before .before .before .before .before .before .before .before .before .before .before .before .before .before .before .exec .ensures .reaches p b n vs (part-stands (c .before .before .before .before .before .before .before .before .before .before .before .before .before .before .before .before .before .before .before .before .before .before .before .before .before .before .before .before .before .before .before .before .before .before .before .before .before .before .before .before .before .before .before .before .before .before .before .before .before .before .before .pre .1) (meant-as (c .before .before .before .before .before .before .before .before .before .before .before .before .before .before .before .before .before .before .before .before .before .before .before .before .before .before .before .before .before .before .before .before .before .before .before .before .before .before .before .before .says3 .given .1) (c .before .before .before .before .before .before .before .before .before .before .before .before .before .before .before .before .before .before .before .before .before .before .before .before .before .before .before .before .before .before .before .before .before .before .before .before .before .before .before .before .before .before .instruction-row .ensures)) (first-of-two _ _) h (h .holds) refl)) in reaches-as (sequence-on (calling _ n) (c .before .before .before .before .before .before .before .before .before .before .before .before .before .before .before .before .before .before .before .before .before .before .before .before .before .before .before .before .before .before .before .before .before .before .before .before .before .before .before .before .before .before .before .before .before .before .before .before .before .before .before .args .m) vs _ _ _ x (c .before .before .before .before .before .before .before .before .before .before .before .before .before .before .before .before .before .before .before .if1 .left)) (reaches-from (area-stays x (c .before .before .before .before .before .before .before .before .before .before .before .before .before .before .before .before .before .before .before .if1 .left)) (c .before .before .before .before .before .before .before .before .before .before .before .exec2 .ensures .reaches p b n (x .store) (part-stands (c .before .before .before .before .before .before .before .before .before .before .before .before .before .before .before .before .before .before .before .before .before .before .before .before .before .before .before .before .before .before .before .before .before .before .before .before .before .before .before .before .before .before .before .before .before .before .before .before .before .before .before .pre .1) (meant-as (c .before .before .before .before .before .before .before .before .before .before .before .before .before .before .before .before .before .before .before .before .before .before .before .before .before .before .before .before .before .before .before .before .before .before .before .before .before .before .before .before .says3 .given .1) (c .before .before .before .before .before .before .before .before .before .before .before .before .before .before .before .before .before .before .before .before .before .before .before .before .before .before .before .before .before .before .before .before .before .before .before .before .before .before .before .before .before .before .instruction-row .ensures)) (second-of-two _ _) h (x .running) (area-stays x (c .before .before .before .before .before .before .before .before .before .before .before .before .before .before .before .before .before .before .before .if1 .left))))))
 
 exec-same-length-23 : (t : ℕ) → exec-lts.Need-same-length-23 (exec-calls t) (exec-at t) exec.Post
-exec-same-length-23 t c = search needs
+exec-same-length-23 t c = c .before .before .before .before .before .before .before .before .before .before .before .branch .kept .1 .1 .1 .1 .1 .1 .1 .1 .1 .1 .0
 
 exec-same-length-24 : (t : ℕ) → exec-lts.Need-same-length-24 (exec-calls t) (exec-at t) exec.Post
-exec-same-length-24 t c = search needs
+exec-same-length-24 t c = c .before .before .before .before .before .before .before .before .before .before .before .branch .kept .1 .1 .1 .1 .1 .1 .1 .1 .1 .1 .1 .1 .1 .0
 
 exec-same-length-25 : (t : ℕ) → exec-lts.Need-same-length-25 (exec-calls t) (exec-at t) exec.Post
-exec-same-length-25 t c = search needs
+exec-same-length-25 t c = c .before .before .before .before .before .before .before .before .before .before .before .branch .kept .1 .1 .1 .1 .1 .1 .1 .1 .1 .1 .1 .1 .1 .1 .0
 
 exec-same-length-26 : (t : ℕ) → exec-lts.Need-same-length-26 (exec-calls t) (exec-at t) exec.Post
-exec-same-length-26 t c = search needs
+exec-same-length-26 t c = c .before .before .before .before .before .before .before .before .before .before .before .branch .kept .1 .1 .1 .1 .1 .1 .1 .1 .1 .1 .1 .1 .1 .1 .1 .0
 
 exec-same-length-27 : (t : ℕ) → exec-lts.Need-same-length-27 (exec-calls t) (exec-at t) exec.Post
-exec-same-length-27 t c = search needs
+exec-same-length-27 t c = c .before .before .before .before .before .before .before .before .before .before .before .branch .kept .1 .1 .1 .1 .1 .1 .1 .1 .1 .1 .1 .1 .1 .1 .1 .1 .0
 
 exec-same-length-28 : (t : ℕ) → exec-lts.Need-same-length-28 (exec-calls t) (exec-at t) exec.Post
-exec-same-length-28 t c = search needs
+exec-same-length-28 t c = c .before .before .before .before .before .before .before .before .before .before .before .branch .kept .1 .1 .1 .1 .1 .1 .1 .1 .1 .1 .1 .1 .1 .1 .1 .1 .1 .0
 
 exec-same-length-29 : (t : ℕ) → exec-lts.Need-same-length-29 (exec-calls t) (exec-at t) exec.Post
-exec-same-length-29 t c = search needs
+exec-same-length-29 t c = c .before .before .before .before .before .before .before .before .before .before .before .branch .kept .1 .1 .1 .1 .1 .1 .1 .1 .1 .1 .1 .1 .1 .1 .1 .1 .1 .1 .1 .0
 
 exec-returns-6 : (t : ℕ) → exec-lts.Need-returns-6 (exec-calls t) (exec-at t) exec.Post
 exec-returns-6 t c = c .before .before .before .before .before .before .before .before .before .before .before .branch .ensures
 
 exec-same-length-30 : (t : ℕ) → exec-lts.Need-same-length-30 (exec-calls t) (exec-at t) exec.Post
-exec-same-length-30 t c = search needs
+exec-same-length-30 t c = c .before .before .before .before .before .before .before .before .before .before .before .turns .kept .1 .1 .1 .1 .1 .1 .1 .1 .1 .0
 
 exec-same-length-31 : (t : ℕ) → exec-lts.Need-same-length-31 (exec-calls t) (exec-at t) exec.Post
-exec-same-length-31 t c = search needs
+exec-same-length-31 t c = c .before .before .before .before .before .before .before .before .before .before .before .turns .kept .1 .1 .1 .1 .1 .1 .1 .1 .1 .1 .1 .1 .0
 
 exec-same-length-32 : (t : ℕ) → exec-lts.Need-same-length-32 (exec-calls t) (exec-at t) exec.Post
-exec-same-length-32 t c = search needs
+exec-same-length-32 t c = c .before .before .before .before .before .before .before .before .before .before .before .turns .kept .1 .1 .1 .1 .1 .1 .1 .1 .1 .1 .1 .1 .1 .0
 
 exec-same-length-33 : (t : ℕ) → exec-lts.Need-same-length-33 (exec-calls t) (exec-at t) exec.Post
-exec-same-length-33 t c = search needs
+exec-same-length-33 t c = c .before .before .before .before .before .before .before .before .before .before .before .turns .kept .1 .1 .1 .1 .1 .1 .1 .1 .1 .1 .1 .1 .1 .1 .0
 
 exec-same-length-34 : (t : ℕ) → exec-lts.Need-same-length-34 (exec-calls t) (exec-at t) exec.Post
-exec-same-length-34 t c = search needs
+exec-same-length-34 t c = c .before .before .before .before .before .before .before .before .before .before .before .turns .kept .1 .1 .1 .1 .1 .1 .1 .1 .1 .1 .1 .1 .1 .1 .1 .0
 
 exec-same-length-35 : (t : ℕ) → exec-lts.Need-same-length-35 (exec-calls t) (exec-at t) exec.Post
-exec-same-length-35 t c = search needs
+exec-same-length-35 t c = c .before .before .before .before .before .before .before .before .before .before .before .turns .kept .1 .1 .1 .1 .1 .1 .1 .1 .1 .1 .1 .1 .1 .1 .1 .1 .0
 
 exec-same-length-36 : (t : ℕ) → exec-lts.Need-same-length-36 (exec-calls t) (exec-at t) exec.Post
-exec-same-length-36 t c = search needs
+exec-same-length-36 t c = c .before .before .before .before .before .before .before .before .before .before .before .turns .kept .1 .1 .1 .1 .1 .1 .1 .1 .1 .1 .1 .1 .1 .1 .1 .1 .1 .1 .0
 
 exec-returns-7 : (t : ℕ) → exec-lts.Need-returns-7 (exec-calls t) (exec-at t) exec.Post
 exec-returns-7 t c = c .before .before .before .before .before .before .before .before .before .before .before .turns .ensures
 
 exec-same-length-37 : (t : ℕ) → exec-lts.Need-same-length-37 (exec-calls t) (exec-at t) exec.Post
-exec-same-length-37 t c = search needs
+exec-same-length-37 t c = c .before .before .before .before .before .before .before .before .before .before .before .handle .kept .1 .1 .1 .1 .1 .1 .1 .1 .1 .0
 
 exec-same-length-38 : (t : ℕ) → exec-lts.Need-same-length-38 (exec-calls t) (exec-at t) exec.Post
-exec-same-length-38 t c = search needs
+exec-same-length-38 t c = c .before .before .before .before .before .before .before .before .before .before .before .handle .kept .1 .1 .1 .1 .1 .1 .1 .1 .1 .1 .1 .1 .0
 
 exec-same-length-39 : (t : ℕ) → exec-lts.Need-same-length-39 (exec-calls t) (exec-at t) exec.Post
-exec-same-length-39 t c = search needs
+exec-same-length-39 t c = c .before .before .before .before .before .before .before .before .before .before .before .handle .kept .1 .1 .1 .1 .1 .1 .1 .1 .1 .1 .1 .1 .1 .0
 
 exec-same-length-40 : (t : ℕ) → exec-lts.Need-same-length-40 (exec-calls t) (exec-at t) exec.Post
-exec-same-length-40 t c = search needs
+exec-same-length-40 t c = c .before .before .before .before .before .before .before .before .before .before .before .handle .kept .1 .1 .1 .1 .1 .1 .1 .1 .1 .1 .1 .1 .1 .1 .0
 
 exec-same-length-41 : (t : ℕ) → exec-lts.Need-same-length-41 (exec-calls t) (exec-at t) exec.Post
-exec-same-length-41 t c = search needs
+exec-same-length-41 t c = c .before .before .before .before .before .before .before .before .before .before .before .handle .kept .1 .1 .1 .1 .1 .1 .1 .1 .1 .1 .1 .1 .1 .1 .1 .0
 
 exec-same-length-42 : (t : ℕ) → exec-lts.Need-same-length-42 (exec-calls t) (exec-at t) exec.Post
-exec-same-length-42 t c = search needs
+exec-same-length-42 t c = c .before .before .before .before .before .before .before .before .before .before .before .handle .kept .1 .1 .1 .1 .1 .1 .1 .1 .1 .1 .1 .1 .1 .1 .1 .1 .0
 
 exec-same-length-43 : (t : ℕ) → exec-lts.Need-same-length-43 (exec-calls t) (exec-at t) exec.Post
-exec-same-length-43 t c = search needs
+exec-same-length-43 t c = c .before .before .before .before .before .before .before .before .before .before .before .handle .kept .1 .1 .1 .1 .1 .1 .1 .1 .1 .1 .1 .1 .1 .1 .1 .1 .1 .1 .0
 
 exec-returns-8 : (t : ℕ) → exec-lts.Need-returns-8 (exec-calls t) (exec-at t) exec.Post
 exec-returns-8 t c = c .before .before .before .before .before .before .before .before .before .before .before .handle .ensures
 
 exec-same-length-44 : (t : ℕ) → exec-lts.Need-same-length-44 (exec-calls t) (exec-at t) exec.Post
-exec-same-length-44 t c = search needs
+exec-same-length-44 t c = c .before .before .before .before .before .before .before .before .before .before .before .call .kept .1 .1 .1 .1 .1 .1 .1 .1 .1 .1 .0
 
 exec-same-length-45 : (t : ℕ) → exec-lts.Need-same-length-45 (exec-calls t) (exec-at t) exec.Post
-exec-same-length-45 t c = search needs
+exec-same-length-45 t c = c .before .before .before .before .before .before .before .before .before .before .before .call .kept .1 .1 .1 .1 .1 .1 .1 .1 .1 .1 .1 .1 .1 .0
 
 exec-same-length-46 : (t : ℕ) → exec-lts.Need-same-length-46 (exec-calls t) (exec-at t) exec.Post
-exec-same-length-46 t c = search needs
+exec-same-length-46 t c = c .before .before .before .before .before .before .before .before .before .before .before .call .kept .1 .1 .1 .1 .1 .1 .1 .1 .1 .1 .1 .1 .1 .1 .0
 
 exec-same-length-47 : (t : ℕ) → exec-lts.Need-same-length-47 (exec-calls t) (exec-at t) exec.Post
-exec-same-length-47 t c = search needs
+exec-same-length-47 t c = c .before .before .before .before .before .before .before .before .before .before .before .call .kept .1 .1 .1 .1 .1 .1 .1 .1 .1 .1 .1 .1 .1 .1 .1 .0
 
 exec-same-length-48 : (t : ℕ) → exec-lts.Need-same-length-48 (exec-calls t) (exec-at t) exec.Post
-exec-same-length-48 t c = search needs
+exec-same-length-48 t c = c .before .before .before .before .before .before .before .before .before .before .before .call .kept .1 .1 .1 .1 .1 .1 .1 .1 .1 .1 .1 .1 .1 .1 .1 .1 .0
 
 exec-same-length-49 : (t : ℕ) → exec-lts.Need-same-length-49 (exec-calls t) (exec-at t) exec.Post
-exec-same-length-49 t c = search needs
+exec-same-length-49 t c = c .before .before .before .before .before .before .before .before .before .before .before .call .kept .1 .1 .1 .1 .1 .1 .1 .1 .1 .1 .1 .1 .1 .1 .1 .1 .1 .0
 
 exec-same-length-50 : (t : ℕ) → exec-lts.Need-same-length-50 (exec-calls t) (exec-at t) exec.Post
-exec-same-length-50 t c = search needs
+exec-same-length-50 t c = c .before .before .before .before .before .before .before .before .before .before .before .call .kept .1 .1 .1 .1 .1 .1 .1 .1 .1 .1 .1 .1 .1 .1 .1 .1 .1 .1 .1 .0
 
 exec-returns-9 : (t : ℕ) → exec-lts.Need-returns-9 (exec-calls t) (exec-at t) exec.Post
 exec-returns-9 t c = c .before .before .before .before .before .before .before .before .before .before .before .call .ensures
 
 handle-stepped-requires : (t : ℕ) → handle-lts.Need-stepped-requires (handle-calls t) (handle-at t) handle.Post
-handle-stepped-requires t c κs = search needs
+handle-stepped-requires t c κs = tt
 
 handle-returns : (t : ℕ) → handle-lts.Need-returns (handle-calls t) (handle-at t) handle.Post
 unfolding instructionRowTree
@@ -535,32 +535,32 @@ unfolding instructionRowTree
 handle-returns-2 t c = executes (c .before .before .before .before .before .before .before .before .before .before .before .before .pre .1 .0) (c .before .before .before .before .before .before .before .before .before .before .before .before .pre .1 .1) (λ p b n vs h. handle-other (calling _ n) vs (h .holds) (c .before .before .before .before .before .before .before .before .before .before .before .before .pre .1 .0 .going) (c .before .before .before .stepped .ensures) _ _ _ (c .before .before .if1 .left) (c .if2 .taken))
 
 handle-cleared-requires : (t : ℕ) → handle-lts.Need-cleared-requires (handle-calls t) (handle-at t) handle.Post
-handle-cleared-requires t c κs = search needs
+handle-cleared-requires t c κs = tt
 
 handle-exec-requires : (t : ℕ) → handle-lts.Need-exec-requires (handle-calls t) (handle-at t) handle.Post
 unfolding InstructionFacts
 handle-exec-requires t c κs = let f = facts (c .before .before .before .before .before .before .before .before .before .before .before .before .before .before .before .before .before .before .before .before .pre .1 .0) (c .before .before .before .before .before .before .before .before .before .before .before .before .before .before .before .before .before .before .before .before .pre .1 .1) in (omega (arith, c .before .before .before .before .before .before .before .before .before .before .before .before .before .before .before .before .before .before .before .before .pre .0, f .1), part (c .before .before .before .before .before .before .before .before .before .before .before .before .before .before .before .before .before .before .before .before .pre .1 .0) (c .before .before .before .before .before .before .before .before .before .before .before .before .before .before .before .before .before .before .before .before .pre .1 .1) (handle-body _ _) (c .before .before .before .before .before .before .before .before .before .before .before .before .before .before .before .before .before .before .before .before .pre .1 .0 .store) (c .before .before .before .before .before .before .before .before .before .before .before .before .before .before .before .before .before .before .before .before .pre .1 .0 .stands .holds) refl refl (f .1) (cleared-going (c .before .before .before .before .before .before .before .before .before .before .before .stepped .result) (c .before .before .before .before .before .before .before .before .before .before .if1 .left) (c .before .cleared .ensures)))
 
 handle-same-length : (t : ℕ) → handle-lts.Need-same-length (handle-calls t) (handle-at t) handle.Post
-handle-same-length t c = search needs
+handle-same-length t c = c .before .before .before .before .before .before .before .before .before .before .before .exec .kept .1 .1 .1 .1 .1 .1 .1 .0
 
 handle-same-length-2 : (t : ℕ) → handle-lts.Need-same-length-2 (handle-calls t) (handle-at t) handle.Post
-handle-same-length-2 t c = search needs
+handle-same-length-2 t c = c .before .before .before .before .before .before .before .before .before .before .before .exec .kept .1 .1 .1 .1 .1 .1 .1 .1 .1 .1 .0
 
 handle-same-length-3 : (t : ℕ) → handle-lts.Need-same-length-3 (handle-calls t) (handle-at t) handle.Post
-handle-same-length-3 t c = search needs
+handle-same-length-3 t c = c .before .before .before .before .before .before .before .before .before .before .before .exec .kept .1 .1 .1 .1 .1 .1 .1 .1 .1 .1 .1 .0
 
 handle-same-length-4 : (t : ℕ) → handle-lts.Need-same-length-4 (handle-calls t) (handle-at t) handle.Post
-handle-same-length-4 t c = search needs
+handle-same-length-4 t c = c .before .before .before .before .before .before .before .before .before .before .before .exec .kept .1 .1 .1 .1 .1 .1 .1 .1 .1 .1 .1 .1 .0
 
 handle-same-length-5 : (t : ℕ) → handle-lts.Need-same-length-5 (handle-calls t) (handle-at t) handle.Post
-handle-same-length-5 t c = search needs
+handle-same-length-5 t c = c .before .before .before .before .before .before .before .before .before .before .before .exec .kept .1 .1 .1 .1 .1 .1 .1 .1 .1 .1 .1 .1 .1 .0
 
 handle-same-length-6 : (t : ℕ) → handle-lts.Need-same-length-6 (handle-calls t) (handle-at t) handle.Post
-handle-same-length-6 t c = search needs
+handle-same-length-6 t c = c .before .before .before .before .before .before .before .before .before .before .before .exec .kept .1 .1 .1 .1 .1 .1 .1 .1 .1 .1 .1 .1 .1 .1 .0
 
 handle-same-length-7 : (t : ℕ) → handle-lts.Need-same-length-7 (handle-calls t) (handle-at t) handle.Post
-handle-same-length-7 t c = search needs
+handle-same-length-7 t c = c .before .before .before .before .before .before .before .before .before .before .before .exec .kept .1 .1 .1 .1 .1 .1 .1 .1 .1 .1 .1 .1 .1 .1 .1 .1 .0
 
 handle-returns-3 : (t : ℕ) → handle-lts.Need-returns-3 (handle-calls t) (handle-at t) handle.Post
 unfolding instructionRowTree
@@ -579,28 +579,28 @@ opened-cast-settled : (t : ℕ) → opened-lts.Need-cast-settled (opened-calls t
 opened-cast-settled t c = record { fits = narrow (c .before .before .before .before .before .before .before .before .before .before .before .before .before .before .before .before .before .before .before .before .before .before .before .before .before .pre .1 .0 .asked) }
 
 opened-settled-requires : (t : ℕ) → opened-lts.Need-settled-requires (opened-calls t) (opened-at t) opened.Post
-opened-settled-requires t c κs = search needs
+opened-settled-requires t c κs = tt
 
 opened-same-length : (t : ℕ) → opened-lts.Need-same-length (opened-calls t) (opened-at t) opened.Post
-opened-same-length t c = search needs
+opened-same-length t c = back-long (length (c .before .before .before .before .before .before .before .before .before .before .before .before .before .before .before .before .before .before .before .before .before .before .before .before .before .before .args .bodies .now)) (c .before .before .before .before .before .before .before .before .before .before .before .before .before .before .before .before .before .before .before .before .before .before .before .before .before .before .args .own-bodies .now) (c .before .before .before .before .before .before .before .before .enter .last .1 .1 .1 .1 .1 .1 .1 .1 .1 .1 .1 .1 .1 .1 .0) (c .before .before .before .before .before .before .before .before .enter .kept .1 .1 .1 .1 .1 .1 .1 .1 .1 .1 .1 .1 .1 .1 .0)
 
 opened-same-length-2 : (t : ℕ) → opened-lts.Need-same-length-2 (opened-calls t) (opened-at t) opened.Post
-opened-same-length-2 t c = search needs
+opened-same-length-2 t c = c .before .before .before .before .before .before .before .before .enter .kept .1 .1 .1 .1 .1 .1 .1 .1 .1 .1 .1 .1 .1 .1 .1 .0
 
 opened-same-length-3 : (t : ℕ) → opened-lts.Need-same-length-3 (opened-calls t) (opened-at t) opened.Post
-opened-same-length-3 t c = search needs
+opened-same-length-3 t c = c .before .before .before .before .before .before .before .before .enter .kept .1 .1 .1 .1 .1 .1 .1 .1 .1 .1 .1 .1 .1 .1 .1 .1 .0
 
 opened-same-length-4 : (t : ℕ) → opened-lts.Need-same-length-4 (opened-calls t) (opened-at t) opened.Post
-opened-same-length-4 t c = search needs
+opened-same-length-4 t c = refl
 
 opened-same-length-5 : (t : ℕ) → opened-lts.Need-same-length-5 (opened-calls t) (opened-at t) opened.Post
-opened-same-length-5 t c = search needs
+opened-same-length-5 t c = refl
 
 opened-same-length-6 : (t : ℕ) → opened-lts.Need-same-length-6 (opened-calls t) (opened-at t) opened.Post
-opened-same-length-6 t c = search needs
+opened-same-length-6 t c = refl
 
 opened-same-length-7 : (t : ℕ) → opened-lts.Need-same-length-7 (opened-calls t) (opened-at t) opened.Post
-opened-same-length-7 t c = search needs
+opened-same-length-7 t c = c .before .before .before .before .before .before .before .before .enter .kept .1 .1 .1 .1 .1 .1 .1 .1 .1 .1 .1 .1 .1 .1 .1 .1 .1 .0
 
 opened-returns : (t : ℕ) → opened-lts.Need-returns (opened-calls t) (opened-at t) opened.Post
 opened-returns t c = opens-failed (c .before .before .before .before .before .before .before .before .before .before .before .before .before .before .before .before .before .before .before .before .before .before .before .before .before .before .pre .1 .0) (c .before .before .before .before .before .before .before .before .enter .ensures) (c .before .if1 .taken) (c .settled .ensures)
@@ -660,19 +660,19 @@ opened-same-length-8 : (t : ℕ) → opened-lts.Need-same-length-8 (opened-calls
 opened-same-length-8 t c = omega (arith, (back-long (length (c .before .before .before .before .before .before .before .before .before .before .before .before .before .before .before .before .before .before .before .before .before .before .before .before .before .before .before .before .before .before .before .before .before .before .before .before .before .before .before .before .before .before .before .before .before .before .before .before .before .before .before .before .before .before .before .before .before .before .before .before .before .before .before .before .before .before .before .before .args .bodies .now)) (c .before .before .before .before .before .before .before .before .before .before .before .before .before .before .before .before .before .before .before .before .before .before .before .before .before .before .before .before .before .before .before .before .before .before .before .before .before .before .before .before .before .before .before .before .before .before .before .before .before .before .before .before .before .before .before .before .before .before .before .before .before .before .before .before .before .before .before .before .args .own-bodies .now) (c .before .before .before .before .before .before .before .before .before .before .before .before .before .before .before .before .before .before .before .before .before .before .before .before .before .before .before .before .before .before .before .before .before .before .before .before .before .before .before .before .before .before .before .before .before .before .before .before .before .before .enter .last .1 .1 .1 .1 .1 .1 .1 .1 .1 .1 .1 .1 .1 .1 .0) (c .before .before .before .before .before .before .before .before .before .before .before .before .before .before .before .before .before .before .before .before .before .before .before .before .before .before .before .before .before .before .before .before .before .before .before .before .before .before .before .before .before .before .before .before .before .before .before .before .before .before .enter .kept .1 .1 .1 .1 .1 .1 .1 .1 .1 .1 .1 .1 .1 .1 .0)), (back-long (length (c .before .before .before .before .before .before .before .before .before .before .before .before .before .before .before .before .before .before .before .before .before .before .before .before .before .before .before .before .before .before .before .before .before .before .before .before .before .before .before .before .before .before .before .before .before .before .before .before .before .before .before .before .before .before .before .before .before .before .before .before .before .before .before .before .before .before .before .before .args .bodies .now)) ((c .before .before .before .before .before .before .before .before .before .before .before .before .before .before .before .before .before .before .before .before .before .before .before .before .before .before .before .before .before .before .before .before .before .before .before .before .before .before .before .before .before .before .before .before .before .before .before .before .before .before .enter .last .1 .1 .1 .1 .1 .1 .1 .1 .1 .1 .1 .1 .1 .1 .0) ++ drop (length (c .before .before .before .before .before .before .before .before .before .before .before .before .before .before .before .before .before .before .before .before .before .before .before .before .before .before .before .before .before .before .before .before .before .before .before .before .before .before .before .before .before .before .before .before .before .before .before .before .before .before .before .before .before .before .before .before .before .before .before .before .before .before .before .before .before .before .before .before .args .bodies .now)) (c .before .before .before .before .before .before .before .before .before .before .before .before .before .before .before .before .before .before .before .before .before .before .before .before .before .before .before .before .before .before .before .before .before .before .before .before .before .before .before .before .before .before .before .before .before .before .before .before .before .before .before .before .before .before .before .before .before .before .before .before .before .before .before .before .before .before .before .before .args .own-bodies .now)) (c .before .before .before .before .before .before .before .before .before .before .before .before .before .before .before .before .before .before .before .before .before .before .before .before .before .before .before .before .before .before .before .before .before .exec .last .1 .1 .1 .1 .1 .1 .1 .0) (c .before .before .before .before .before .before .before .before .before .before .before .before .before .before .before .before .before .before .before .before .before .before .before .before .before .before .before .before .before .before .before .before .before .exec .kept .1 .1 .1 .1 .1 .1 .1 .0)))
 
 opened-same-length-9 : (t : ℕ) → opened-lts.Need-same-length-9 (opened-calls t) (opened-at t) opened.Post
-opened-same-length-9 t c = omega (arith, c .before .before .before .before .before .before .before .before .before .before .before .before .before .before .before .before .before .before .before .before .before .before .before .before .before .before .before .before .before .before .before .before .before .before .before .before .before .before .before .before .before .before .before .before .before .before .before .before .before .before .enter .kept .1 .1 .1 .1 .1 .1 .1 .1 .1 .1 .1 .1 .1 .1 .1 .0, c .before .before .before .before .before .before .before .before .before .before .before .before .before .before .before .before .before .before .before .before .before .before .before .before .before .before .before .before .before .before .before .before .before .exec .kept .1 .1 .1 .1 .1 .1 .1 .1 .1 .1 .0)
+opened-same-length-9 t c = c .before .before .before .before .before .before .before .before .before .before .before .before .before .before .before .before .before .before .before .before .before .before .before .before .before .before .before .before .before .before .before .before .before .exec .kept .1 .1 .1 .1 .1 .1 .1 .1 .1 .1 .0 ∙ c .before .before .before .before .before .before .before .before .before .before .before .before .before .before .before .before .before .before .before .before .before .before .before .before .before .before .before .before .before .before .before .before .before .before .before .before .before .before .before .before .before .before .before .before .before .before .before .before .before .before .enter .kept .1 .1 .1 .1 .1 .1 .1 .1 .1 .1 .1 .1 .1 .1 .1 .0
 
 opened-same-length-10 : (t : ℕ) → opened-lts.Need-same-length-10 (opened-calls t) (opened-at t) opened.Post
-opened-same-length-10 t c = omega (arith, c .before .before .before .before .before .before .before .before .before .before .before .before .before .before .before .before .before .before .before .before .before .before .before .before .before .before .before .before .before .before .before .before .before .before .before .before .before .before .before .before .before .before .before .before .before .before .before .before .before .before .enter .kept .1 .1 .1 .1 .1 .1 .1 .1 .1 .1 .1 .1 .1 .1 .1 .1 .0, c .before .before .before .before .before .before .before .before .before .before .before .before .before .before .before .before .before .before .before .before .before .before .before .before .before .before .before .before .before .before .before .before .before .exec .kept .1 .1 .1 .1 .1 .1 .1 .1 .1 .1 .1 .0)
+opened-same-length-10 t c = c .before .before .before .before .before .before .before .before .before .before .before .before .before .before .before .before .before .before .before .before .before .before .before .before .before .before .before .before .before .before .before .before .before .exec .kept .1 .1 .1 .1 .1 .1 .1 .1 .1 .1 .1 .0 ∙ c .before .before .before .before .before .before .before .before .before .before .before .before .before .before .before .before .before .before .before .before .before .before .before .before .before .before .before .before .before .before .before .before .before .before .before .before .before .before .before .before .before .before .before .before .before .before .before .before .before .before .enter .kept .1 .1 .1 .1 .1 .1 .1 .1 .1 .1 .1 .1 .1 .1 .1 .1 .0
 
 opened-same-length-11 : (t : ℕ) → opened-lts.Need-same-length-11 (opened-calls t) (opened-at t) opened.Post
-opened-same-length-11 t c = search needs
+opened-same-length-11 t c = c .before .before .before .before .before .before .before .before .before .before .before .leave .kept .1 .1 .1 .1 .1 .1 .1 .1 .1 .1 .1 .1 .0
 
 opened-same-length-12 : (t : ℕ) → opened-lts.Need-same-length-12 (opened-calls t) (opened-at t) opened.Post
-opened-same-length-12 t c = search needs
+opened-same-length-12 t c = c .before .before .before .before .before .before .before .before .before .before .before .leave .kept .1 .1 .1 .1 .1 .1 .1 .1 .1 .1 .1 .1 .1 .0
 
 opened-same-length-13 : (t : ℕ) → opened-lts.Need-same-length-13 (opened-calls t) (opened-at t) opened.Post
-opened-same-length-13 t c = search needs
+opened-same-length-13 t c = c .before .before .before .before .before .before .before .before .before .before .before .leave .kept .1 .1 .1 .1 .1 .1 .1 .1 .1 .1 .1 .1 .1 .1 .0
 
 opened-same-length-14 : (t : ℕ) → opened-lts.Need-same-length-14 (opened-calls t) (opened-at t) opened.Post
 opened-same-length-14 t c = omega (arith, c .before .before .before .before .before .before .before .before .before .before .before .leave .kept .1 .1 .1 .1 .1 .1 .1 .1 .1 .1 .1 .1 .1 .1 .1 .0, same-len-mid (length (c .before .before .before .before .before .before .before .before .before .before .before .before .before .before .before .before .before .before .before .before .before .before .before .before .before .before .before .before .before .before .before .before .before .before .before .before .before .before .before .before .before .before .before .before .before .before .before .before .before .before .before .before .before .before .before .before .before .before .before .before .before .before .before .before .before .before .before .before .args .bodies .now)) (length (c .before .before .before .before .before .before .before .before .before .before .before .before .before .before .before .before .before .before .before .before .before .before .before .before .before .before .before .before .before .before .before .before .before .before .before .before .before .before .before .before .before .before .before .before .before .before .before .before .before .before .before .before .before .before .before .before .before .before .before .before .before .before .before .before .before .before .before .before .args .open-bodies .now) - (length (c .before .before .before .before .before .before .before .before .before .before .before .before .before .before .before .before .before .before .before .before .before .before .before .before .before .before .before .before .before .before .before .before .before .before .before .before .before .before .before .before .before .before .before .before .before .before .before .before .before .before .before .before .before .before .before .before .before .before .before .before .before .before .before .before .before .before .before .before .args .bodies .now))) (c .before .before .before .before .before .before .before .before .before .before .before .before .before .before .before .before .before .before .before .before .before .before .before .before .before .before .before .before .before .before .before .before .before .before .before .before .before .before .before .before .before .before .before .before .before .before .before .before .before .before .before .before .before .before .before .before .before .before .before .before .before .before .before .before .before .before .before .before .args .open-bodies .now) (c .before .before .before .before .before .before .before .before .before .before .before .before .before .before .before .before .before .before .before .before .before .before .before .before .before .before .before .before .before .before .before .before .before .exec .last .1 .1 .1 .1 .1 .1 .1 .1 .1 .1 .1 .1 .0) (c .before .before .before .before .before .before .before .before .before .before .before .before .before .before .before .before .before .before .before .before .before .before .before .before .before .before .before .before .before .before .before .before .before .exec .kept .1 .1 .1 .1 .1 .1 .1 .1 .1 .1 .1 .1 .0))
@@ -684,7 +684,7 @@ opened-same-length-16 : (t : ℕ) → opened-lts.Need-same-length-16 (opened-cal
 opened-same-length-16 t c = omega (arith, c .before .before .before .before .before .before .before .before .before .before .before .leave .kept .1 .1 .1 .1 .1 .1 .1 .1 .1 .1 .1 .1 .1 .1 .1 .1 .1 .0, same-len-mid 32 (length (c .before .before .before .before .before .before .before .before .before .before .before .before .before .before .before .before .before .before .before .before .before .before .before .before .before .before .before .before .before .before .before .before .before .before .before .before .before .before .before .before .before .before .before .before .before .before .before .before .before .before .before .before .before .before .before .before .before .before .before .before .before .before .before .before .before .before .before .before .args .open-states .now) - 32) (c .before .before .before .before .before .before .before .before .before .before .before .before .before .before .before .before .before .before .before .before .before .before .before .before .before .before .before .before .before .before .before .before .before .before .before .before .before .before .before .before .before .before .before .before .before .before .before .before .before .before .before .before .before .before .before .before .before .before .before .before .before .before .before .before .before .before .before .before .args .open-states .now) (c .before .before .before .before .before .before .before .before .before .before .before .before .before .before .before .before .before .before .before .before .before .before .before .before .before .before .before .before .before .before .before .before .before .exec .last .1 .1 .1 .1 .1 .1 .1 .1 .1 .1 .1 .1 .1 .1 .0) (c .before .before .before .before .before .before .before .before .before .before .before .before .before .before .before .before .before .before .before .before .before .before .before .before .before .before .before .before .before .before .before .before .before .exec .kept .1 .1 .1 .1 .1 .1 .1 .1 .1 .1 .1 .1 .1 .1 .0))
 
 opened-same-length-17 : (t : ℕ) → opened-lts.Need-same-length-17 (opened-calls t) (opened-at t) opened.Post
-opened-same-length-17 t c = omega (arith, c .before .before .before .before .before .before .before .before .before .before .before .before .before .before .before .before .before .before .before .before .before .before .before .before .before .before .before .before .before .before .before .before .before .before .before .before .before .before .before .before .before .before .before .before .before .before .before .before .before .before .enter .kept .1 .1 .1 .1 .1 .1 .1 .1 .1 .1 .1 .1 .1 .1 .1 .1 .1 .0, c .before .before .before .before .before .before .before .before .before .before .before .before .before .before .before .before .before .before .before .before .before .before .before .before .before .before .before .before .before .before .before .before .before .exec .kept .1 .1 .1 .1 .1 .1 .1 .1 .1 .1 .1 .1 .1 .1 .1 .1 .0, c .before .before .before .before .before .before .before .before .before .before .before .leave .kept .1 .1 .1 .1 .1 .1 .1 .1 .1 .1 .1 .1 .1 .1 .1 .1 .1 .1 .1 .0)
+opened-same-length-17 t c = c .before .before .before .before .before .before .before .before .before .before .before .leave .kept .1 .1 .1 .1 .1 .1 .1 .1 .1 .1 .1 .1 .1 .1 .1 .1 .1 .1 .1 .0 ∙ c .before .before .before .before .before .before .before .before .before .before .before .before .before .before .before .before .before .before .before .before .before .before .before .before .before .before .before .before .before .before .before .before .before .exec .kept .1 .1 .1 .1 .1 .1 .1 .1 .1 .1 .1 .1 .1 .1 .1 .1 .0 ∙ c .before .before .before .before .before .before .before .before .before .before .before .before .before .before .before .before .before .before .before .before .before .before .before .before .before .before .before .before .before .before .before .before .before .before .before .before .before .before .before .before .before .before .before .before .before .before .before .before .before .before .enter .kept .1 .1 .1 .1 .1 .1 .1 .1 .1 .1 .1 .1 .1 .1 .1 .1 .1 .0
 
 opened-returns-2 : (t : ℕ) → opened-lts.Need-returns-2 (opened-calls t) (opened-at t) opened.Post
 opened-returns-2 t c = opens (c .before .before .before .before .before .before .before .before .before .before .before .before .before .before .before .before .before .before .before .before .before .before .before .before .before .before .before .before .before .before .before .before .before .before .before .before .before .before .before .before .before .before .before .before .before .before .before .before .before .before .before .before .before .before .before .before .before .before .before .before .before .before .before .before .before .before .before .before .pre .1 .0) (c .before .before .before .before .before .before .before .before .before .before .before .before .before .before .before .before .before .before .before .before .before .before .before .before .before .before .before .before .before .before .before .before .before .before .before .before .before .before .before .before .before .before .before .before .before .before .before .before .before .before .enter .ensures) (c .before .before .before .before .before .before .before .before .before .before .before .before .before .before .before .before .before .before .before .before .before .before .before .before .before .before .before .before .before .before .before .before .before .before .before .before .before .before .before .before .before .before .before .if1 .left) (ran-as (c .before .before .before .before .before .before .before .before .before .before .before .before .before .before .before .before .before .before .before .before .before .before .before .before .before .before .before .before .before .before .before .before .before .before .before .before .before .before .before .before .before .before .body-in .ensures) (front-again _ _ _ _ _ (let e : length (c .before .before .before .before .before .before .before .before .before .before .before .before .before .before .before .before .before .before .before .before .before .before .before .before .before .before .before .before .before .before .before .before .before .before .before .before .before .before .before .before .before .before .before .before .before .before .before .before .before .before .enter .last .1 .1 .1 .1 .1 .1 .1 .1 .1 .1 .1 .1 .1 .1 .0) ≡ length (c .before .before .before .before .before .before .before .before .before .before .before .before .before .before .before .before .before .before .before .before .before .before .before .before .before .before .before .before .before .before .before .before .before .before .before .before .before .before .before .before .before .before .before .before .before .before .before .before .before .before .before .before .before .before .before .before .before .before .before .before .before .before .before .before .before .before .before .before .args .bodies .now) = omega (arith, c .before .before .before .before .before .before .before .before .before .before .before .before .before .before .before .before .before .before .before .before .before .before .before .before .before .before .before .before .before .before .before .before .before .before .before .before .before .before .before .before .before .before .before .before .before .before .before .before .before .before .enter .kept .1 .1 .1 .1 .1 .1 .1 .1 .1 .1 .1 .1 .1 .1 .0, front-long (length (c .before .before .before .before .before .before .before .before .before .before .before .before .before .before .before .before .before .before .before .before .before .before .before .before .before .before .before .before .before .before .before .before .before .before .before .before .before .before .before .before .before .before .before .before .before .before .before .before .before .before .before .before .before .before .before .before .before .before .before .before .before .before .before .before .before .before .before .before .args .bodies .now)) (c .before .before .before .before .before .before .before .before .before .before .before .before .before .before .before .before .before .before .before .before .before .before .before .before .before .before .before .before .before .before .before .before .before .before .before .before .before .before .before .before .before .before .before .before .before .before .before .before .before .before .before .before .before .before .before .before .before .before .before .before .before .before .before .before .before .before .before .before .args .own-bodies .now) (front-fits (c .before .before .before .before .before .before .before .before .before .before .before .before .before .before .before .before .before .before .before .before .before .before .before .before .before .before .before .before .before .before .before .before .before .before .before .before .before .before .before .before .before .before .before .before .before .before .before .before .before .before .before .before .before .before .before .before .before .before .before .before .before .before .before .before .before .before .before .before .pre .1 .0) (c .before .before .before .before .before .before .before .before .before .before .before .before .before .before .before .before .before .before .before .before .before .before .before .before .before .before .before .before .before .before .before .before .before .before .before .before .before .before .before .before .before .before .before .before .before .before .before .before .before .before .before .before .before .before .before .before .before .before .before .before .before .before .before .before .before .before .before .before .pre .1 .1))) in e)) (area-before (lent (c .before .before .before .before .before .before .before .before .before .before .before .before .before .before .before .before .before .before .before .before .before .before .before .before .before .before .before .before .before .before .before .before .before .before .before .before .before .before .before .before .before .before .before .before .before .before .before .before .before .before .before .before .before .before .before .before .before .before .before .before .before .before .before .before .before .before .before .before .args .open-cells .now) (c .before .before .before .before .before .before .before .before .before .before .before .before .before .before .before .before .before .before .before .before .before .before .before .before .before .before .before .before .before .before .before .before .before .before .before .before .before .before .before .before .before .before .before .before .before .before .before .before .before .before .before .before .before .before .before .before .before .before .before .before .before .before .before .before .before .before .before .before .args .open-states .now) (c .before .before .before .before .before .before .before .before .before .before .before .before .before .before .before .before .before .before .before .before .before .before .before .before .before .before .before .before .before .before .before .before .before .before .before .before .before .before .before .before .before .before .before .before .before .before .before .before .before .before .before .before .before .before .before .before .before .before .before .before .before .before .before .before .before .before .before .before .args .open-bodies .now)) _ _ (own-bodies (c .before .before .before .before .before .before .before .before .before .before .before .before .before .before .before .before .before .before .before .before .before .before .before .before .before .before .before .before .before .before .before .before .before .before .before .before .before .before .before .before .before .before .before .before .before .before .before .before .before .before .before .before .before .before .before .before .before .before .before .before .before .before .before .before .before .before .before .before .pre .1 .0))) (c .before .before .before .before .before .before .before .before .before .before .before .before .before .before .before .before .before .before .before .before .before .before .before .before .before .before .before .before .before .before .before .before .before .exec .ensures)) (area-behind (lent (c .before .before .before .before .before .before .before .before .before .before .before .before .before .before .before .before .before .before .before .before .before .before .before .before .before .before .before .before .before .before .before .before .before .before .before .before .before .before .before .before .before .before .before .before .before .before .before .before .before .before .before .before .before .before .before .before .before .before .before .before .before .before .before .before .before .before .before .before .args .open-cells .now) (c .before .before .before .before .before .before .before .before .before .before .before .before .before .before .before .before .before .before .before .before .before .before .before .before .before .before .before .before .before .before .before .before .before .before .before .before .before .before .before .before .before .before .before .before .before .before .before .before .before .before .before .before .before .before .before .before .before .before .before .before .before .before .before .before .before .before .before .before .args .open-states .now) (c .before .before .before .before .before .before .before .before .before .before .before .before .before .before .before .before .before .before .before .before .before .before .before .before .before .before .before .before .before .before .before .before .before .before .before .before .before .before .before .before .before .before .before .before .before .before .before .before .before .before .before .before .before .before .before .before .before .before .before .before .before .before .before .before .before .before .before .before .args .open-bodies .now)) (lent (c .before .before .before .before .before .before .before .before .before .before .before .before .before .before .before .before .before .before .before .before .before .before .before .before .before .before .before .before .before .before .before .before .before .exec .last .1 .1 .1 .1 .1 .1 .1 .1 .1 .1 .1 .1 .1 .0) (c .before .before .before .before .before .before .before .before .before .before .before .before .before .before .before .before .before .before .before .before .before .before .before .before .before .before .before .before .before .before .before .before .before .exec .last .1 .1 .1 .1 .1 .1 .1 .1 .1 .1 .1 .1 .1 .1 .0) (c .before .before .before .before .before .before .before .before .before .before .before .before .before .before .before .before .before .before .before .before .before .before .before .before .before .before .before .before .before .before .before .before .before .exec .last .1 .1 .1 .1 .1 .1 .1 .1 .1 .1 .1 .1 .0)) _ _ (own-bodies (c .before .before .before .before .before .before .before .before .before .before .before .before .before .before .before .before .before .before .before .before .before .before .before .before .before .before .before .before .before .before .before .before .before .before .before .before .before .before .before .before .before .before .before .before .before .before .before .before .before .before .before .before .before .before .before .before .before .before .before .before .before .before .before .before .before .before .before .before .pre .1 .0))) (front-again _ _ _ _ _ (let e : length (c .before .before .before .before .before .before .before .before .before .before .before .before .before .before .before .before .before .before .before .before .before .before .before .before .before .before .before .before .before .before .before .before .before .exec .last .1 .1 .1 .1 .1 .1 .1 .0) ≡ length (c .before .before .before .before .before .before .before .before .before .before .before .before .before .before .before .before .before .before .before .before .before .before .before .before .before .before .before .before .before .before .before .before .before .before .before .before .before .before .before .before .before .before .before .before .before .before .before .before .before .before .before .before .before .before .before .before .before .before .before .before .before .before .before .before .before .before .before .before .args .bodies .now) = omega (arith, c .before .before .before .before .before .before .before .before .before .before .before .before .before .before .before .before .before .before .before .before .before .before .before .before .before .before .before .before .before .before .before .before .before .exec .kept .1 .1 .1 .1 .1 .1 .1 .0, front-long (length (c .before .before .before .before .before .before .before .before .before .before .before .before .before .before .before .before .before .before .before .before .before .before .before .before .before .before .before .before .before .before .before .before .before .before .before .before .before .before .before .before .before .before .before .before .before .before .before .before .before .before .before .before .before .before .before .before .before .before .before .before .before .before .before .before .before .before .before .before .args .bodies .now)) ((c .before .before .before .before .before .before .before .before .before .before .before .before .before .before .before .before .before .before .before .before .before .before .before .before .before .before .before .before .before .before .before .before .before .before .before .before .before .before .before .before .before .before .before .before .before .before .before .before .before .before .enter .last .1 .1 .1 .1 .1 .1 .1 .1 .1 .1 .1 .1 .1 .1 .0) ++ drop (length (c .before .before .before .before .before .before .before .before .before .before .before .before .before .before .before .before .before .before .before .before .before .before .before .before .before .before .before .before .before .before .before .before .before .before .before .before .before .before .before .before .before .before .before .before .before .before .before .before .before .before .before .before .before .before .before .before .before .before .before .before .before .before .before .before .before .before .before .before .args .bodies .now)) (c .before .before .before .before .before .before .before .before .before .before .before .before .before .before .before .before .before .before .before .before .before .before .before .before .before .before .before .before .before .before .before .before .before .before .before .before .before .before .before .before .before .before .before .before .before .before .before .before .before .before .before .before .before .before .before .before .before .before .before .before .before .before .before .before .before .before .before .before .args .own-bodies .now)) (let e : length (c .before .before .before .before .before .before .before .before .before .before .before .before .before .before .before .before .before .before .before .before .before .before .before .before .before .before .before .before .before .before .before .before .before .before .before .before .before .before .before .before .before .before .before .before .before .before .before .before .before .before .before .before .before .before .before .before .before .before .before .before .before .before .before .before .before .before .before .before .args .bodies .now) ≤ length ((c .before .before .before .before .before .before .before .before .before .before .before .before .before .before .before .before .before .before .before .before .before .before .before .before .before .before .before .before .before .before .before .before .before .before .before .before .before .before .before .before .before .before .before .before .before .before .before .before .before .before .enter .last .1 .1 .1 .1 .1 .1 .1 .1 .1 .1 .1 .1 .1 .1 .0) ++ drop (length (c .before .before .before .before .before .before .before .before .before .before .before .before .before .before .before .before .before .before .before .before .before .before .before .before .before .before .before .before .before .before .before .before .before .before .before .before .before .before .before .before .before .before .before .before .before .before .before .before .before .before .before .before .before .before .before .before .before .before .before .before .before .before .before .before .before .before .before .before .args .bodies .now)) (c .before .before .before .before .before .before .before .before .before .before .before .before .before .before .before .before .before .before .before .before .before .before .before .before .before .before .before .before .before .before .before .before .before .before .before .before .before .before .before .before .before .before .before .before .before .before .before .before .before .before .before .before .before .before .before .before .before .before .before .before .before .before .before .before .before .before .before .before .args .own-bodies .now)) = omega (arith, (front-fits (c .before .before .before .before .before .before .before .before .before .before .before .before .before .before .before .before .before .before .before .before .before .before .before .before .before .before .before .before .before .before .before .before .before .before .before .before .before .before .before .before .before .before .before .before .before .before .before .before .before .before .before .before .before .before .before .before .before .before .before .before .before .before .before .before .before .before .before .before .pre .1 .0) (c .before .before .before .before .before .before .before .before .before .before .before .before .before .before .before .before .before .before .before .before .before .before .before .before .before .before .before .before .before .before .before .before .before .before .before .before .before .before .before .before .before .before .before .before .before .before .before .before .before .before .before .before .before .before .before .before .before .before .before .before .before .before .before .before .before .before .before .before .pre .1 .1)), (back-long (length (c .before .before .before .before .before .before .before .before .before .before .before .before .before .before .before .before .before .before .before .before .before .before .before .before .before .before .before .before .before .before .before .before .before .before .before .before .before .before .before .before .before .before .before .before .before .before .before .before .before .before .before .before .before .before .before .before .before .before .before .before .before .before .before .before .before .before .before .before .args .bodies .now)) (c .before .before .before .before .before .before .before .before .before .before .before .before .before .before .before .before .before .before .before .before .before .before .before .before .before .before .before .before .before .before .before .before .before .before .before .before .before .before .before .before .before .before .before .before .before .before .before .before .before .before .before .before .before .before .before .before .before .before .before .before .before .before .before .before .before .before .before .before .args .own-bodies .now) (c .before .before .before .before .before .before .before .before .before .before .before .before .before .before .before .before .before .before .before .before .before .before .before .before .before .before .before .before .before .before .before .before .before .before .before .before .before .before .before .before .before .before .before .before .before .before .before .before .before .before .enter .last .1 .1 .1 .1 .1 .1 .1 .1 .1 .1 .1 .1 .1 .1 .0) (c .before .before .before .before .before .before .before .before .before .before .before .before .before .before .before .before .before .before .before .before .before .before .before .before .before .before .before .before .before .before .before .before .before .before .before .before .before .before .before .before .before .before .before .before .before .before .before .before .before .before .enter .kept .1 .1 .1 .1 .1 .1 .1 .1 .1 .1 .1 .1 .1 .1 .0))) in e)) in e)) (c .before .before .before .before .before .before .before .before .before .before .before .leave .ensures)
@@ -701,28 +701,28 @@ turns-loop-holds : (t : ℕ) → turns-lts.Need-loop-holds (turns-calls t) (turn
 turns-loop-holds t c = (refl, refl, refl, refl, refl, refl, refl, λ p b n vs h. first-turn (calling _ n) _ _ _ vs (h .holds) (c .before .before .before .before .before .before .before .before .pre .1 .0 .going))
 
 turns-stepped-requires : (t : ℕ) → turns-lts.Need-stepped-requires (turns-calls t) (turns-at t) turns.Post turns-Inv-loop turns-μ-loop
-turns-stepped-requires t c κs = search needs
+turns-stepped-requires t c κs = tt
 
 turns-same-length : (t : ℕ) → turns-lts.Need-same-length (turns-calls t) (turns-at t) turns.Post turns-Inv-loop turns-μ-loop
-turns-same-length t c = search needs
+turns-same-length t c = c .before .before .before .before .loop .inv .3
 
 turns-same-length-2 : (t : ℕ) → turns-lts.Need-same-length-2 (turns-calls t) (turns-at t) turns.Post turns-Inv-loop turns-μ-loop
-turns-same-length-2 t c = search needs
+turns-same-length-2 t c = c .before .before .before .before .loop .inv .0
 
 turns-same-length-3 : (t : ℕ) → turns-lts.Need-same-length-3 (turns-calls t) (turns-at t) turns.Post turns-Inv-loop turns-μ-loop
-turns-same-length-3 t c = search needs
+turns-same-length-3 t c = c .before .before .before .before .loop .inv .1
 
 turns-same-length-4 : (t : ℕ) → turns-lts.Need-same-length-4 (turns-calls t) (turns-at t) turns.Post turns-Inv-loop turns-μ-loop
-turns-same-length-4 t c = search needs
+turns-same-length-4 t c = c .before .before .before .before .loop .inv .4
 
 turns-same-length-5 : (t : ℕ) → turns-lts.Need-same-length-5 (turns-calls t) (turns-at t) turns.Post turns-Inv-loop turns-μ-loop
-turns-same-length-5 t c = search needs
+turns-same-length-5 t c = c .before .before .before .before .loop .inv .5
 
 turns-same-length-6 : (t : ℕ) → turns-lts.Need-same-length-6 (turns-calls t) (turns-at t) turns.Post turns-Inv-loop turns-μ-loop
-turns-same-length-6 t c = search needs
+turns-same-length-6 t c = c .before .before .before .before .loop .inv .6
 
 turns-same-length-7 : (t : ℕ) → turns-lts.Need-same-length-7 (turns-calls t) (turns-at t) turns.Post turns-Inv-loop turns-μ-loop
-turns-same-length-7 t c = search needs
+turns-same-length-7 t c = c .before .before .before .before .loop .inv .2
 
 turns-returns : (t : ℕ) → turns-lts.Need-returns (turns-calls t) (turns-at t) turns.Post turns-Inv-loop turns-μ-loop
 unfolding instructionRowTree
@@ -735,28 +735,28 @@ turns-cast-settled : (t : ℕ) → turns-lts.Need-cast-settled (turns-calls t) (
 turns-cast-settled t c = record { fits = narrow (c .before .before .before .before .before .before .before .before .before .before .before .before .before .before .before .before .before .before .before .before .before .pre .1 .0) }
 
 turns-settled-requires : (t : ℕ) → turns-lts.Need-settled-requires (turns-calls t) (turns-at t) turns.Post turns-Inv-loop turns-μ-loop
-turns-settled-requires t c κs = search needs
+turns-settled-requires t c κs = tt
 
 turns-same-length-8 : (t : ℕ) → turns-lts.Need-same-length-8 (turns-calls t) (turns-at t) turns.Post turns-Inv-loop turns-μ-loop
-turns-same-length-8 t c = search needs
+turns-same-length-8 t c = c .before .before .before .before .before .before .before .before .before .before .before .before .before .loop .inv .3
 
 turns-same-length-9 : (t : ℕ) → turns-lts.Need-same-length-9 (turns-calls t) (turns-at t) turns.Post turns-Inv-loop turns-μ-loop
-turns-same-length-9 t c = search needs
+turns-same-length-9 t c = c .before .before .before .before .before .before .before .before .before .before .before .before .before .loop .inv .0
 
 turns-same-length-10 : (t : ℕ) → turns-lts.Need-same-length-10 (turns-calls t) (turns-at t) turns.Post turns-Inv-loop turns-μ-loop
-turns-same-length-10 t c = search needs
+turns-same-length-10 t c = c .before .before .before .before .before .before .before .before .before .before .before .before .before .loop .inv .1
 
 turns-same-length-11 : (t : ℕ) → turns-lts.Need-same-length-11 (turns-calls t) (turns-at t) turns.Post turns-Inv-loop turns-μ-loop
-turns-same-length-11 t c = search needs
+turns-same-length-11 t c = c .before .before .before .before .before .before .before .before .before .before .before .before .before .loop .inv .4
 
 turns-same-length-12 : (t : ℕ) → turns-lts.Need-same-length-12 (turns-calls t) (turns-at t) turns.Post turns-Inv-loop turns-μ-loop
-turns-same-length-12 t c = search needs
+turns-same-length-12 t c = c .before .before .before .before .before .before .before .before .before .before .before .before .before .loop .inv .5
 
 turns-same-length-13 : (t : ℕ) → turns-lts.Need-same-length-13 (turns-calls t) (turns-at t) turns.Post turns-Inv-loop turns-μ-loop
-turns-same-length-13 t c = search needs
+turns-same-length-13 t c = c .before .before .before .before .before .before .before .before .before .before .before .before .before .loop .inv .6
 
 turns-same-length-14 : (t : ℕ) → turns-lts.Need-same-length-14 (turns-calls t) (turns-at t) turns.Post turns-Inv-loop turns-μ-loop
-turns-same-length-14 t c = search needs
+turns-same-length-14 t c = c .before .before .before .before .test .kept .1 .1 .1 .1 .1 .1 .1 .1 .0 ∙ c .before .before .before .before .before .before .before .before .before .before .before .before .before .loop .inv .2
 
 turns-returns-2 : (t : ℕ) → turns-lts.Need-returns-2 (turns-calls t) (turns-at t) turns.Post turns-Inv-loop turns-μ-loop
 unfolding instructionRowTree
@@ -792,25 +792,25 @@ unfolding InstructionFacts
 turns-exec-requires t c κs = let k = c .before .before .before .before .before .before .before .before .before .before .before .before .before .before .before .before .before .before .before .before .before .loop .inv .7 (c .before .before .before .before .before .before .before .before .before .before .before .before .before .before .before .before .before .before .before .before .before .before .before .before .before .before .before .before .before .before .pre .1 .0 .profile) (c .before .before .before .before .before .before .before .before .before .before .before .before .before .before .before .before .before .before .before .before .before .before .before .before .before .before .before .before .before .before .pre .1 .0 .scope) (c .before .before .before .before .before .before .before .before .before .before .before .before .before .before .before .before .before .before .before .before .before .before .before .before .before .before .before .before .before .before .pre .1 .0 .may) (c .before .before .before .before .before .before .before .before .before .before .before .before .before .before .before .before .before .before .before .before .before .before .before .before .before .before .before .before .before .before .pre .1 .0 .store) (c .before .before .before .before .before .before .before .before .before .before .before .before .before .before .before .before .before .before .before .before .before .before .before .before .before .before .before .before .before .before .pre .1 .0 .stands) in let f = facts (c .before .before .before .before .before .before .before .before .before .before .before .before .before .before .before .before .before .before .before .before .before .before .before .before .before .before .before .before .before .before .pre .1 .0) (c .before .before .before .before .before .before .before .before .before .before .before .before .before .before .before .before .before .before .before .before .before .before .before .before .before .before .before .before .before .before .pre .1 .1) in (omega (arith, c .before .before .before .before .before .before .before .before .before .before .before .before .before .before .before .before .before .before .before .before .before .before .before .before .before .before .before .before .before .before .pre .0, f .1, c .before .before .before .before .before .before .before .before .before .before .before .before .before .before .before .before .before .before .before .before .before .loop .inv .5), part (c .before .before .before .before .before .before .before .before .before .before .before .before .before .before .before .before .before .before .before .before .before .before .before .before .before .before .before .before .before .before .pre .1 .0) (c .before .before .before .before .before .before .before .before .before .before .before .before .before .before .before .before .before .before .before .before .before .before .before .before .before .before .before .before .before .before .pre .1 .1) (loop-body _ _) (k .store) (k .running) (k .same) (omega (arith, c .before .before .before .before .before .before .before .before .before .before .before .before .before .before .before .before .before .before .before .before .before .loop .inv .2, c .before .before .before .before .before .before .before .before .before .before .before .before .test .kept)) (f .1) (going-after (k .going) (c .before .before .before .before .before .before .before .before .before .before .before .before .before .before .before .before .before .before .stepped .ensures) (c .before .before .before .before .before .before .before .before .before .before .before .before .before .before .before .before .before .if2 .left)))
 
 turns-same-length-22 : (t : ℕ) → turns-lts.Need-same-length-22 (turns-calls t) (turns-at t) turns.Post turns-Inv-loop turns-μ-loop
-turns-same-length-22 t c = omega (arith, c .before .before .before .before .before .before .before .before .before .before .before .before .before .before .before .before .before .before .before .before .before .before .before .before .before .before .before .before .before .before .before .before .before .before .loop .inv .3, c .before .before .before .before .before .before .before .before .before .before .before .before .exec .kept .1 .1 .1 .1 .1 .1 .1 .0)
+turns-same-length-22 t c = c .before .before .before .before .before .before .before .before .before .before .before .before .exec .kept .1 .1 .1 .1 .1 .1 .1 .0 ∙ c .before .before .before .before .before .before .before .before .before .before .before .before .before .before .before .before .before .before .before .before .before .before .before .before .before .before .before .before .before .before .before .before .before .before .loop .inv .3
 
 turns-same-length-23 : (t : ℕ) → turns-lts.Need-same-length-23 (turns-calls t) (turns-at t) turns.Post turns-Inv-loop turns-μ-loop
-turns-same-length-23 t c = omega (arith, c .before .before .before .before .before .before .before .before .before .before .before .before .before .before .before .before .before .before .before .before .before .before .before .before .before .before .before .before .before .before .before .before .before .before .loop .inv .0, c .before .before .before .before .before .before .before .before .before .before .before .before .exec .kept .1 .1 .1 .1 .1 .1 .1 .1 .1 .1 .0)
+turns-same-length-23 t c = c .before .before .before .before .before .before .before .before .before .before .before .before .exec .kept .1 .1 .1 .1 .1 .1 .1 .1 .1 .1 .0 ∙ c .before .before .before .before .before .before .before .before .before .before .before .before .before .before .before .before .before .before .before .before .before .before .before .before .before .before .before .before .before .before .before .before .before .before .loop .inv .0
 
 turns-same-length-24 : (t : ℕ) → turns-lts.Need-same-length-24 (turns-calls t) (turns-at t) turns.Post turns-Inv-loop turns-μ-loop
-turns-same-length-24 t c = omega (arith, c .before .before .before .before .before .before .before .before .before .before .before .before .before .before .before .before .before .before .before .before .before .before .before .before .before .before .before .before .before .before .before .before .before .before .loop .inv .1, c .before .before .before .before .before .before .before .before .before .before .before .before .exec .kept .1 .1 .1 .1 .1 .1 .1 .1 .1 .1 .1 .0)
+turns-same-length-24 t c = c .before .before .before .before .before .before .before .before .before .before .before .before .exec .kept .1 .1 .1 .1 .1 .1 .1 .1 .1 .1 .1 .0 ∙ c .before .before .before .before .before .before .before .before .before .before .before .before .before .before .before .before .before .before .before .before .before .before .before .before .before .before .before .before .before .before .before .before .before .before .loop .inv .1
 
 turns-same-length-25 : (t : ℕ) → turns-lts.Need-same-length-25 (turns-calls t) (turns-at t) turns.Post turns-Inv-loop turns-μ-loop
-turns-same-length-25 t c = omega (arith, c .before .before .before .before .before .before .before .before .before .before .before .before .before .before .before .before .before .before .before .before .before .before .before .before .before .before .before .before .before .before .before .before .before .before .loop .inv .4, c .before .before .before .before .before .before .before .before .before .before .before .before .exec .kept .1 .1 .1 .1 .1 .1 .1 .1 .1 .1 .1 .1 .0)
+turns-same-length-25 t c = c .before .before .before .before .before .before .before .before .before .before .before .before .exec .kept .1 .1 .1 .1 .1 .1 .1 .1 .1 .1 .1 .1 .0 ∙ c .before .before .before .before .before .before .before .before .before .before .before .before .before .before .before .before .before .before .before .before .before .before .before .before .before .before .before .before .before .before .before .before .before .before .loop .inv .4
 
 turns-same-length-26 : (t : ℕ) → turns-lts.Need-same-length-26 (turns-calls t) (turns-at t) turns.Post turns-Inv-loop turns-μ-loop
-turns-same-length-26 t c = omega (arith, c .before .before .before .before .before .before .before .before .before .before .before .before .before .before .before .before .before .before .before .before .before .before .before .before .before .before .before .before .before .before .before .before .before .before .loop .inv .5, c .before .before .before .before .before .before .before .before .before .before .before .before .exec .kept .1 .1 .1 .1 .1 .1 .1 .1 .1 .1 .1 .1 .1 .0)
+turns-same-length-26 t c = c .before .before .before .before .before .before .before .before .before .before .before .before .exec .kept .1 .1 .1 .1 .1 .1 .1 .1 .1 .1 .1 .1 .1 .0 ∙ c .before .before .before .before .before .before .before .before .before .before .before .before .before .before .before .before .before .before .before .before .before .before .before .before .before .before .before .before .before .before .before .before .before .before .loop .inv .5
 
 turns-same-length-27 : (t : ℕ) → turns-lts.Need-same-length-27 (turns-calls t) (turns-at t) turns.Post turns-Inv-loop turns-μ-loop
-turns-same-length-27 t c = omega (arith, c .before .before .before .before .before .before .before .before .before .before .before .before .before .before .before .before .before .before .before .before .before .before .before .before .before .before .before .before .before .before .before .before .before .before .loop .inv .6, c .before .before .before .before .before .before .before .before .before .before .before .before .exec .kept .1 .1 .1 .1 .1 .1 .1 .1 .1 .1 .1 .1 .1 .1 .0)
+turns-same-length-27 t c = c .before .before .before .before .before .before .before .before .before .before .before .before .exec .kept .1 .1 .1 .1 .1 .1 .1 .1 .1 .1 .1 .1 .1 .1 .0 ∙ c .before .before .before .before .before .before .before .before .before .before .before .before .before .before .before .before .before .before .before .before .before .before .before .before .before .before .before .before .before .before .before .before .before .before .loop .inv .6
 
 turns-same-length-28 : (t : ℕ) → turns-lts.Need-same-length-28 (turns-calls t) (turns-at t) turns.Post turns-Inv-loop turns-μ-loop
-turns-same-length-28 t c = omega (arith, c .before .before .before .before .before .before .before .before .before .before .before .before .before .before .before .before .before .before .before .before .before .before .before .before .before .before .before .before .before .before .before .before .before .before .loop .inv .2, c .before .before .before .before .before .before .before .before .before .before .before .before .exec .kept .1 .1 .1 .1 .1 .1 .1 .1 .1 .1 .1 .1 .1 .1 .1 .1 .0, c .before .before .before .before .before .before .before .before .before .before .before .before .before .before .before .before .before .before .before .before .before .before .before .before .before .test .kept)
+turns-same-length-28 t c = c .before .before .before .before .before .before .before .before .before .before .before .before .exec .kept .1 .1 .1 .1 .1 .1 .1 .1 .1 .1 .1 .1 .1 .1 .1 .1 .0 ∙ c .before .before .before .before .before .before .before .before .before .before .before .before .before .before .before .before .before .before .before .before .before .before .before .before .before .test .kept .1 .1 .1 .1 .1 .1 .1 .1 .0 ∙ c .before .before .before .before .before .before .before .before .before .before .before .before .before .before .before .before .before .before .before .before .before .before .before .before .before .before .before .before .before .before .before .before .before .before .loop .inv .2
 
 turns-returns-4 : (t : ℕ) → turns-lts.Need-returns-4 (turns-calls t) (turns-at t) turns.Post turns-Inv-loop turns-μ-loop
 unfolding instructionRowTree
@@ -823,25 +823,25 @@ turns-loop-again : (t : ℕ) → turns-lts.Need-loop-again (turns-calls t) (turn
 turns-loop-again t c = (omega (arith, c .before .before .before .before .before .before .before .before .before .before .before .before .before .before .before .before .before .before .before .before .before .before .before .before .before .before .before .before .before .before .before .before .before .before .loop .inv .0, c .before .before .before .before .before .before .before .before .before .before .before .before .exec .kept .1 .1 .1 .1 .1 .1 .1 .1 .1 .1 .0), omega (arith, c .before .before .before .before .before .before .before .before .before .before .before .before .before .before .before .before .before .before .before .before .before .before .before .before .before .before .before .before .before .before .before .before .before .before .loop .inv .1, c .before .before .before .before .before .before .before .before .before .before .before .before .exec .kept .1 .1 .1 .1 .1 .1 .1 .1 .1 .1 .1 .0), omega (arith, c .before .before .before .before .before .before .before .before .before .before .before .before .before .before .before .before .before .before .before .before .before .before .before .before .before .before .before .before .before .before .before .before .before .before .loop .inv .2, c .before .before .before .before .before .before .before .before .before .before .before .before .before .before .before .before .before .before .before .before .before .before .before .before .before .test .kept, c .before .before .before .before .before .before .before .before .before .before .before .before .exec .kept .1 .1 .1 .1 .1 .1 .1 .1 .1 .1 .1 .1 .1 .1 .1 .1 .0), omega (arith, c .before .before .before .before .before .before .before .before .before .before .before .before .before .before .before .before .before .before .before .before .before .before .before .before .before .before .before .before .before .before .before .before .before .before .loop .inv .3, c .before .before .before .before .before .before .before .before .before .before .before .before .exec .kept .1 .1 .1 .1 .1 .1 .1 .0), omega (arith, c .before .before .before .before .before .before .before .before .before .before .before .before .before .before .before .before .before .before .before .before .before .before .before .before .before .before .before .before .before .before .before .before .before .before .loop .inv .4, c .before .before .before .before .before .before .before .before .before .before .before .before .exec .kept .1 .1 .1 .1 .1 .1 .1 .1 .1 .1 .1 .1 .0), omega (arith, c .before .before .before .before .before .before .before .before .before .before .before .before .before .before .before .before .before .before .before .before .before .before .before .before .before .before .before .before .before .before .before .before .before .before .loop .inv .5, c .before .before .before .before .before .before .before .before .before .before .before .before .exec .kept .1 .1 .1 .1 .1 .1 .1 .1 .1 .1 .1 .1 .1 .0), omega (arith, c .before .before .before .before .before .before .before .before .before .before .before .before .before .before .before .before .before .before .before .before .before .before .before .before .before .before .before .before .before .before .before .before .before .before .loop .inv .6, c .before .before .before .before .before .before .before .before .before .before .before .before .exec .kept .1 .1 .1 .1 .1 .1 .1 .1 .1 .1 .1 .1 .1 .1 .0), λ p b n vs h. let k = c .before .before .before .before .before .before .before .before .before .before .before .before .before .before .before .before .before .before .before .before .before .before .before .before .before .before .before .before .before .before .before .before .before .before .loop .inv .7 p b n vs h in next-turn (calling _ n) _ _ _ k (c .before .before .before .before .before .before .before .before .before .before .before .before .before .before .before .before .before .before .before .before .before .before .before .before .before .before .before .before .before .before .before .stepped .ensures) (c .before .before .before .before .before .before .before .before .before .before .before .before .before .before .before .before .before .before .before .before .before .before .before .before .before .before .before .before .before .before .before .before .if1 .taken) (c .before .before .before .before .before .before .before .before .before .before .before .before .before .before .before .before .before .before .before .before .before .before .before .before .before .before .before .before .before .before .if2 .left) (c .before .before .before .before .before .before .before .before .before .before .before .before .before .before .before .before .before .before .before .before .before .before .before .before .before .test .ensures _ .tells p b (k .store) (loop-test (c .before .before .before .before .before .before .before .before .before .before .before .before .before .before .before .before .before .before .before .before .before .before .before .before .before .before .before .before .before .before .before .before .before .before .before .before .before .before .before .before .before .before .before .pre .1 .0) (c .before .before .before .before .before .before .before .before .before .before .before .before .before .before .before .before .before .before .before .before .before .before .before .before .before .before .before .before .before .before .before .before .before .before .before .before .before .before .before .before .before .before .before .pre .1 .1) h) (k .running)) (c .before .before .before .before .before .before .before .before .before .before .before .before .before .before .before .before .before .before .before .before .before .before .if3 .left) (not-false _ (c .before .before .before .before .before .before .before .before .before .before .before .before .before .before .before .before .before .before .before .before .if4 .left)) (c .before .before .before .before .before .before .before .before .before .before .before .before .exec .ensures .reaches p b n (k .store) (part-stands (c .before .before .before .before .before .before .before .before .before .before .before .before .before .before .before .before .before .before .before .before .before .before .before .before .before .before .before .before .before .before .before .before .before .before .before .before .before .before .before .before .before .before .before .pre .1 .0) (c .before .before .before .before .before .before .before .before .before .before .before .before .before .before .before .before .before .before .before .before .before .before .before .before .before .before .before .before .before .before .before .before .before .before .before .before .before .before .before .before .before .before .before .pre .1 .1) (loop-body _ _) h (k .running) (k .same))) (exec-left _ _ _) (c .if5 .left))
 
 turns-same-length-29 : (t : ℕ) → turns-lts.Need-same-length-29 (turns-calls t) (turns-at t) turns.Post turns-Inv-loop turns-μ-loop
-turns-same-length-29 t c = search needs
+turns-same-length-29 t c = c .before .before .loop .inv .3
 
 turns-same-length-30 : (t : ℕ) → turns-lts.Need-same-length-30 (turns-calls t) (turns-at t) turns.Post turns-Inv-loop turns-μ-loop
-turns-same-length-30 t c = search needs
+turns-same-length-30 t c = c .before .before .loop .inv .0
 
 turns-same-length-31 : (t : ℕ) → turns-lts.Need-same-length-31 (turns-calls t) (turns-at t) turns.Post turns-Inv-loop turns-μ-loop
-turns-same-length-31 t c = search needs
+turns-same-length-31 t c = c .before .before .loop .inv .1
 
 turns-same-length-32 : (t : ℕ) → turns-lts.Need-same-length-32 (turns-calls t) (turns-at t) turns.Post turns-Inv-loop turns-μ-loop
-turns-same-length-32 t c = search needs
+turns-same-length-32 t c = c .before .before .loop .inv .4
 
 turns-same-length-33 : (t : ℕ) → turns-lts.Need-same-length-33 (turns-calls t) (turns-at t) turns.Post turns-Inv-loop turns-μ-loop
-turns-same-length-33 t c = search needs
+turns-same-length-33 t c = c .before .before .loop .inv .5
 
 turns-same-length-34 : (t : ℕ) → turns-lts.Need-same-length-34 (turns-calls t) (turns-at t) turns.Post turns-Inv-loop turns-μ-loop
-turns-same-length-34 t c = search needs
+turns-same-length-34 t c = c .before .before .loop .inv .6
 
 turns-same-length-35 : (t : ℕ) → turns-lts.Need-same-length-35 (turns-calls t) (turns-at t) turns.Post turns-Inv-loop turns-μ-loop
-turns-same-length-35 t c = search needs
+turns-same-length-35 t c = c .before .before .loop .inv .2
 
 turns-returns-5 : (t : ℕ) → turns-lts.Need-returns-5 (turns-calls t) (turns-at t) turns.Post turns-Inv-loop turns-μ-loop
 unfolding instructionRowTree
