@@ -40,7 +40,7 @@ use Rattle.checked_store.specs.Meaning.{Running as CheckedRunning}
 use Rattle.erased_row.specs.Meaning.{Running as ErasedRunning}
 use Rattle.frames.specs.declared.way.Way.the-variants as way
 use Rattle.frames.specs.Meaning.{HoldsBy, HeadsOf, WhollyPassed, CallableBy}
-use Rattle.walk.specs.Meaning.{setting}
+use Rattle.opening.specs.Meaning.{setting}
 use Rattle.whole_run.specs.Meaning.{ClearBodies, Clear, Ready}
 use Rattle.taken.specs.Ways.{NumbersLimited, PassedRows}
 

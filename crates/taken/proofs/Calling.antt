@@ -29,7 +29,7 @@ use Rattle.typecheck.specs.Verdicts.{Concludes}
 use Rattle.run.specs.Reached.{Lent}
 use Rattle.frames.specs.declared.way.Way.the-variants as way
 use Rattle.frames.specs.Meaning.{HoldsBy}
-use Rattle.walk.specs.Meaning.{Setting}
+use Rattle.opening.specs.Meaning.{Setting}
 use Rattle.whole_run.specs.Meaning.{Readable, Ready, Runs}
 use Rattle.taken.specs.Taken.{RunTaken, RunIs}
 use Rattle.taken.specs.Ways.{Startable, checkedEnd, NumbersLimited, PassedRows, erasedVerdict, erasedRows}

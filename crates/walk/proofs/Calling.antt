@@ -22,8 +22,9 @@ use Rattle.run.specs.Acting.{still-going, clean-after, passed-over, act-out, ac
 use Rattle.frames.specs.declared.way.Way.{Way}
 use Rattle.frames.specs.declared.way.Way.the-variants as way
 use Rattle.frames.specs.Meaning.{Context, Holds, proceduresIn, CallableBy, Callable, TypesKept, WhollyPassed}
-use Rattle.walk.specs.Meaning.{Setting, AreaBodies, AreaOf, calling, Stands}
-use Rattle.walk.specs.Calls.{unlimited, freshOf, givenAll, Calls, Enters, rest, bodiesOfCall}
+use Rattle.opening.specs.Meaning.{Setting, AreaBodies, AreaOf}
+use Rattle.opening.specs.Calls.{unlimited, freshOf, givenAll, Calls, Enters, rest, bodiesOfCall}
+use Rattle.walk.specs.Meaning.{calling, Stands}
 
 -- ---- the instruction
 module _ (calls : Calling) {M : Holding} {o l : Lent} (vs : List Variable) (w : M l vs) {m : Status} (g : Going m) (row k : ℕ) (ns rs : List ℕ) where

@@ -26,9 +26,11 @@ use Rattle.frames.specs.declared.way.Way.{Way}
 use Rattle.frames.specs.declared.way.Way.the-variants as way
 use Rattle.frames.specs.Meaning.{Context, Holds, HeadsOf}
 use Rattle.frames.specs.Kept.{BodiesAre, holds-fills}
-use Rattle.walk.specs.Meaning.{Setting, AreaBodies, AreaOf, Under, calling, Stands, Asked, Executes, Opening, Zeros, Opens}
-use Rattle.walk.specs.Calls.{unlimited, freshOf, givenAll, Calls, Calling, ZeroBodies, ZerosBy, Enters, rest, withRest, bodiesOfCall, Left, Leaving, Leaves}
-use Rattle.walk.proofs.Rows.{holds-accepted, scope-row, root-under, facts, row-inside}
+use Rattle.opening.specs.Meaning.{Setting, AreaBodies, AreaOf, Under}
+use Rattle.opening.specs.Calls.{unlimited, freshOf, givenAll, Calls, Calling, ZeroBodies, ZerosBy, Enters, rest, withRest, bodiesOfCall, Left, Leaving, Leaves}
+use Rattle.opening.proofs.Rows.{holds-accepted, scope-row, root-under}
+use Rattle.walk.specs.Meaning.{calling, Stands, Asked, Executes, Opening, Zeros, Opens}
+use Rattle.walk.proofs.Rows.{facts, row-inside}
 use Rattle.walk.proofs.Calling.{call-deep, call-opened, call-failed, callable-unlimited, rest-area}
 
 -- ---- a later moment

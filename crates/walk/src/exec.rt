@@ -1,11 +1,5 @@
 // Instructions by their rows, the row number falling at each call, the same for both ways to run. A loop's turns each take a
 // step, so the steps that are left bound them. A procedure's body is any row again, but the area for calls has become shorter.
-use crate::call::body_in;
-use crate::call::enter;
-use crate::call::leave;
-use crate::leaf::assignment;
-use crate::leaf::skip;
-use crate::leaf::yoke_change;
 use decoder::decode::InstructionRow;
 use decoder::tables::Table;
 use frames::leaves::test;
@@ -16,6 +10,12 @@ use lingua::sizes::CELLS_LENGTH;
 use lingua::sizes::LIMIT_CELLS_LENGTH;
 use lingua::sizes::STATES_LENGTH;
 use lingua::sizes::VARIABLE_BODIES_LENGTH;
+use opening::call::body_in;
+use opening::call::enter;
+use opening::call::leave;
+use opening::leaf::assignment;
+use opening::leaf::skip;
+use opening::leaf::yoke_change;
 use profile::row::instruction_row;
 use run::steps::Status;
 use run::steps::cleared;
@@ -26,7 +26,8 @@ ghost use Prim.Native.Nat.{ℕ};
 ghost use lib.ListN.{length, replicate};
 ghost use Rattle.lingua.specs.Numbers.{cells-length, states-length};
 ghost use Rattle.run.specs.Reached.{lent};
-ghost use Rattle.walk.specs.Meaning.{setting, Asked, BranchAt, LoopAt, HandleAt, CallAt, Executes, Opening, Zeros, Opens};
+ghost use Rattle.opening.specs.Meaning.{setting, CallAt};
+ghost use Rattle.walk.specs.Meaning.{Asked, BranchAt, LoopAt, HandleAt, Executes, Opening, Zeros, Opens};
 
 // The instruction of a row.
 pub fn exec(

@@ -15,7 +15,7 @@ use Rattle.laws.specs.Frames.{Bounded, length-call-cells, length-call-states, l
 use Rattle.run.specs.Reached.{Lent, onto, overlaid}
 use Rattle.frames.specs.declared.way.Way.{Way}
 use Rattle.frames.specs.declared.way.Way.the-variants as way
-use Rattle.walk.specs.Meaning.{AreaBodies, AreaOf}
+use Rattle.opening.specs.Meaning.{AreaBodies, AreaOf}
 use Rattle.whole_run.specs.Meaning.{ClearBodies, Clear}
 
 -- ---- at first

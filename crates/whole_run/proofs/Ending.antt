@@ -28,9 +28,10 @@ use Rattle.run.specs.Reached.{Lent, Going, Reached}
 use Rattle.frames.specs.declared.way.Way.{Way}
 use Rattle.frames.specs.declared.way.Way.the-variants as way
 use Rattle.frames.specs.Meaning.{Context, HoldsBy, Holds, Standing}
-use Rattle.walk.specs.Meaning.{Setting, calling, Under, Stands, Asked, Executes}
+use Rattle.opening.specs.Meaning.{Setting, Under}
+use Rattle.walk.specs.Meaning.{calling, Stands, Asked, Executes}
 use Rattle.whole_run.specs.Meaning.{TakesAll, Ready, Begins, Runs}
-use Rattle.walk.proofs.Rows.{holds-accepted, holds-table, root-under}
+use Rattle.opening.proofs.Rows.{holds-accepted, holds-table, root-under}
 use Rattle.whole_run.proofs.Area.{OnZeros, clear-area, on-zeros}
 
 -- ---- the memory holds the store's cells and state words

@@ -21,7 +21,7 @@ use Rattle.run.specs.Reached.{Lent, Holding, Going}
 use Rattle.frames.specs.declared.way.Way.{Way}
 use Rattle.frames.specs.declared.way.Way.the-variants as way
 use Rattle.frames.specs.Meaning.{Context, Holds, Callable}
-use Rattle.walk.specs.Meaning.{Setting}
+use Rattle.opening.specs.Meaning.{Setting}
 
 -- ---- readings
 -- two slices of one length, each of whose variables is a number variable (document 01: rule 16)

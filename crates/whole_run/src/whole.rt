@@ -10,7 +10,7 @@ use walk::exec::exec;
 ghost use Rattle.lingua.specs.Calls.{readingsOf};
 ghost use Rattle.decoder.specs.Tables.{AreTables};
 ghost use Rattle.run.specs.Reached.{lent};
-ghost use Rattle.walk.specs.Meaning.{setting};
+ghost use Rattle.opening.specs.Meaning.{setting};
 ghost use Rattle.whole_run.specs.Meaning.{Begins, Readable, Runs};
 
 // Each level of an expression's tree has 64 cells of the operand stack.

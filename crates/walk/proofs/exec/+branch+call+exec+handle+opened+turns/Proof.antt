@@ -21,8 +21,10 @@ use Rattle.run.specs.Reached.{lent}
 use Rattle.run.specs.Acting.{going-after, clean-after, area-stays, stays, reaches-as, reaches-from}
 use Rattle.run.specs.Instructing.{sequence-out, sequence-on, branch-passed, branch-out, branch-failed, branch-yes, branch-no, handle-out, handle-other, handle-own, cleared-going, Turning, first-turn, turns-over, turn-out, turn-failed, turn-last, body-out, fewer-left, next-turn}
 use Rattle.frames.specs.Meaning.{context, Holds}
-use Rattle.walk.specs.Meaning.{setting, calling, Stands}
-use Rattle.walk.proofs.Rows.{kind-known, meant-as, narrow, facts, executes, asked-leaf, leaf-answers, branch-there, branch-test, loop-there, loop-test, part, part-stands, onward-asked, first-of-two, second-of-two, branch-first, branch-second, loop-body, handle-body}
+use Rattle.opening.specs.Meaning.{setting}
+use Rattle.walk.specs.Meaning.{calling, Stands}
+use Rattle.opening.proofs.Rows.{meant-as}
+use Rattle.walk.proofs.Rows.{kind-known, narrow, facts, executes, asked-leaf, leaf-answers, branch-there, branch-test, loop-there, loop-test, part, part-stands, onward-asked, first-of-two, second-of-two, branch-first, branch-second, loop-body, handle-body}
 use Rattle.walk.proofs.Calling.{call-passed, call-out, call-on}
 use Rattle.walk.proofs.Opened.{length-part, back-long, front-again, area-before, area-behind, body-less, front-fits, front-long, stepped-asked, too-deep-at, alone, ran-as, enter-asked, procedure-there, heads-there, own-bodies, zeros-by, states-left, bodies-left, body-asked, leave-asked, opens, opens-failed}
 use Prim.Native.Nat.{ℕ, _<_}
@@ -51,12 +53,12 @@ use Rattle.profile.proofs.row.instruction_row.Reads as instruction-row-reads
 use Rattle.run.proofs.steps.cleared.Reads as cleared-reads
 use Rattle.run.proofs.steps.settled.Reads as settled-reads
 use Rattle.run.proofs.steps.stepped.Reads as stepped-reads
-use Rattle.walk.proofs.call.body_in.Reads as body-in-reads
-use Rattle.walk.proofs.call.enter.Reads as enter-reads
-use Rattle.walk.proofs.call.leave.Reads as leave-reads
-use Rattle.walk.proofs.leaf.assignment.Reads as assignment-reads
-use Rattle.walk.proofs.leaf.skip.Reads as skip-reads
-use Rattle.walk.proofs.leaf.yoke_change.Reads as yoke-change-reads
+use Rattle.opening.proofs.call.body_in.Reads as body-in-reads
+use Rattle.opening.proofs.call.enter.Reads as enter-reads
+use Rattle.opening.proofs.call.leave.Reads as leave-reads
+use Rattle.opening.proofs.leaf.assignment.Reads as assignment-reads
+use Rattle.opening.proofs.leaf.skip.Reads as skip-reads
+use Rattle.opening.proofs.leaf.yoke_change.Reads as yoke-change-reads
 use Rattle.walk.proofs.exec.+branch+call+exec+handle+opened+turns.{statement}
 use Rattle.walk.proofs.exec.+branch+call+exec+handle+opened+turns.Tie.{close}
 

@@ -23,10 +23,10 @@ use Rattle.frames.specs.declared.way.Way.{Way}
 use Rattle.frames.specs.declared.way.Way.the-variants as way
 use Rattle.frames.specs.Meaning.{Context, Holds, Facing, HasFacing, AllBack, CopiesOut}
 use Rattle.frames.specs.Kept.{BodiesAre, Fills, holds-fills, BodiesRoom, behindFront, area-kept}
-use Rattle.walk.specs.Meaning.{AreaBodies}
-use Rattle.walk.specs.Calls.{unlimited, rest, withRest, bodiesOfCall, Left, Leaving, Leaves}
-use Rattle.walk.proofs.Rows.{holds-accepted}
-use Rattle.walk.proofs.Given.{Counted, values-long, references-are, call-known, references-back}
+use Rattle.opening.specs.Meaning.{AreaBodies}
+use Rattle.opening.specs.Calls.{unlimited, rest, withRest, bodiesOfCall, Left, Leaving, Leaves}
+use Rattle.opening.proofs.Rows.{holds-accepted}
+use Rattle.opening.proofs.Given.{Counted, values-long, references-are, call-known, references-back}
 
 -- ---- the area
 -- the rest as it was: the whole is

@@ -12,9 +12,9 @@ ghost use lib.ListN.{length};
 ghost use Rattle.lingua.specs.Expression.{skip as skipTree};
 ghost use Rattle.run.specs.Reached.{lent, Going, Passes};
 ghost use Rattle.frames.specs.Meaning.{context};
-ghost use Rattle.walk.specs.Meaning.{AskedLeaf, AssignAt, SetYokeAt, ExecutesLeaf};
+ghost use Rattle.opening.specs.Meaning.{AskedLeaf, AssignAt, SetYokeAt, ExecutesLeaf};
 
-pub(crate) fn skip(m: Status) -> Status
+pub fn skip(m: Status) -> Status
     requires { ⌜ Going m ⌝ }
     ensures { λ r. ⌜ ((row : ℕ) → Passes m r (skipTree row)) ⌝ }
 {
@@ -25,7 +25,7 @@ pub(crate) fn skip(m: Status) -> Status
 }
 
 // Variable n takes what expression row e gives.
-pub(crate) fn assignment(
+pub fn assignment(
     row: usize,
     n: usize,
     e: usize,
@@ -69,7 +69,7 @@ pub(crate) fn assignment(
 }
 
 // Variable n's yoke becomes y.
-pub(crate) fn yoke_change(
+pub fn yoke_change(
     row: usize,
     n: usize,
     y: usize,

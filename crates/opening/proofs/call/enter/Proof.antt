@@ -2,10 +2,10 @@
 -- Assumes nothing.
 use native.Mathlib.Omega.{arith}
 use borrow.Author.Needs.{needs}
-use Rattle.walk.proofs.Given.{counted, few-values, few-references}
-use Rattle.walk.proofs.Entering.{callee-heads, callee-there, callee-accepted, callee-scope, callee-begins, values-facing, values-fail, references-facing, entered}
-use Rattle.walk.proofs.call.enter.Statement.{statement}
-use Rattle.walk.proofs.call.enter.Tie as tie
+use Rattle.opening.proofs.Given.{counted, few-values, few-references}
+use Rattle.opening.proofs.Entering.{callee-heads, callee-there, callee-accepted, callee-scope, callee-begins, values-facing, values-fail, references-facing, entered}
+use Rattle.opening.proofs.call.enter.Statement.{statement}
+use Rattle.opening.proofs.call.enter.Tie as tie
 
 procedure-in-requires : tie.Need-procedure-in-requires
 procedure-in-requires c κs = (callee-heads (c .before .before .before .before .before .before .before .before .pre .0), callee-there (c .before .before .before .before .before .before .before .before .pre .0))

@@ -1,9 +1,9 @@
 -- `walk::call::leave` meets its contract: out of budget the variables stay open, else the references come back. Assumes nothing.
 use borrow.Author.Needs.{needs}
-use Rattle.walk.proofs.Given.{counted, few-values, few-references}
-use Rattle.walk.proofs.Leaving.{cells-fit, states-fit, present-fit, left-there, left-narrow, still-goes, back-has-facing, leaves-open, leaves-back}
-use Rattle.walk.proofs.call.leave.Statement.{statement}
-use Rattle.walk.proofs.call.leave.Tie as tie
+use Rattle.opening.proofs.Given.{counted, few-values, few-references}
+use Rattle.opening.proofs.Leaving.{cells-fit, states-fit, present-fit, left-there, left-narrow, still-goes, back-has-facing, leaves-open, leaves-back}
+use Rattle.opening.proofs.call.leave.Statement.{statement}
+use Rattle.opening.proofs.call.leave.Tie as tie
 
 keep-open-requires : tie.Need-keep-open-requires
 keep-open-requires c κs = (present-fit (c .before .before .before .before .before .before .before .before .before .before .before .before .before .pre .left), (cells-fit (c .before .before .before .before .before .before .before .before .before .before .before .before .before .pre .left), states-fit (c .before .before .before .before .before .before .before .before .before .before .before .before .before .pre .left)))

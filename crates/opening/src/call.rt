@@ -18,11 +18,11 @@ ghost use lib.ListN.{length};
 ghost use Rattle.lingua.specs.Rows.{procedureCount, bodyRow};
 ghost use Rattle.run.specs.Reached.{lent};
 ghost use Rattle.frames.specs.Meaning.{context, HeadsOf};
-ghost use Rattle.walk.specs.Meaning.{setting};
-ghost use Rattle.walk.specs.Calls.{Enters, Calling, ZerosBy, Leaving, Leaves};
+ghost use Rattle.opening.specs.Meaning.{setting};
+ghost use Rattle.opening.specs.Calls.{Enters, Calling, ZerosBy, Leaving, Leaves};
 
 // The instruction row of procedure k's body.
-pub(crate) fn body_in(rows: &[u8], heads: &[usize], k: usize) -> usize
+pub fn body_in(rows: &[u8], heads: &[usize], k: usize) -> usize
     requires { ⌜ HeadsOf (now rows) (now heads) ⌝ }
     requires { ⌜ k < procedureCount (now rows) ⌝ }
     ensures { λ r. ⌜ r ≡ bodyRow (now (rows .entry)) k ⌝ }
@@ -32,7 +32,7 @@ pub(crate) fn body_in(rows: &[u8], heads: &[usize], k: usize) -> usize
 }
 
 // The variables of procedure k begin, and take those that are given, values first; a procedure's variables have no limits.
-pub(crate) fn enter(
+pub fn enter(
     row: usize,
     k: usize,
     b: usize,
@@ -109,7 +109,7 @@ pub(crate) fn enter(
 }
 
 // A body's end: its variables stay open where the run is out of budget, or those that were given by reference come back.
-pub(crate) fn leave(
+pub fn leave(
     row: usize,
     k: usize,
     c: usize,

@@ -17,7 +17,7 @@ use Rattle.run.specs.Reached.{Lent, lent, StoredAs, Reached}
 use Rattle.frames.specs.declared.way.Way.{Way}
 use Rattle.frames.specs.declared.way.Way.the-variants as way
 use Rattle.frames.specs.Meaning.{Context, context, Holds, HeadsOf, proceduresIn, Callable}
-use Rattle.walk.specs.Meaning.{Setting, Under, AreaOf, CallAt}
+use Rattle.opening.specs.Meaning.{Setting, Under, AreaOf, CallAt}
 
 -- the same rows and layout table, and no limits, as a procedure's variables have
 abbrev pub unlimited : Context → Context

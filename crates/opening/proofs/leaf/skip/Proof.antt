@@ -1,8 +1,8 @@
 -- `walk::leaf::skip` takes its step, unless an error is recorded. Assumes nothing.
 use Rattle.run.specs.Acting.{skip-passed, skip-stepped}
 use borrow.Author.Needs.{needs}
-use Rattle.walk.proofs.leaf.skip.Statement.{statement}
-use Rattle.walk.proofs.leaf.skip.Tie as tie
+use Rattle.opening.proofs.leaf.skip.Statement.{statement}
+use Rattle.opening.proofs.leaf.skip.Tie as tie
 
 returns : tie.Need-returns
 returns c = λ row. skip-passed row (c .before .before .pre) (c .if1 .taken)

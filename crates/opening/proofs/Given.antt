@@ -28,9 +28,9 @@ use Rattle.run.specs.Reached.{Lent}
 use Rattle.frames.specs.declared.way.Way.{Way}
 use Rattle.frames.specs.declared.way.Way.the-variants as way
 use Rattle.frames.specs.Meaning.{Context, ErasedIn, HoldsBy, Holds, Pair, AllPairs, AllBack}
-use Rattle.walk.specs.Meaning.{Under, CallAt}
-use Rattle.walk.specs.Calls.{givenAll}
-use Rattle.walk.proofs.Rows.{holds-accepted, scope-is}
+use Rattle.opening.specs.Meaning.{Under, CallAt}
+use Rattle.opening.specs.Calls.{givenAll}
+use Rattle.opening.proofs.Rows.{holds-accepted, scope-is}
 
 -- ---- one of a list
 every-get : {P : ℕ → Type 0} (xs : List ℕ) → Every P xs → (j : ℕ) → j < length xs → P (getD xs j 0)

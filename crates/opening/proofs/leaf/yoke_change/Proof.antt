@@ -2,10 +2,10 @@
 use native.Mathlib.Omega.{arith}
 use Rattle.profile.specs.Facts.{instructionRowTree}
 use Rattle.run.specs.Instructing.{change-passed, change-out, change-settled}
-use Rattle.walk.proofs.Rows.{leaf-narrow, leaf-executes, yoke-there, yoke-row, few-yokes}
+use Rattle.opening.proofs.Rows.{leaf-narrow, leaf-executes, yoke-there, yoke-row, few-yokes}
 use borrow.Author.Needs.{needs}
-use Rattle.walk.proofs.leaf.yoke_change.Statement.{statement}
-use Rattle.walk.proofs.leaf.yoke_change.Tie as tie
+use Rattle.opening.proofs.leaf.yoke_change.Statement.{statement}
+use Rattle.opening.proofs.leaf.yoke_change.Tie as tie
 
 returns : tie.Need-returns
 unfolding instructionRowTree

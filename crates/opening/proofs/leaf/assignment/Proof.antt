@@ -1,10 +1,10 @@
 -- `walk::leaf::assignment` meets its contract: passed over, out, or settled. Assumes nothing.
 use Rattle.profile.specs.Facts.{instructionRowTree}
 use Rattle.run.specs.Instructing.{assign-passed, assign-out, assign-settled}
-use Rattle.walk.proofs.Rows.{leaf-narrow, leaf-executes, assign-there, assign-row}
+use Rattle.opening.proofs.Rows.{leaf-narrow, leaf-executes, assign-there, assign-row}
 use borrow.Author.Needs.{needs}
-use Rattle.walk.proofs.leaf.assignment.Statement.{statement}
-use Rattle.walk.proofs.leaf.assignment.Tie as tie
+use Rattle.opening.proofs.leaf.assignment.Statement.{statement}
+use Rattle.opening.proofs.leaf.assignment.Tie as tie
 
 returns : tie.Need-returns
 unfolding instructionRowTree

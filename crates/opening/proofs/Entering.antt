@@ -20,10 +20,10 @@ use Rattle.frames.specs.declared.way.Way.{Way}
 use Rattle.frames.specs.declared.way.Way.the-variants as way
 use Rattle.frames.specs.Meaning.{Holds, Facing, HasFacing, AllPairs, CopiesIn, HeadsOf, CallableBy, BeginsBy, Fresh}
 use Rattle.frames.specs.Begins.{frame-begins}
-use Rattle.walk.specs.Meaning.{Setting}
-use Rattle.walk.specs.Calls.{unlimited, freshOf, givenAll, Calls, Calling, ZeroBodies, ZerosBy, Enters}
-use Rattle.walk.proofs.Rows.{holds-accepted}
-use Rattle.walk.proofs.Given.{Counted, values-are, values-long, references-are, call-known, value-pairs, reference-pairs}
+use Rattle.opening.specs.Meaning.{Setting}
+use Rattle.opening.specs.Calls.{unlimited, freshOf, givenAll, Calls, Calling, ZeroBodies, ZerosBy, Enters}
+use Rattle.opening.proofs.Rows.{holds-accepted}
+use Rattle.opening.proofs.Given.{Counted, values-are, values-long, references-are, call-known, value-pairs, reference-pairs}
 
 -- ---- copies one after the other
 copied-both : (storing : Assigning) (from : List Variable) (ns ms : List ℕ) (m : ℕ) (to : List Variable)
