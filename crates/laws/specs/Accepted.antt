@@ -267,11 +267,14 @@ profile-rows rows form count parameters =
       c .procedures,
     )
 
+few-pairs : (rows : List ℕ) → countWrong limits rows ≡ false → pairCount rows limit-section ≤ most-limits
+unfolding countWrong
+few-pairs rows count = within 0 most-limits (pairCount rows limit-section) (not-false (between 0 most-limits (pairCount rows limit-section)) count) .1
+
 limits-rows : (rows : List ℕ) → formWrong limits rows ≡ false → countWrong limits rows ≡ false → rowCount rows ≤ 32
-unfolding countWrong pairCount sectionBelongs
+unfolding pairCount sectionBelongs
 limits-rows rows form count =
-    let pairs : ℕ = tableCount rows limit-section / 2 in
-    let few = within 0 most-limits pairs (not-false (between 0 most-limits pairs) count) .1 in
+    let few = few-pairs rows count in
     let all = one-table (rowCount rows) (λ i. sectionAt rows i) limit-section (λ k h. section-belongs limits rows form k h) in
     let even = limits-even limits rows form in
     omega (arith, few, all, even, section-count rows limit-section (omega arith))
@@ -284,6 +287,10 @@ accepted-rows limits rows e = let a = accepted limits rows e in omega (arith, li
 -- a limits file has room for its rows in one block
 pub accepted-limits : (rows : List ℕ) → lowest (rowRules limits rows) ≡ no-error → rowCount rows ≤ 32
 accepted-limits rows e = let a = accepted limits rows e in limits-rows rows (a .0) (a .1)
+
+-- and at most 16 limits
+pub few-limits : (rows : List ℕ) → lowest (rowRules limits rows) ≡ no-error → pairCount rows limit-section ≤ most-limits
+few-limits rows e = few-pairs rows (accepted limits rows e .1)
 
 -- a profile has a row
 pub accepted-some : (rows : List ℕ) → lowest (rowRules profile rows) ≡ no-error → 1 ≤ rowCount rows

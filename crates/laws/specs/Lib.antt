@@ -35,3 +35,4 @@ pub mod Firsts
 pub mod Refers
 pub mod Reached
 pub mod Scopes
+pub mod Lookup

@@ -1,7 +1,9 @@
 -- What the public answers, and the kind of file that a caller names, mean: for each case of each enum, document 01's number and values. The promises of the public calls
 -- go through these. Assumes nothing: these are definitions.
+use mathlib.Core.Option.{some, none}
 use Prim.Native.Nat.{ℕ}
 use Rattle.lingua.specs.Run.{End, finished, failed, out-of-budget}
+use Rattle.lingua.specs.Lookup.{Lookup, lookup}
 use Rattle.lingua.specs.Format.{File, profile, limits}
 use Rattle.lingua.specs.declared.FileKind.{FileKind}
 use Rattle.lingua.specs.declared.FileKind.the-variants as file-kind
@@ -13,6 +15,8 @@ use Rattle.lingua.specs.declared.ReadAnswer.{ReadAnswer}
 use Rattle.lingua.specs.declared.ReadAnswer.the-variants as read-answer
 use Rattle.lingua.specs.declared.WriteAnswer.{WriteAnswer}
 use Rattle.lingua.specs.declared.WriteAnswer.the-variants as write-answer
+use Rattle.lingua.specs.declared.FindAnswer.{FindAnswer}
+use Rattle.lingua.specs.declared.FindAnswer.the-variants as find-answer
 
 -- the number that is returned where a call is refused, or what it answers
 pub data Answer (A : Type 0) : Type 0 where
@@ -67,3 +71,9 @@ writeMeaning write-answer.Written = answered tt
 unfoldable pub fileMeaning : FileKind → File
 fileMeaning file-kind.Profile = profile
 fileMeaning file-kind.Limits = limits
+
+-- ---- the search for a variable by its name
+unfoldable pub findMeaning : FindAnswer → Answer Lookup
+findMeaning (find-answer.Refused n) = refused n
+findMeaning (find-answer.Found d n) = answered (lookup (some d) n)
+findMeaning (find-answer.Missing n) = answered (lookup none n)

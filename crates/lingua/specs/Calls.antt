@@ -12,9 +12,10 @@ use Rattle.lingua.specs.Run.{Progress, run, lastState, openCalls, endOf,
 use Rattle.lingua.specs.Typing.{TypeError, Entry, checkProfile, layoutOf}
 use Rattle.lingua.specs.Rows.{rowCount}
 use Rattle.lingua.specs.Trees.{profileOf}
+use Rattle.lingua.specs.Lookup.{Lookup, lookUp}
 use Rattle.lingua.specs.Format.{File, modelOf, rowsOf, fileOf}
 use Rattle.lingua.specs.Inputs.{Inputs, Buffers, buffers}
-use Rattle.lingua.specs.Refusal.{readRefusal, writeRefusal, typeCheckRefusal, checkedRefusal, erasedRefusal}
+use Rattle.lingua.specs.Refusal.{readRefusal, findRefusal, writeRefusal, typeCheckRefusal, checkedRefusal, erasedRefusal}
 use Rattle.lingua.specs.Answers.{Answer, refused, answered, Ending, ending, endNumber, Verdict, passed, faulted, RowsRead, runMeaning, typeCheckMeaning, readMeaning, writeMeaning}
 use Rattle.lingua.specs.declared.RunAnswer.{RunAnswer}
 use Rattle.lingua.specs.declared.CheckAnswer.{CheckAnswer}
@@ -33,6 +34,14 @@ readUnless (suc n) file buffer = record { answer = refused (suc n); buffer = buf
 
 unfoldable pub readCall : File → List ℕ → List ℕ → ReadCall
 readCall f file buffer = readUnless (readRefusal f file buffer) file buffer
+
+-- ---- the search for a variable by its name among a profile's declarations; nothing is lent
+unfoldable pub findUnless : ℕ → List ℕ → List ℕ → Answer Lookup
+findUnless zero file name = answered (lookUp (rowsOf file) name)
+findUnless (suc n) file name = refused (suc n)
+
+unfoldable pub findCall : List ℕ → List ℕ → Answer Lookup
+findCall file name = findUnless (findRefusal file) file name
 
 -- ---- the writer: the file's bytes
 pub record WriteCall : Type 0 where

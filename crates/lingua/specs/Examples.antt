@@ -19,15 +19,16 @@ use Rattle.lingua.specs.Store.{Reading, cellsIn, statesIn, bodiesIn}
 use Rattle.lingua.specs.Run.{Declaration, Procedure, Scoped, scoped, Profile, run, lastState, openCalls}
 use Rattle.lingua.specs.Typing.{typeError, Typed, Finding, fault, Bodies, check, checkYoke, checkTest, checkProfile, layoutOf}
 use Rattle.lingua.specs.Meets.{met, runMet}
+use Rattle.lingua.specs.Lookup.{lookup, lookUp}
 use Rattle.lingua.specs.Format.{profile, limits, blockCheck, fileOf, rowsOf}
 use Rattle.lingua.specs.Answers.{refused, answered, Ending, ending, faulted}
 use Rattle.lingua.specs.Inputs.{inputs, Buffers, buffers}
-use Rattle.lingua.specs.Calls.{endingOf, typeCheckCall, erasedCall}
+use Rattle.lingua.specs.Calls.{endingOf, findCall, typeCheckCall, erasedCall}
 use Rattle.lingua.specs.Refusal.{typeCheckRefusal}
 use Rattle.lingua.specs.Report.{reportText}
 use Rattle.lingua.specs.Edges.{literal, truth-literal, one-by-zero, speed, program, up-to-600, below-five}
 use Rattle.lingua.specs.Computing.{computing}
-use Rattle.lingua.specs.Quick.{quickly, one-pass, made, file-made, refused-by, type-check-by, erased-by, report-by}
+use Rattle.lingua.specs.Quick.{quickly, one-pass, made, file-made, find-by, refused-by, type-check-by, erased-by, report-by}
 
 -- ---- cells
 -- a word's cell: "AB" is 65 * 256^7 + 66 * 256^6
@@ -502,3 +503,38 @@ pub refused-leaves : erasedCall (inputs wrong-file example-limits-file [] []) 9 
     ≡ record { answer = refused type-error-found; registers = fives; layout = replicate 1024 5 }
 unfolding computing quickly example-rows example-limits wrong-rows
 refused-leaves = erased-by wrong-made limits-made 9 fives (replicate 1024 5) ∙ refl
+
+-- ---- a variable by its name
+abbrev pub speed-name : List ℕ
+speed-name = 83 ∷ 80 ∷ 69 ∷ 69 ∷ 68 ∷ 0 ∷ 0 ∷ 0 ∷ []
+
+abbrev pub turn-name : List ℕ
+turn-name = 84 ∷ 85 ∷ 82 ∷ 78 ∷ 0 ∷ 0 ∷ 0 ∷ 0 ∷ []
+
+-- the one found and all before it are looked at
+pub speed-found : lookUp example-rows speed-name ≡ lookup (some 0) 1
+unfolding computing example-rows
+speed-found = refl
+
+pub turn-found : lookUp example-rows turn-name ≡ lookup (some 1) 2
+unfolding computing example-rows
+turn-found = refl
+
+-- else all; a name that is none is looked for like any other: SPE, a zero, ED
+pub no-name-missing : lookUp example-rows (83 ∷ 80 ∷ 69 ∷ 0 ∷ 69 ∷ 68 ∷ 0 ∷ 0 ∷ []) ≡ lookup none 2
+unfolding computing example-rows
+no-name-missing = refl
+
+-- of two that have the name the first: TURN called SPEED too, which rule 8 would refuse
+pub first-found : lookUp (take 20 example-rows ++ (take 20 example-rows ++ drop 40 example-rows)) speed-name ≡ lookup (some 0) 1
+unfolding computing example-rows
+first-found = refl
+
+-- as a call: of the profile's file, or refused by the reader's rules
+pub turn-answered : findCall example-profile-file turn-name ≡ answered (lookup (some 1) 2)
+unfolding computing quickly example-rows
+turn-answered = find-by profile-made turn-name ∙ refl
+
+pub find-refused : findCall (set example-profile-file 508 0) turn-name ≡ refused bad-check
+unfolding computing quickly example-rows
+find-refused = find-by (ap (λ (p : List ℕ). set p 508 0) profile-made) turn-name ∙ refl

@@ -16,6 +16,7 @@ pub mod Typing
 pub mod Meets
 pub mod Rows
 pub mod Trees
+pub mod Lookup
 pub mod Format
 pub mod Rules
 pub mod References

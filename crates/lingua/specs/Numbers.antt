@@ -127,6 +127,10 @@ block-bytes = 512
 abbrev pub block-rows : ℕ
 block-rows = 50
 
+-- a name, with its zeros
+abbrev pub name-bytes : ℕ
+name-bytes = 8
+
 -- the bytes before a block's rows, and those of its rows
 abbrev pub header-bytes : ℕ
 header-bytes = 8

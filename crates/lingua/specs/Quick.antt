@@ -15,10 +15,12 @@ use Rattle.lingua.specs.Outcome.{isOk}
 use Rattle.lingua.specs.Typing.{checkProfile}
 use Rattle.lingua.specs.Rows.{word16, word32, rowCount}
 use Rattle.lingua.specs.Trees.{profileOf}
+use Rattle.lingua.specs.Lookup.{Lookup}
 use Rattle.lingua.specs.Format.{File, profile, limits, mixed, checkOver, blockCheck, blockCount, blockAt, modelOf, rowsOf, blocksFor, bytes32, blockBody, withCheck, blocksFrom, fileOf, everyBelow, lengthWrong, markerWrong, headerWrong, blockCheckWrong}
 use Rattle.lingua.specs.Inputs.{Inputs, inputs, Buffers, buffers}
-use Rattle.lingua.specs.Refusal.{Rule, rule, lowest, fileRules, rowRules, wholeFileRules, limitWrong, pairRules, readingWrong, readRefusal, typeCheckRefusal, runFits, runRules, checkedRefusal, erasedRefusal}
-use Rattle.lingua.specs.Calls.{TypeCheckCall, typeCheckUnless, typeCheckCall, CheckedCall, checkedUnless, checkedCall, ErasedCall, erasedUnless, erasedCall}
+use Rattle.lingua.specs.Refusal.{Rule, rule, lowest, fileRules, rowRules, wholeFileRules, limitWrong, pairRules, readingWrong, readRefusal, findRefusal, typeCheckRefusal, runFits, runRules, checkedRefusal, erasedRefusal}
+use Rattle.lingua.specs.Answers.{Answer}
+use Rattle.lingua.specs.Calls.{findUnless, findCall, TypeCheckCall, typeCheckUnless, typeCheckCall, CheckedCall, checkedUnless, checkedCall, ErasedCall, erasedUnless, erasedCall}
 use Rattle.lingua.specs.Report.{reportUnless, reportText}
 
 -- ---- one pass
@@ -133,6 +135,14 @@ read-by f {p} {q} e buffer =
     ap (λ (x : List ℕ). readRefusal f x buffer) e
     ∙ ap (λ (rs : List Rule). lowest (rule bad-buffer (not (eqb (length buffer) rows-length)) ∷ rs)) (rules-of f q)
 
+unfoldable pub findBy : List ℕ → List ℕ → Answer Lookup
+findBy file name = findUnless (lowest (rulesOf (checkWrong file) profile file)) file name
+
+pub find-by : {p q : List ℕ} → p ≡ q → (name : List ℕ) → findCall p name ≡ findBy q name
+unfolding findCall findRefusal findBy
+find-by {p} {q} e name =
+    ap (λ (x : List ℕ). findCall x name) e ∙ ap (λ (rs : List Rule). findUnless (lowest rs) q name) (rules-of profile q)
+
 unfoldable pub refusedBy : List ℕ → List ℕ → List ℕ → ℕ
 refusedBy p l layout = lowest (rule bad-buffer (not (eqb (length layout) layout-length)) ∷ rulesOfBoth p l)
 
@@ -197,5 +207,5 @@ report-by {p} {q} {l} {m} e f =
     ∙ ap (λ (rs : List Rule). reportUnless (lowest rs) q m) (rules-of-run (eqb (length reportBodies) present-bodies-length && runFits i reportBuffers) i)
 
 unfoldable pub quickly : Unit {0}
-unfolding wordsOn onePass checkWrong blocksOn made rulesOf rulesOfBoth rulesOfRun readBy refusedBy checkedBy erasedBy reportBy
+unfolding wordsOn onePass checkWrong blocksOn made rulesOf rulesOfBoth rulesOfRun readBy findBy refusedBy checkedBy erasedBy reportBy
 quickly = tt

@@ -120,6 +120,10 @@ readingWrong rows variables =
 unfoldable pub readRefusal : File → List ℕ → List ℕ → ℕ
 readRefusal f file buffer = lowest (rule bad-buffer (not (eqb (length buffer) rows-length)) ∷ wholeFileRules f file)
 
+-- a search for a name asks the reader's rules of the profile; no buffer is lent
+unfoldable pub findRefusal : List ℕ → ℕ
+findRefusal file = lowest (wholeFileRules profile file)
+
 unfoldable pub writeRefusal : File → List ℕ → List ℕ → ℕ
 writeRefusal f rows buffer =
     lowest

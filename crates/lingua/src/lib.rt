@@ -31,6 +31,13 @@ pub enum ReadAnswer {
     Rows { model: u16, count: u16 },
 }
 
+// What the search for a variable by its name answers, with how many declarations it looked at.
+pub enum FindAnswer {
+    Refused(u8),
+    Found { index: u16, looked: u16 },
+    Missing { looked: u16 },
+}
+
 // What the writer answers; the file is in the caller's buffer.
 pub enum WriteAnswer {
     Refused(u8),

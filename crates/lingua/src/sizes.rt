@@ -70,6 +70,8 @@ pub const LIMIT_CELLS_LENGTH: usize = 48;
 pub const STACK_LENGTH: usize = 32832;
 // files
 pub const ROW_BYTES: usize = 10;
+// a name, with its zeros
+pub const NAME_BYTES: usize = 8;
 
 pub const BLOCK_BYTES: usize = 512;
 
