@@ -4,12 +4,13 @@ use mathlib.Core.List.{List}
 use Prim.Native.Nat.{ℕ, _≤_}
 use native.Mathlib.Omega.{arith}
 use lib.ListN.{length, take}
-use Rattle.lingua.specs.Numbers.{type-section, limit-section, areas-length, area-bytes, type-bodies-length}
+use Rattle.lingua.specs.Numbers.{type-section, areas-length, area-bytes, type-bodies-length}
 use Rattle.lingua.specs.Rows.{tableCount}
 use Rattle.lingua.specs.Refusal.{lowest, pairRules}
 use Rattle.safety.specs.Accepted.{AcceptedRows, accepted-pair}
-use Rattle.decoder.specs.Tables.{IsTable, AreTables}
+use Rattle.decoder.specs.Tables.{AreTables}
 use Rattle.rules.specs.Types.{BodiesBelow}
+use Rattle.profile.specs.Find.{LimitsOwned, owned-as}
 use Rattle.pair.specs.Taken.{roomFor}
 use Rattle.pair.specs.declared.Pair.{Pair}
 use Rattle.pair.specs.Pair.{Room, TakenPair}
@@ -26,8 +27,8 @@ module _ {prof lims areas others bodies : List ℕ} {p : Pair} (h : TakenPair p 
   pub tables-there : AreTables (take (p .rows) areas) (p .tables)
   tables-there = subst (λ (rows : List ℕ). AreTables rows (p .tables)) (sym (h .rows)) (h .tables)
 
-  pub named-there : IsTable (take (p .limits) others) limit-section (p .named)
-  named-there = subst (λ (rows : List ℕ). IsTable rows limit-section (p .named)) (sym (h .limits)) (h .named)
+  pub limits-there : LimitsOwned (take (p .rows) areas) (take (p .limits) others) (p .named) (p .owners)
+  limits-there = owned-as (sym (h .rows)) (sym (h .limits)) (h .limited)
 
   pub bodies-held : BodiesBelow (take (p .rows) areas) bodies (tableCount (take (p .rows) areas) type-section)
   bodies-held = subst (λ (rows : List ℕ). BodiesBelow rows bodies (tableCount rows type-section)) (sym (h .rows)) (h .held)

@@ -7,21 +7,23 @@ use native.Mathlib.Omega.{arith}
 use lib.Dec.{eqb}
 use lib.ListN.{length, take}
 use borrow.Author.Tests.{eq-eqb, ne-eqb, lt-ltb, le-ltb}
-use Rattle.lingua.specs.Numbers.{declaration-section, type-section, limit-section}
+use Rattle.lingua.specs.Numbers.{most-limits, declaration-section, type-section, limit-section}
 use Rattle.lingua.specs.Errors.{models-differ, bad-limit}
 use Rattle.lingua.specs.Outcome.{if_then_else_}
 use Rattle.lingua.specs.Value.{allOf}
-use Rattle.lingua.specs.Rows.{tableCount}
+use Rattle.lingua.specs.Rows.{tableCount, pairCount}
 use Rattle.lingua.specs.Format.{File, profile, limits, modelOf, rowsOf}
 use Rattle.lingua.specs.Refusal.{Rule, rule, rank, placeIn, lowest, fileRules, rowRules, wholeFileRules, limitWrong, pairRules}
 use Rattle.laws.specs.Refusals.{before, lowest-nil, lowest-skip, lowest-first, Decides, first, second, decides}
 use Rattle.laws.specs.Lowest.{lesser, lowest-append}
+use Rattle.laws.specs.Accepted.{few-limits}
 use Rattle.safety.specs.Accepted.{AcceptedRows, accepted-rows}
 use Rattle.pair.proofs.Returns.{none-of-either, header-there}
 use Rattle.pair.specs.Taken.{RowsTaken, TakenIs}
 use Rattle.pair.specs.declared.file.Taken.{Taken}
 use Rattle.decoder.specs.Tables.{IsTable}
 use Rattle.rules.specs.Types.{BodiesBelow}
+use Rattle.profile.specs.Find.{LimitsRead, LimitsOwned, owned-as}
 use Rattle.pair.specs.declared.Pair.{Pair}
 use Rattle.pair.specs.Pair.{PairIs}
 
@@ -115,7 +117,7 @@ module _ (prof lims : List ℕ) (p l : ℕ) (hp : p ≡ lowest (wholeFileRules p
 pub pair-refused : (t : Pair) (n : ℕ) (prof lims areas others bodies : List ℕ) → t .refusal ≡ n → n ≡ lowest (pairRules prof lims) → (n ≡ 0 → ⊥) → PairIs t prof lims areas others bodies
 pair-refused t n prof lims areas others bodies e l h = record { refusal = e ∙ l; taken = λ z. absurd (h (sym e ∙ z)) }
 
-accepted-file : (prof : List ℕ) → lowest (rowRules profile (rowsOf prof)) ≡ 0 → AcceptedRows (rowsOf prof)
+pub accepted-file : (prof : List ℕ) → lowest (rowRules profile (rowsOf prof)) ≡ 0 → AcceptedRows (rowsOf prof)
 accepted-file prof e = accepted-rows (rowsOf prof) [] (ap lowest (append-nil (rowRules profile (rowsOf prof))) ∙ e)
 
 module _ (p l : Taken) (prof lims areas others bodies front : List ℕ) (hp : TakenIs p profile prof areas bodies) (hl : TakenIs l limits lims others front) (z : lesser (p .refusal) (l .refusal) ≡ 0) where
@@ -152,8 +154,14 @@ module _ (p l : Taken) (prof lims areas others bodies front : List ℕ) (hp : Ta
   pub declarations-there : IsTable (take (p .length) areas) declaration-section (p .tables .declarations)
   declarations-there = subst (λ (rows : List ℕ). IsTable rows declaration-section (p .tables .declarations)) (sym (tp .rows)) (tp .tables .declarations)
 
-  pub named-there : IsTable (take (l .length) others) limit-section (l .tables .limits)
+  named-there : IsTable (take (l .length) others) limit-section (l .tables .limits)
   named-there = subst (λ (rows : List ℕ). IsTable rows limit-section (l .tables .limits)) (sym (tl .rows)) (tl .tables .limits)
+
+  limits-few : pairCount (take (l .length) others) limit-section ≤ most-limits
+  limits-few = subst (λ (rows : List ℕ). pairCount rows limit-section ≤ most-limits) (sym (tl .rows)) (few-limits (rowsOf lims) (none-of-either limits lims (sym none-l ∙ hl .refusal) .1))
+
+  pub limits-read : LimitsRead (take (l .length) others) (l .tables .limits)
+  limits-read = record { table = named-there; few = limits-few }
 
   pub bodies-there : BodiesBelow (take (p .length) areas) bodies (tableCount (take (p .length) areas) type-section)
   bodies-there = subst (λ (rows : List ℕ). BodiesBelow rows bodies (tableCount rows type-section)) (sym (tp .rows)) (tp .held refl)
@@ -165,8 +173,9 @@ module _ (p l : Taken) (prof lims areas others bodies front : List ℕ) (hp : Ta
     pub pair-wrong : r ≡ true → bad-limit ≡ lowest (pairRules prof lims)
     pair-wrong e = pair-limits prof lims (p .refusal) (l .refusal) (hp .refusal) (hl .refusal) z models (sym wrong-is ∙ e)
 
-    pub pair-done : r ≡ false → PairIs (record { refusal = 0; rows = p .length; limits = l .length; tables = p .tables; named = l .tables .limits }) prof lims areas others bodies
-    pair-done e =
+    pub pair-done : (owners : List ℕ) → (r ≡ false → LimitsOwned (take (p .length) areas) (take (l .length) others) (l .tables .limits) owners) → r ≡ false
+        → PairIs (record { refusal = 0; rows = p .length; limits = l .length; tables = p .tables; named = l .tables .limits; owners = owners }) prof lims areas others bodies
+    pair-done owners owned e =
         record {
           refusal = pair-fine prof lims (p .refusal) (l .refusal) (hp .refusal) (hl .refusal) z models (sym wrong-is ∙ e);
           taken = λ k. record {
@@ -175,7 +184,7 @@ module _ (p l : Taken) (prof lims areas others bodies front : List ℕ) (hp : Ta
             tables = tp .tables;
             limits = tl .rows;
             within-others = tl .within;
-            named = tl .tables .limits;
+            limited = owned-as (tp .rows) (tl .rows) (owned e);
             held = tp .held refl;
           };
         }

@@ -10,6 +10,7 @@ use lingua::errors::BAD_PARAMETERS;
 use lingua::errors::MODELS_DIFFER;
 use lingua::errors::NO_ERROR;
 use lingua::errors::REPEATED_REFERENCE;
+use lingua::sizes::MOST_LIMITS;
 use profile::agreement::limit_wrong;
 ghost use mathlib.Core.Path.{_≡_};
 ghost use Rattle.lingua.specs.Refusal.{rank};
@@ -18,14 +19,15 @@ ghost use Rattle.pair.specs.Pair.{Room, PairIs};
 
 pub mod file; // file.rt: one file
 
-// The first rule of both files, 0 where none applies; then their rows are so many bytes, the profile's in these tables, and the limits in
-// this one.
+// The first rule of both files, 0 where none applies; then their rows are so many bytes, the profile's in these tables, the limits in this
+// one, and each limit is that of the variable of this number.
 pub struct Pair {
     pub refusal: u8,
     pub rows: usize,
     pub limits: usize,
     pub tables: Tables,
     pub named: Table,
+    pub owners: [u8; MOST_LIMITS],
 }
 
 // Where a refusal stands in the order: 18 and 19 come behind 13, and 14 to 17 behind them.
@@ -66,12 +68,14 @@ pub fn refused(number: u8) -> Pair
 {
     let tables = no_tables();
     let named = tables.limits;
+    let owners = [0u8; MOST_LIMITS];
     Pair {
         refusal: number,
         rows: 0,
         limits: 0,
         tables: tables,
         named: named,
+        owners: owners,
     }
 }
 
@@ -101,7 +105,15 @@ pub fn take_pair(
     let declarations = tables.declarations;
     let others_tables = l.tables;
     let named = others_tables.limits;
-    if limit_wrong(&areas[..n], declarations, bodies, &others[..m], named) {
+    let mut owners = [0u8; MOST_LIMITS];
+    if limit_wrong(
+        &areas[..n],
+        declarations,
+        bodies,
+        &others[..m],
+        named,
+        &mut owners,
+    ) {
         return refused(BAD_LIMIT);
     }
     Pair {
@@ -110,5 +122,6 @@ pub fn take_pair(
         limits: m,
         tables: tables,
         named: named,
+        owners: owners,
     }
 }

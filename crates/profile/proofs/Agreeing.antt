@@ -1,23 +1,34 @@
--- Rules 15 and 16: the order of signed numbers, and tests of every limit and every reading. Assumes nothing.
-use mathlib.Core.Path.{_≡_, refl, sym, ap, _∙_}
+-- Rules 15 and 16: the order of signed numbers, tests of every limit and every reading, and the limits' owners. Assumes nothing.
+use mathlib.Core.Path.{_≡_, refl, sym, ap, subst, _∙_}
+use mathlib.Core.Logic.{⊎-elim}
 use mathlib.Core.Bool.{Bool, true, false, not, _&&_, _||_, and-false}
 use mathlib.Core.List.{List, [], _∷_}
-use Prim.Native.Nat.{ℕ, zero, suc, _+_, _≤_, _<_}
+use mathlib.Core.Option.{some}
+use Prim.Native.Nat.{ℕ, zero, suc, _+_, _/_, _≤_, _<_}
 use native.Mathlib.Omega.{arith}
 use lib.Dec.{ltb, leb}
-use lib.ListN.{length, getD}
+use lib.ListN.{length, getD, set}
+use lib.Seq.{getD-set-same, getD-set-other}
 use lib.IntN.{ℤ, pos, negsuc}
 use lib.Signed.{ltZ, leZ}
 use borrow.Author.Tests.{ltb-true, ltb-false, lt-ltb, le-ltb, le-leb, lt-leb}
-use Rattle.lingua.specs.Numbers.{lowest-number, highest-number, most-readings, declaration-section, limit-section}
+use Rattle.lingua.specs.Numbers.{lowest-number, highest-number, most-variables, most-readings, declaration-section, limit-section}
 use Rattle.lingua.specs.Value.{inRange, allOf}
 use Rattle.lingua.specs.Compute.{sameText}
 use Rattle.lingua.specs.Rows.{pairCount}
 use Rattle.lingua.specs.Trees.{limitRow, nameAt}
+use Rattle.lingua.specs.Lookup.{lookUp}
 use Rattle.lingua.specs.Format.{everyBelow}
 use Rattle.lingua.specs.Refusal.{isNumberVariable, namesNumber, limitFits, limitWrong, readingWrong}
 use Rattle.laws.specs.Outcomes.{and-both}
-use Rattle.laws.specs.Tests.{every-at, every-false}
+use Rattle.laws.specs.Tests.{below-suc, every-at, every-more, every-false}
+use Rattle.laws.specs.Lookup.{found-first}
+use Rattle.safety.specs.Accepted.{AcceptedRows}
+use Rattle.rules.specs.Accepted.{counts}
+use Rattle.decoder.specs.declared.tables.Table.{Table}
+use Rattle.profile.specs.Find.{NumberNamed, OwnerIs, LimitsRead, OwnersBelow, LimitsOwned}
+use Rattle.profile.specs.declared.agreement.Owner.{Owner}
+use Rattle.profile.specs.declared.agreement.Owner.the-variants as owner
 
 -- ---- order
 nat-order : (a b : ℕ) → leb b a ≡ not (ltb a b)
@@ -62,25 +73,68 @@ module _ (rows limits : List ℕ) (l : ℕ) (low high : ℤ) (el : low ≡ limit
   unfolding limitFits
   fits-by a b c d p q r s = rw (← el, ← eh, p, q, r, s)
 
-  pub ends-crossed : ltZ high low ≡ true → false ≡ limitFits rows limits l
-  ends-crossed e = sym (fits-by false (inRange low) (inRange high) _ (order high low ∙ ap not e) refl refl refl)
+  pub ends-crossed : ltZ high low ≡ true → OwnerIs owner.Nobody rows limits l
+  unfolding OwnerIs
+  ends-crossed e = fits-by false (inRange low) (inRange high) _ (order high low ∙ ap not e) refl refl refl
 
-  pub low-outside : (b : Bool) → ltZ high low ≡ false → b ≡ inRange low → b ≡ false → false ≡ limitFits rows limits l
-  low-outside b e q h = sym (fits-by true false (inRange high) _ (order high low ∙ ap not e) (sym q ∙ h) refl refl)
+  pub low-outside : (b : Bool) → ltZ high low ≡ false → b ≡ inRange low → b ≡ false → OwnerIs owner.Nobody rows limits l
+  unfolding OwnerIs
+  low-outside b e q h = fits-by true false (inRange high) _ (order high low ∙ ap not e) (sym q ∙ h) refl refl
 
-  pub high-outside : (b c : Bool) → ltZ high low ≡ false → b ≡ inRange low → b ≡ true → c ≡ inRange high → c ≡ false → false ≡ limitFits rows limits l
-  high-outside b c e q h r k = sym (fits-by true true false _ (order high low ∙ ap not e) (sym q ∙ h) (sym r ∙ k) refl)
+  pub high-outside : (b c : Bool) → ltZ high low ≡ false → b ≡ inRange low → b ≡ true → c ≡ inRange high → c ≡ false → OwnerIs owner.Nobody rows limits l
+  unfolding OwnerIs
+  high-outside b c e q h r k = fits-by true true false _ (order high low ∙ ap not e) (sym q ∙ h) (sym r ∙ k) refl
 
-  pub name-decides : (b c d : Bool) → ltZ high low ≡ false → b ≡ inRange low → b ≡ true → c ≡ inRange high → c ≡ true → d ≡ namesNumber rows (nameAt limits limit-section l) → d ≡ limitFits rows limits l
-  name-decides b c d e q h r k s = sym (fits-by true true true d (order high low ∙ ap not e) (sym q ∙ h) (sym r ∙ k) (sym s))
+  -- ends that are right: whose the limit is, its name decides
+  pub name-decides : (o : Owner) (b c : Bool) → ltZ high low ≡ false → b ≡ inRange low → b ≡ true → c ≡ inRange high → c ≡ true → NumberNamed o rows (nameAt limits limit-section l) → OwnerIs o rows limits l
+  unfolding NumberNamed OwnerIs
+  name-decides (owner.Of d) b c e q h r k (s, t) = (s, fits-by true true true true (order high low ∙ ap not e) (sym q ∙ h) (sym r ∙ k) t)
+  name-decides owner.Nobody b c e q h r k s = fits-by true true true false (order high low ∙ ap not e) (sym q ∙ h) (sym r ∙ k) s
 
-pub limits-wrong : (rows limits : List ℕ) (n l : ℕ) (b : Bool) → n ≡ pairCount limits limit-section → b ≡ limitFits rows limits l → b ≡ false → l < n → true ≡ limitWrong rows limits
-unfolding limitWrong
-limits-wrong rows limits n l b q e h k = one-wrong (pairCount limits limit-section) (λ j. limitFits rows limits j) l (sym e ∙ h) (omega arith)
+-- ---- all limits
+module _ (rows limits : List ℕ) where
+  -- the limits before l fit, and have their owners
+  pub record OwnedTo (owners : List ℕ) (l : ℕ) : Type 0 where
+    pub fit : everyBelow l (λ j. limitFits rows limits j) ≡ true
+    pub owners-are : OwnersBelow rows limits owners l
 
-pub limits-right : (rows limits : List ℕ) (n l : ℕ) → n ≡ pairCount limits limit-section → everyBelow l (λ j. limitFits rows limits j) ≡ true → l ≡ n → false ≡ limitWrong rows limits
-unfolding limitWrong
-limits-right rows limits n l q e h = none-wrong (pairCount limits limit-section) l (λ j. limitFits rows limits j) e (h ∙ q)
+  pub owned-none : (owners : List ℕ) → OwnedTo owners 0
+  owned-none owners = record { fit = every-begins (λ j. limitFits rows limits j); owners-are = record { owned = λ l h. absurd (let k : ⊥ = omega arith in k) } }
+
+  -- an owner's number fits a byte: it is a variable's
+  pub owner-small : AcceptedRows rows → (o : Owner) (d l : ℕ) → o ≡ owner.Of d → OwnerIs o rows limits l → d < most-variables
+  unfolding OwnerIs
+  owner-small accepted o d l e h =
+      let at = found-first rows (nameAt limits limit-section l) d (subst (λ (q : Owner). OwnerIs q rows limits l) e h .0) .0 in
+      omega (arith, at .there, counts rows (accepted .counts) .variables .most)
+
+  pub owned-more : (owners : List ℕ) (l d : ℕ) (o : Owner) → l < length owners → o ≡ owner.Of d → OwnerIs o rows limits l → OwnedTo owners l → OwnedTo (set owners l d) (l + 1)
+  unfolding OwnerIs
+  owned-more owners l d o i e h before =
+      let own = subst (λ (q : Owner). OwnerIs q rows limits l) e h in
+      record {
+        fit = every-more l (λ j. limitFits rows limits j) (before .fit) (own .1);
+        owners-are = record {
+          owned = λ k q. ⊎-elim
+              (λ (less : k < l). before .owners-are .owned k less ∙ ap some (sym (getD-set-other owners l k d 0 (λ z. omega (arith, z, less)))))
+              (λ (is : k ≡ l). ap (λ (j : ℕ). lookUp rows (nameAt limits limit-section j) .found) is ∙ own .0 ∙ ap some (sym (getD-set-same owners l d 0 i) ∙ ap (λ (j : ℕ). getD (set owners l d) j 0) (sym is)))
+              (below-suc l k (let z : k < suc l = omega arith in z));
+        };
+      }
+
+  module _ (u : Table) (read : LimitsRead limits u) (count : u .count / 2 ≡ pairCount limits limit-section) where
+    pub limits-wrong : (l : ℕ) (o : Owner) → o ≡ owner.Nobody → OwnerIs o rows limits l → l < u .count / 2 → true ≡ limitWrong rows limits
+    unfolding limitWrong OwnerIs
+    limits-wrong l o e h k =
+        one-wrong (pairCount limits limit-section) (λ j. limitFits rows limits j) l (subst (λ (q : Owner). OwnerIs q rows limits l) e h) (omega arith)
+
+    module _ (owners : List ℕ) (l : ℕ) (h : OwnedTo owners l) (all : l ≡ u .count / 2) where
+      pub limits-right : false ≡ limitWrong rows limits
+      unfolding limitWrong
+      limits-right = none-wrong (pairCount limits limit-section) l (λ j. limitFits rows limits j) (h .fit) (all ∙ count)
+
+      pub all-owned : LimitsOwned rows limits u owners
+      all-owned = record { read = read; owners-are = subst (λ (n : ℕ). OwnersBelow rows limits owners n) (all ∙ count) (h .owners-are) }
 
 -- ---- readings
 all-by : (p : ℕ → Bool) (vs : List ℕ) → ((k : ℕ) → k < length vs → p (getD vs k 0) ≡ true) → allOf p vs ≡ true

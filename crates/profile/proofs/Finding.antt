@@ -1,58 +1,44 @@
 -- The search for a variable by its name, and what it says of rule 15. Assumes nothing.
-use mathlib.Core.Path.{_≡_, refl, sym, ap, subst, _∙_}
-use mathlib.Core.Logic.{⊎-elim}
+use mathlib.Core.Path.{_≡_, refl, sym, ap, _∙_}
 use mathlib.Core.Bool.{Bool, true, false, not, _&&_}
 use mathlib.Core.List.{List}
-use Prim.Native.Nat.{ℕ, suc, _+_, _≤_, _<_}
-use native.Mathlib.Omega.{arith}
+use mathlib.Core.Option.{some, none}
+use Prim.Native.Nat.{ℕ, _<_}
 use Rattle.lingua.specs.Numbers.{declaration-section}
 use Rattle.lingua.specs.Compute.{sameText}
 use Rattle.lingua.specs.Rows.{pairCount}
 use Rattle.lingua.specs.Trees.{nameAt}
+use Rattle.lingua.specs.Lookup.{Lookup, lookUp}
 use Rattle.lingua.specs.Format.{profile}
 use Rattle.lingua.specs.Rules.{nameWrong}
 use Rattle.lingua.specs.Refusal.{isNumberVariable, namesNumber}
-use Rattle.laws.specs.Tests.{below-suc, every-all}
+use Rattle.laws.specs.Tests.{every-all}
 use Rattle.laws.specs.Equal.{same-text, text-same}
+use Rattle.laws.specs.Lookup.{Unnamed, NamedAt, found-first, found-none}
 use Rattle.safety.specs.Answers.{true-is-false}
 use Rattle.safety.specs.Limited.{number-named}
-use Rattle.profile.specs.Find.{Unnamed, NamedAt, FoundIs}
+use Rattle.profile.specs.Find.{foundMeaning, NumberNamed}
 use Rattle.profile.specs.declared.find.Found.{Found}
 use Rattle.profile.specs.declared.find.Found.the-variants.{At, Nothing}
+use Rattle.profile.specs.declared.agreement.Owner.the-variants as owner
 use Rattle.profile.proofs.Agreeing.{one-wrong}
 
--- ---- the search
+-- ---- by the case that was found
 module _ (rows name : List ℕ) where
-  pub none-passed : Unnamed rows name 0
-  none-passed = record { other = λ c l. absurd (let k : ⊥ = omega arith in k) }
+  pub is-found : (r : Found) (d n : ℕ) → r ≡ At d n → foundMeaning r ≡ lookUp rows name → lookUp rows name .found ≡ some d
+  unfolding foundMeaning
+  is-found r d n e h = ap (λ (l : Lookup). l .found) (sym h ∙ ap foundMeaning e)
 
-  pub one-passed : (d : ℕ) → Unnamed rows name d → false ≡ sameText (nameAt rows declaration-section d) name → Unnamed rows name (d + 1)
-  one-passed d h e =
-      record { other = λ c l. ⊎-elim (λ k. h .other c k) (λ q. ap (λ (j : ℕ). sameText (nameAt rows declaration-section j) name) q ∙ sym e) (below-suc d c (let z : c < suc d = omega arith in z)) }
-
-  pub found-at : (d : ℕ) → Unnamed rows name d → d < pairCount rows declaration-section → true ≡ sameText (nameAt rows declaration-section d) name → FoundIs (At d) rows name
-  unfolding FoundIs
-  found-at d h l e = record { there = l; named = sym e; first = h }
-
-  pub found-nothing : (d : ℕ) → Unnamed rows name d → d ≡ pairCount rows declaration-section → FoundIs Nothing rows name
-  unfolding FoundIs
-  found-nothing d h e = subst (λ (n : ℕ). Unnamed rows name n) e h
-
-  -- ---- by the case that was found
-  pub is-found : (r : Found) (d : ℕ) → r ≡ At d → FoundIs r rows name → NamedAt rows name d
-  unfolding FoundIs
-  is-found r d e h = subst (λ (q : Found). FoundIs q rows name) e h
-
-  pub is-nothing : (r : Found) → r ≡ Nothing → FoundIs r rows name → Unnamed rows name (pairCount rows declaration-section)
-  unfolding FoundIs
-  is-nothing r e h = subst (λ (q : Found). FoundIs q rows name) e h
+  is-nothing : (r : Found) (n : ℕ) → r ≡ Nothing n → foundMeaning r ≡ lookUp rows name → lookUp rows name .found ≡ none
+  unfolding foundMeaning
+  is-nothing r n e h = ap (λ (l : Lookup). l .found) (sym h ∙ ap foundMeaning e)
 
   -- ---- rule 15
-  pub name-missing : Unnamed rows name (pairCount rows declaration-section) → false ≡ namesNumber rows name
+  name-missing : Unnamed rows name (pairCount rows declaration-section) → namesNumber rows name ≡ false
   unfolding namesNumber
   name-missing h =
-      ap not (sym (every-all (pairCount rows declaration-section) (λ d. not (sameText (nameAt rows declaration-section d) name && isNumberVariable rows d))
-      (λ d l. ap (λ (t : Bool). not (t && isNumberVariable rows d)) (h .other d l))))
+      ap not (every-all (pairCount rows declaration-section) (λ d. not (sameText (nameAt rows declaration-section d) name && isNumberVariable rows d))
+      (λ d l. ap (λ (t : Bool). not (t && isNumberVariable rows d)) (h .other d l)))
 
   number-found : (d : ℕ) → NamedAt rows name d → isNumberVariable rows d ≡ true → true ≡ namesNumber rows name
   unfolding namesNumber
@@ -61,7 +47,7 @@ module _ (rows name : List ℕ) where
       (ap (λ (t : Bool). not (t && isNumberVariable rows d)) (h .named) ∙ ap not e) (h .there)
 
   -- the variable of the name decides: there is no other
-  pub name-found : (d : ℕ) → nameWrong profile rows ≡ false → NamedAt rows name d → isNumberVariable rows d ≡ namesNumber rows name
+  name-found : (d : ℕ) → nameWrong profile rows ≡ false → NamedAt rows name d → isNumberVariable rows d ≡ namesNumber rows name
   name-found d right h = by (isNumberVariable rows d) (namesNumber rows name) refl refl
     where
       back : sameText name (nameAt rows declaration-section d) ≡ true
@@ -71,3 +57,20 @@ module _ (rows name : List ℕ) where
       by true b p q = p ∙ number-found d h p
       by false false p q = p ∙ sym q
       by false true p q = true-is-false (sym (number-named rows right d (h .there) name back q) ∙ p)
+
+  -- ---- the ways in which the number variable of a name is found or not
+  pub none-named : (r : Found) (n : ℕ) → r ≡ Nothing n → foundMeaning r ≡ lookUp rows name → NumberNamed owner.Nobody rows name
+  unfolding NumberNamed
+  none-named r n e h = name-missing (found-none rows name (is-nothing r n e h) .0)
+
+  module _ (r : Found) (d n : ℕ) (e : r ≡ At d n) (h : foundMeaning r ≡ lookUp rows name) (right : nameWrong profile rows ≡ false) (b : Bool) (is : b ≡ isNumberVariable rows d) where
+    names-as : namesNumber rows name ≡ b
+    names-as = sym (is ∙ name-found d right (found-first rows name d (is-found r d n e h) .0))
+
+    pub one-named : b ≡ true → NumberNamed (owner.Of d) rows name
+    unfolding NumberNamed
+    one-named t = (is-found r d n e h, names-as ∙ t)
+
+    pub other-named : b ≡ false → NumberNamed owner.Nobody rows name
+    unfolding NumberNamed
+    other-named f = names-as ∙ f

@@ -1,25 +1,51 @@
--- What the search for a variable by its name finds. Assumes nothing: these are definitions.
-use mathlib.Core.Path.{_≡_}
+-- What the search for a variable by its name gives, and whose each limit is. Assumes nothing.
+use mathlib.Core.Path.{_≡_, subst}
 use mathlib.Core.Bool.{true, false}
 use mathlib.Core.List.{List}
-use Prim.Native.Nat.{ℕ, _<_}
-use Rattle.lingua.specs.Numbers.{declaration-section}
-use Rattle.lingua.specs.Compute.{sameText}
+use mathlib.Core.Option.{some, none}
+use Prim.Native.Nat.{ℕ, _≤_, _<_}
+use lib.ListN.{getD}
+use Rattle.lingua.specs.Numbers.{most-limits, limit-section}
 use Rattle.lingua.specs.Rows.{pairCount}
 use Rattle.lingua.specs.Trees.{nameAt}
+use Rattle.lingua.specs.Lookup.{Lookup, lookup, lookUp}
+use Rattle.lingua.specs.Refusal.{namesNumber, limitFits}
+use Rattle.decoder.specs.Tables.{IsTable}
+use Rattle.decoder.specs.declared.tables.Table.{Table}
 use Rattle.profile.specs.declared.find.Found.{Found}
 use Rattle.profile.specs.declared.find.Found.the-variants.{At, Nothing}
+use Rattle.profile.specs.declared.agreement.Owner.{Owner}
+use Rattle.profile.specs.declared.agreement.Owner.the-variants as owner
 
--- none of the first n declarations has the name
-pub record Unnamed (rows name : List ℕ) (n : ℕ) : Type 0 where
-  pub other : (c : ℕ) → c < n → sameText (nameAt rows declaration-section c) name ≡ false
+unfoldable pub foundMeaning : Found → Lookup
+foundMeaning (At d n) = lookup (some d) n
+foundMeaning (Nothing n) = lookup none n
 
--- declaration d is the first that has it
-pub record NamedAt (rows name : List ℕ) (d : ℕ) : Type 0 where
-  pub there : d < pairCount rows declaration-section
-  pub named : sameText (nameAt rows declaration-section d) name ≡ true
-  pub first : Unnamed rows name d
+-- ---- whose a limit is
+-- the number variable that the search for a name finds, or that there is none
+unfoldable pub NumberNamed : Owner → List ℕ → List ℕ → Type 0
+NumberNamed (owner.Of d) rows name = (lookUp rows name .found ≡ some d) × (namesNumber rows name ≡ true)
+NumberNamed owner.Nobody rows name = namesNumber rows name ≡ false
 
-unfoldable pub FoundIs : Found → List ℕ → List ℕ → Type 0
-FoundIs (At d) rows name = NamedAt rows name d
-FoundIs Nothing rows name = Unnamed rows name (pairCount rows declaration-section)
+-- the same of limit l, where its ends are right too
+unfoldable pub OwnerIs : Owner → List ℕ → List ℕ → ℕ → Type 0
+OwnerIs (owner.Of d) rows limits l = (lookUp rows (nameAt limits limit-section l) .found ≡ some d) × (limitFits rows limits l ≡ true)
+OwnerIs owner.Nobody rows limits l = limitFits rows limits l ≡ false
+
+-- the table of a file's limits, of which there are not too many
+pub record LimitsRead (limits : List ℕ) (u : Table) : Type 0 where
+  pub table : IsTable limits limit-section u
+  pub few : pairCount limits limit-section ≤ most-limits
+
+-- the first n limits have their owners: each the variable that the search for its name finds
+pub record OwnersBelow (rows limits owners : List ℕ) (n : ℕ) : Type 0 where
+  pub owned : (l : ℕ) → l < n → lookUp rows (nameAt limits limit-section l) .found ≡ some (getD owners l 0)
+
+-- all have, so that no run searches for a name
+pub record LimitsOwned (rows limits : List ℕ) (u : Table) (owners : List ℕ) : Type 0 where
+  pub read : LimitsRead limits u
+  pub owners-are : OwnersBelow rows limits owners (pairCount limits limit-section)
+
+pub owned-as : {rows rows′ limits limits′ owners : List ℕ} {u : Table} → rows ≡ rows′ → limits ≡ limits′ → LimitsOwned rows limits u owners → LimitsOwned rows′ limits′ u owners
+owned-as {rows} {rows′} {limits} {limits′} {owners} {u} e f h =
+    subst (λ (x : List ℕ). LimitsOwned x limits′ u owners) e (subst (λ (x : List ℕ). LimitsOwned rows x u owners) f h)

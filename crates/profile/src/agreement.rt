@@ -10,16 +10,18 @@ use lingua::sizes::HIGHEST_NUMBER;
 use lingua::sizes::LOWEST_NUMBER;
 use lingua::sizes::MOST_READINGS;
 ghost use mathlib.Core.Path.{_≡_};
+ghost use mathlib.Core.Bool.{false};
 ghost use Prim.Native.Nat.{_/_, _<_};
 ghost use lib.ListN.{length};
-ghost use Rattle.lingua.specs.Numbers.{declaration-section, type-section, limit-section};
+ghost use Rattle.lingua.specs.Numbers.{name-bytes, most-limits, declaration-section, type-section, limit-section};
 ghost use Rattle.lingua.specs.Value.{inRange};
 ghost use Rattle.lingua.specs.Rows.{tableCount};
-ghost use Rattle.lingua.specs.Refusal.{namesNumber, limitFits, limitWrong, readingWrong};
+ghost use Rattle.lingua.specs.Refusal.{limitWrong, readingWrong};
 ghost use Rattle.safety.specs.Accepted.{AcceptedRows};
 ghost use Rattle.decoder.specs.Tables.{IsTable};
 ghost use Rattle.rules.specs.Types.{BodiesBelow};
 ghost use Rattle.profile.specs.Variables.{DeclarationsKnown};
+ghost use Rattle.profile.specs.Find.{NumberNamed, OwnerIs, LimitsRead, LimitsOwned};
 
 fn in_range(z: i64) -> bool
     ensures { λ r. ⌜ r ≡ inRange z ⌝ }
@@ -33,53 +35,73 @@ fn in_range(z: i64) -> bool
     true
 }
 
-// Whether some number variable has the name.
-fn names_number(rows: &[u8], t: Table, bodies: &[u8], name: &[u8]) -> bool
-    requires { ⌜ DeclarationsKnown (now rows) t (now bodies) ⌝ }
-    requires { ⌜ length (now name) ≡ 8 ⌝ }
-    ensures { λ r. ⌜ r ≡ namesNumber (now (rows .entry)) (now (name .entry)) ⌝ }
-{
-    let found = find(rows, t, name);
-    match found {
-        Found::At(d) => is_number_variable(rows, t, d, bodies),
-        Found::Nothing => false,
-    }
+// Whose a limit is: a number variable of the profile, or nobody's.
+pub enum Owner {
+    Of(usize),
+    Nobody,
 }
 
-// Whether limit l has its ends in order and in range, and a number variable of its name.
-fn limit_fits(rows: &[u8], t: Table, bodies: &[u8], limits: &[u8], u: Table, l: usize) -> bool
+// The number variable that has the name.
+fn number_named(rows: &[u8], t: Table, bodies: &[u8], name: &[u8]) -> Owner
+    requires { ⌜ DeclarationsKnown (now rows) t (now bodies) ⌝ }
+    requires { ⌜ length (now name) ≡ name-bytes ⌝ }
+    ensures { λ r. ⌜ NumberNamed r (now (rows .entry)) (now (name .entry)) ⌝ }
+{
+    let found = find(rows, t, name);
+    let Found::At { index, looked: _ } = found else {
+        return Owner::Nobody;
+    };
+    if is_number_variable(rows, t, index, bodies) {
+        return Owner::Of(index);
+    }
+    Owner::Nobody
+}
+
+// Whose limit l is, where its ends are in order and in range.
+fn limit_owner(rows: &[u8], t: Table, bodies: &[u8], limits: &[u8], u: Table, l: usize) -> Owner
     requires { ⌜ DeclarationsKnown (now rows) t (now bodies) ⌝ }
     requires { ⌜ IsTable (now limits) limit-section u ⌝ }
     requires { ⌜ l < u .count / 2 ⌝ }
-    ensures { λ r. ⌜ r ≡ limitFits (now (rows .entry)) (now (limits .entry)) l ⌝ }
+    ensures { λ r. ⌜ OwnerIs r (now (rows .entry)) (now (limits .entry)) l ⌝ }
 {
     let low = limit_low(limits, u, l);
     let high = limit_high(limits, u, l);
     if high < low {
-        return false;
+        return Owner::Nobody;
     }
     if !in_range(low) {
-        return false;
+        return Owner::Nobody;
     }
     if !in_range(high) {
-        return false;
+        return Owner::Nobody;
     }
     let start = u.start;
-    names_number(rows, t, bodies, bytes_at(limits, start + 2 * l))
+    number_named(rows, t, bodies, bytes_at(limits, start + 2 * l))
 }
 
-// Rule 15.
-pub fn limit_wrong(rows: &[u8], t: Table, bodies: &[u8], limits: &[u8], u: Table) -> bool
+// Rule 15. Where it does not apply, each limit's owner is kept: its name is searched for here, and nowhere else.
+pub fn limit_wrong(
+    rows: &[u8],
+    t: Table,
+    bodies: &[u8],
+    limits: &[u8],
+    u: Table,
+    owners: &mut [u8],
+) -> bool
     requires { ⌜ DeclarationsKnown (now rows) t (now bodies) ⌝ }
-    requires { ⌜ IsTable (now limits) limit-section u ⌝ }
+    requires { ⌜ LimitsRead (now limits) u ⌝ }
+    requires { ⌜ length (now owners) ≡ most-limits ⌝ }
     ensures { λ r. ⌜ r ≡ limitWrong (now (rows .entry)) (now (limits .entry)) ⌝ }
+    ensures { λ r. ⌜ (r ≡ false → LimitsOwned (now (rows .entry)) (now (limits .entry)) u (now (owners .exit))) ⌝ }
 {
     let count = u.count / 2;
     let mut l = 0;
     while l < count {
-        if !limit_fits(rows, t, bodies, limits, u, l) {
+        let owner = limit_owner(rows, t, bodies, limits, u, l);
+        let Owner::Of(d) = owner else {
             return true;
-        }
+        };
+        owners[l] = d as u8;
         l += 1;
     }
     false

@@ -4,30 +4,35 @@ use decoder::tables::Table;
 use row_rules::names::same_bytes;
 ghost use mathlib.Core.Path.{_≡_};
 ghost use lib.ListN.{length};
-ghost use Rattle.lingua.specs.Numbers.{declaration-section};
+ghost use Rattle.lingua.specs.Numbers.{name-bytes, declaration-section};
+ghost use Rattle.lingua.specs.Lookup.{lookUp};
 ghost use Rattle.decoder.specs.Tables.{IsTable};
-ghost use Rattle.profile.specs.Find.{FoundIs};
+ghost use Rattle.profile.specs.Find.{foundMeaning};
 
-// The declaration that has a name, if there is one.
+// The declaration that has a name, if there is one, and how many declarations the search looked at.
 pub enum Found {
-    At(usize),
-    Nothing,
+    At { index: usize, looked: usize },
+    Nothing { looked: usize },
 }
 
-// The search ends at the first declaration that has the name; by rule 8 no other has it.
+// The search ends at the first declaration that has the name. What it hands out as looked at are the turns that its loop made.
 pub fn find(rows: &[u8], t: Table, name: &[u8]) -> Found
     requires { ⌜ IsTable (now rows) declaration-section t ⌝ }
-    requires { ⌜ length (now name) ≡ 8 ⌝ }
-    ensures { λ r. ⌜ FoundIs r (now (rows .entry)) (now (name .entry)) ⌝ }
+    requires { ⌜ length (now name) ≡ name-bytes ⌝ }
+    ensures { λ r. ⌜ foundMeaning r ≡ lookUp (now (rows .entry)) (now (name .entry)) ⌝ }
 {
     let start = t.start;
     let count = t.count / 2;
-    let mut d = 0;
-    while d < count {
+    let mut looked = 0;
+    while looked < count {
+        let d = looked;
+        looked += 1;
         if same_bytes(bytes_at(rows, start + 2 * d), name) {
-            return Found::At(d);
+            return Found::At {
+                index: d,
+                looked: looked,
+            };
         }
-        d += 1;
     }
-    Found::Nothing
+    Found::Nothing { looked: looked }
 }

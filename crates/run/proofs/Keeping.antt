@@ -20,7 +20,7 @@ use Rattle.lingua.specs.Outcome.{Result}
 use Rattle.lingua.specs.Body.{Body, nodes}
 use Rattle.lingua.specs.Value.{pad}
 use Rattle.lingua.specs.Encode.{encoded}
-use Rattle.lingua.specs.Rows.{bytesAt, pairCount, procedureCount}
+use Rattle.lingua.specs.Rows.{pairCount, procedureCount}
 use Rattle.lingua.specs.Store.{Limit, Variable, no-variable, variableAt, presentBody, storeBodies, bodiesIn}
 use Rattle.lingua.specs.Run.{unfilled}
 use Rattle.lingua.specs.Compute.{sameText}
@@ -31,20 +31,18 @@ use Rattle.laws.specs.Formed.{formed-bounds}
 use Rattle.laws.specs.Every.{every-by, every-take}
 use Rattle.laws.specs.Presents.{variableBytes, Compact, body-more}
 use Rattle.laws.specs.Equal.{same-text, text-same}
-use Rattle.safety.specs.Answers.{true-is-false}
+use Rattle.laws.specs.Lookup.{NamedAt, found-first}
 use Rattle.safety.specs.Limited.{one-variable}
 use Rattle.safety.specs.Accepted.{AcceptedRows, few-variables}
 use Rattle.safety.specs.ProfileScopes.{scopeDeclaration}
 use Rattle.safety.specs.Formed.{scope-formed}
 use Rattle.profile.specs.Variables.{DeclaredIs, declared-in, LimitAt}
-use Rattle.profile.specs.Find.{Unnamed, NamedAt, FoundIs}
-use Rattle.profile.specs.declared.find.Found.{Found}
-use Rattle.profile.proofs.Declaring.{name-is}
+use Rattle.profile.proofs.Declaring.{pairs}
 use Rattle.decoder.specs.Tables.{IsTable}
 use Rattle.decoder.specs.declared.tables.Table.{Table}
 use Rattle.run.specs.Begun.{scopeStart, startStore, Begun}
 use Rattle.run.specs.Started.{start-states}
-use Rattle.run.specs.Kept.{BodiesKept, YokesKept, LimitsFrom}
+use Rattle.run.specs.Kept.{BodiesKept, YokesKept, LimitsFrom, Limited, LaterKept}
 use Rattle.run.proofs.Unfilled.{counted, start-count, start-at, start-cells}
 
 -- ---- bodies
@@ -104,13 +102,6 @@ limits-none rows limits kept n l e m q =
           (ap (λ (x : List ℤ). getD x (3 * d) (pos 0)) e ∙ zeros n (3 * d));
     }
 
-other-way : (a b : List ℕ) → sameText a b ≡ false → sameText b a ≡ false
-other-way a b e = by (sameText b a) refl
-  where
-    by : (t : Bool) → sameText b a ≡ t → sameText b a ≡ false
-    by true q = true-is-false (sym (ap (λ (x : List ℕ). sameText a x) (same-text b a q) ∙ text-same a) ∙ e)
-    by false q = q
-
 -- the cells of a variable's limit, once they are written
 unfoldable within : List ℤ → ℕ → ℤ → ℤ → List ℤ
 within kept d low high = set (set (set kept (3 * d) (pos 1)) (3 * d + 1) low) (3 * d + 2) high
@@ -162,9 +153,6 @@ module _ (rows limits : List ℕ) (kept : List ℤ) (l : ℕ) (inside : l < pair
       → LimitAt after (3 * d) (limitFrom l (pairCount limits limit-section - l) limits (nameAt rows declaration-section d))
   not-its after d i e s = subst (λ (o : Option Limit). LimitAt after (3 * d) o) (sym (turn d false e)) (same-limit kept after (3 * d) (later d) s (h .each d i))
 
-  pub limit-of-none : Unnamed rows name (pairCount rows declaration-section) → LimitsFrom rows limits kept l
-  limit-of-none u = record { room = h .room; each = λ d i. not-its kept d i (other-way _ _ (u .other d i)) (λ j a b. refl) }
-
   module _ (names : nameWrong profile rows ≡ false) (few : pairCount rows declaration-section ≤ most-variables) (n : ℕ) (at : NamedAt rows name n) where
     its : nameAt rows declaration-section n ≡ name
     its = same-text _ _ (at .named)
@@ -205,12 +193,24 @@ module _ (rows limits : List ℕ) (kept : List ℤ) (l : ℕ) (inside : l < pair
     limit-kept low high e f p q =
         rw (toZ-ofZ w64 low (record { sfits = p }), toZ-ofZ w64 high (record { sfits = q }), e, f) limit-of-its
 
--- what the search for a limit's name finds
-pub find-name : (rows limits : List ℕ) (u : Table) (l : ℕ) (r : Found) (cs : List ℕ) → IsTable limits limit-section u → cs ≡ bytesAt limits (u .start + 2 * l) → FoundIs r rows cs → FoundIs r rows (nameAt limits limit-section l)
-find-name rows limits u l r cs is e h = subst (λ (n : List ℕ). FoundIs r rows n) (name-is limits limit-section u is l cs e) h
+-- whose limit l is, and that there is room for it
+module _ {rows limits owners : List ℕ} {u : Table} {kept : List ℤ} {l : ℕ} (k : LaterKept rows limits u owners kept l) where
+  pub limit-there : l < pairCount limits limit-section
+  limit-there = omega (arith, k .there, pairs limits limit-section u (k .known .limited .read .table))
 
-pub found-room : (rows limits : List ℕ) (kept : List ℤ) (l d : ℕ) {name : List ℕ} → AcceptedRows rows → LimitsFrom rows limits kept l → NamedAt rows name d → 3 * d + 3 ≤ length kept
-found-room rows limits kept l d a h at = omega (arith, few-variables rows a 0 (omega arith), h .room, at .there)
+  pub limit-below : l < 16
+  limit-below = omega (arith, limit-there, k .known .limited .read .few)
+
+  pub owner-named : NamedAt rows (nameAt limits limit-section l) (getD owners l 0)
+  owner-named = found-first rows (nameAt limits limit-section l) (getD owners l 0) (k .known .limited .owners-are .owned l limit-there) .0
+
+  pub owner-room : 3 * getD owners l 0 + 3 ≤ 48
+  owner-room = omega (arith, few-variables rows (k .known .accepted) 0 (omega arith), owner-named .there)
+
+-- one limit less to keep
+pub later-kept : {rows limits owners : List ℕ} {u : Table} {kept : List ℤ} → Limited rows limits u owners → (l : ℕ) → l ≤ u .count / 2 → 0 < l → LimitsFrom rows limits kept l → LaterKept rows limits u owners kept (l - 1)
+later-kept {rows} {limits} {kept = kept} known l h z from =
+    record { known = known; there = omega arith; later = subst (λ (k : ℕ). LimitsFrom rows limits kept k) (let e : l ≡ l - 1 + 1 = omega arith in e) from }
 
 pub start-limits : (rows limits : List ℕ) (kept : List ℤ) → LimitsFrom rows limits kept 0 → (n : ℕ) → n < length (startStore rows limits)
     → LimitAt kept (3 * n) (variableAt (startStore rows limits) n .limit)

@@ -4,7 +4,7 @@ use mathlib.Core.List.{List, map}
 use Prim.Native.Nat.{ℕ, _*_, _<_}
 use lib.IntN.{ℤ}
 use lib.ListN.{length}
-use Rattle.lingua.specs.Numbers.{declaration-section, limit-section, cells-length, states-length, limit-cells-length, limit-cells}
+use Rattle.lingua.specs.Numbers.{declaration-section, cells-length, states-length, limit-cells-length, limit-cells}
 use Rattle.lingua.specs.Rows.{pairCount}
 use Rattle.lingua.specs.Store.{Variable, variableAt, cellsIn, statesIn}
 use Rattle.lingua.specs.Run.{unfilled, scopeDeclarations}
@@ -13,12 +13,13 @@ use Rattle.safety.specs.Accepted.{AcceptedRows}
 use Rattle.decoder.specs.Tables.{IsTable}
 use Rattle.decoder.specs.declared.tables.Table.{Table}
 use Rattle.profile.specs.Variables.{LimitAt}
+use Rattle.profile.specs.Find.{LimitsOwned}
 
--- what the start asks: accepted rows, the tables of both files, and room for limits, cells and state words
-pub record Asked (rows : List ℕ) (t : Table) (limits : List ℕ) (u : Table) (kept cells : List ℤ) (states : List ℕ) : Type 0 where
+-- what the start asks: accepted rows, the tables of both files, whose each limit is, and room for limits, cells and state words
+pub record Asked (rows : List ℕ) (t : Table) (limits : List ℕ) (u : Table) (owners : List ℕ) (kept cells : List ℤ) (states : List ℕ) : Type 0 where
   pub accepted : AcceptedRows rows
   pub declared : IsTable rows declaration-section t
-  pub limited : IsTable limits limit-section u
+  pub limited : LimitsOwned rows limits u owners
   pub room : length kept ≡ limit-cells-length
   pub long-cells : length cells ≡ cells-length
   pub long-states : length states ≡ states-length

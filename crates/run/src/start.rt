@@ -1,24 +1,22 @@
-// The start of a run: no variable is filled, and each has its declared yoke and limit. Limits are three cells for each variable, so that a
-// run searches for no name: whether there is one, and its two ends.
+// The start of a run: no variable is filled, and each has its declared yoke and limit. Limits are three cells for each variable, whether
+// there is one, and its two ends: whose each limit is, was found when the pair of files was taken, and no name is searched for here.
 use crate::words::set_yoke;
-use decoder::fields::bytes_at;
 use decoder::tables::Table;
 use lingua::sizes::LIMIT_CELLS;
+use lingua::sizes::MOST_LIMITS;
 use profile::declarations::declared_yoke;
-use profile::find::Found;
-use profile::find::find;
 use profile::limits::limit_high;
 use profile::limits::limit_low;
 ghost use Rattle.run.specs.Begun.{Asked, Begun};
 ghost use mathlib.Core.Path.{_≡_};
+ghost use mathlib.Core.List.{List};
 ghost use lib.ListN.{length, replicate};
 ghost use lib.IntN.{pos};
-ghost use Rattle.lingua.specs.Numbers.{declaration-section, states-length, limit-section, limit-cells-length, limit-cells};
+ghost use Rattle.lingua.specs.Numbers.{states-length, limit-cells-length};
 ghost use Rattle.profile.specs.Variables.{HasScope};
 ghost use Rattle.safety.specs.Accepted.{AcceptedRows};
-ghost use Rattle.decoder.specs.Tables.{IsTable};
-ghost use Rattle.run.specs.Kept.{YokesKept, LimitsFrom};
-ghost use Prim.Native.Nat.{_+_, _/_, _<_};
+ghost use Rattle.run.specs.Kept.{YokesKept, LimitsFrom, Limited, LaterKept};
+ghost use Prim.Native.Nat.{ℕ, _/_};
 
 // What an earlier run left does not stay.
 pub fn clear_cells(cells: &mut [i64])
@@ -60,18 +58,12 @@ pub fn keep_yokes(rows: &[u8], t: Table, states: &mut [u16])
     }
 }
 
-// Limit l, for the variable that has its name.
-fn keep_limit(rows: &[u8], t: Table, limits: &[u8], u: Table, l: usize, kept: &mut [i64])
-    requires { ⌜ AcceptedRows (now rows) ⌝ }
-    requires { ⌜ IsTable (now rows) declaration-section t × IsTable (now limits) limit-section u ⌝ }
-    requires { ⌜ (l < u .count / 2) × LimitsFrom (now rows) (now limits) (now kept) (l + 1) ⌝ }
-    ensures { λ r. ⌜ LimitsFrom (now (rows .entry)) (now (limits .entry)) (now (kept .exit)) l ⌝ }
+// Limit l, for the variable whose it is.
+fn keep_limit(limits: &[u8], u: Table, owners: [u8; MOST_LIMITS], l: usize, kept: &mut [i64])
+    requires { ⌜ ((rows : List ℕ) × LaterKept rows (now limits) u owners (now kept) l) ⌝ }
+    ensures { λ r. ⌜ ((rows : List ℕ) → LaterKept rows (now (limits .entry)) u owners (now (kept .entry)) l → LimitsFrom rows (now (limits .entry)) (now (kept .exit)) l) ⌝ }
 {
-    let start = u.start;
-    let found = find(rows, t, bytes_at(limits, start + 2 * l));
-    let Found::At(d) = found else {
-        return;
-    };
+    let d = owners[l] as usize;
     let low = limit_low(limits, u, l);
     let high = limit_high(limits, u, l);
     let at = LIMIT_CELLS * d;
@@ -81,17 +73,16 @@ fn keep_limit(rows: &[u8], t: Table, limits: &[u8], u: Table, l: usize, kept: &m
 }
 
 // Each limit for its variable, from the last to the first: of two limits of one name the first would count.
-fn keep_limits(rows: &[u8], t: Table, limits: &[u8], u: Table, kept: &mut [i64])
-    requires { ⌜ AcceptedRows (now rows) ⌝ }
-    requires { ⌜ IsTable (now rows) declaration-section t ⌝ }
-    requires { ⌜ IsTable (now limits) limit-section u × (length (now kept) ≡ limit-cells-length) ⌝ }
-    ensures { λ r. ⌜ LimitsFrom (now (rows .entry)) (now (limits .entry)) (now (kept .exit)) 0 ⌝ }
+fn keep_limits(limits: &[u8], u: Table, owners: [u8; MOST_LIMITS], kept: &mut [i64])
+    requires { ⌜ ((rows : List ℕ) × Limited rows (now limits) u owners) ⌝ }
+    requires { ⌜ length (now kept) ≡ limit-cells-length ⌝ }
+    ensures { λ r. ⌜ ((rows : List ℕ) → Limited rows (now (limits .entry)) u owners → LimitsFrom rows (now (limits .entry)) (now (kept .exit)) 0) ⌝ }
 {
     clear_cells(kept);
     let mut l = u.count / 2;
     while 0 < l {
         l -= 1;
-        keep_limit(rows, t, limits, u, l, kept);
+        keep_limit(limits, u, owners, l, kept);
     }
 }
 
@@ -101,15 +92,16 @@ pub fn start(
     t: Table,
     limits: &[u8],
     u: Table,
+    owners: [u8; MOST_LIMITS],
     kept: &mut [i64],
     cells: &mut [i64],
     states: &mut [u16],
 )
-    requires { ⌜ Asked (now rows) t (now limits) u (now kept) (now cells) (now states) ⌝ }
+    requires { ⌜ Asked (now rows) t (now limits) u owners (now kept) (now cells) (now states) ⌝ }
     ensures { λ r. ⌜ Begun (now (rows .entry)) (now (limits .entry)) (now (kept .exit)) (now (cells .exit)) (now (states .exit)) ⌝ }
 {
     clear_cells(cells);
     clear_states(states);
     keep_yokes(rows, t, states);
-    keep_limits(rows, t, limits, u, kept);
+    keep_limits(limits, u, owners, kept);
 }

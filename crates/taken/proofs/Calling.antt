@@ -7,7 +7,8 @@ use native.Mathlib.Omega.{arith}
 use lib.IntN.{ℤ}
 use lib.ListN.{length, take, drop, length-drop, drop-of-length-le}
 use lib.Seq.{drop-at, length-take-le}
-use Rattle.lingua.specs.Numbers.{layout-length, present-bodies-length}
+use Rattle.lingua.specs.Numbers.{layout-length, present-bodies-length, type-section}
+use Rattle.lingua.specs.Rows.{tableCount}
 use Rattle.lingua.specs.Outcome.{Outcome, ok, fail}
 use Rattle.lingua.specs.Store.{Reading, presentIn}
 use Rattle.lingua.specs.Run.{Progress, run}
@@ -23,7 +24,10 @@ use Rattle.lingua.specs.Calls.{RunCall, readingsOf, ran, runOf, withBodies, che
 use Rattle.safety.specs.Limited.{accepted-limited}
 use Rattle.safety.specs.TwoRuns.{checked-shares, passed-layout}
 use Rattle.pair.specs.declared.Pair.{Pair}
-use Rattle.pair.proofs.Given.{rows-accepted}
+use Rattle.pair.proofs.Given.{rows-accepted, tables-there, limits-there, bodies-held}
+use Rattle.decoder.specs.Tables.{AreTables}
+use Rattle.rules.specs.Types.{BodiesBelow}
+use Rattle.profile.specs.Find.{LimitsOwned}
 use Rattle.typecheck.specs.declared.verdicts.Verdict.{Verdict}
 use Rattle.typecheck.specs.Verdicts.{Concludes}
 use Rattle.run.specs.Reached.{Lent}
@@ -37,7 +41,7 @@ use Rattle.taken.proofs.Refusing.{short-present, short-layout, run-refu
 
 -- ---- what is taken serves both runs
 module _ {i : Inputs} {b : Buffers} {areas others bodies : List ℕ} {p : Pair} (t : RunTaken p i b areas others bodies) where
-  pub startable : Startable (take (p .rows) areas) (i .variables) (i .numbers) b
+  startable : Startable (take (p .rows) areas) (i .variables) (i .numbers) b
   startable = record {
     accepted = rows-accepted (t .files) (t .accepted);
     readable = subst (λ (rows : List ℕ). Readable rows (i .variables) (i .numbers)) (sym (t .files .rows)) (t .readable);
@@ -47,10 +51,17 @@ module _ {i : Inputs} {b : Buffers} {areas others bodies : List ℕ} {p : Pair} 
     long-open-states = t .long-open-states;
   }
 
-  pub numbers-limited : NumbersLimited (take (p .rows) areas) (take (p .limits) others)
+  numbers-limited : NumbersLimited (take (p .rows) areas) (take (p .limits) others)
   numbers-limited =
       subst (λ (limits : List ℕ). NumbersLimited (take (p .rows) areas) limits) (sym (t .files .limits))
       (subst (λ (rows : List ℕ). NumbersLimited rows (rowsOf (i .limits))) (sym (t .files .rows)) (record { limited = λ n h l q. accepted-limited (i .profile) (i .limits) (t .accepted) n h l q }))
+
+  -- all that the run of a taken pair's rows asks, besides the length of what is its own
+  pub checked-asks : {n m : ℕ} → n ≡ m → Startable (take (p .rows) areas) (i .variables) (i .numbers) b × ((AreTables (take (p .rows) areas) (p .tables) × LimitsOwned (take (p .rows) areas) (take (p .limits) others) (p .named) (p .owners)) × (BodiesBelow (take (p .rows) areas) bodies (tableCount (take (p .rows) areas) type-section) × (n ≡ m)))
+  checked-asks e = (startable, ((tables-there (t .files), limits-there (t .files)), (bodies-held (t .files), e)))
+
+  pub erased-asks : {n m : ℕ} → n ≡ m → Startable (take (p .rows) areas) (i .variables) (i .numbers) b × ((AreTables (take (p .rows) areas) (p .tables) × LimitsOwned (take (p .rows) areas) (take (p .limits) others) (p .named) (p .owners)) × (BodiesBelow (take (p .rows) areas) bodies (tableCount (take (p .rows) areas) type-section) × ((n ≡ m) × NumbersLimited (take (p .rows) areas) (take (p .limits) others))))
+  erased-asks e = (startable, ((tables-there (t .files), limits-there (t .files)), (bodies-held (t .files), (e, numbers-limited))))
 
 -- ---- the checked run
 -- where a run of its way ended: the answer, the registers and the present bodies, the profile's and those of the open calls

@@ -8,6 +8,7 @@ use lingua::RunAnswer;
 use lingua::errors::BAD_BUFFER;
 use lingua::errors::NO_ERROR;
 use lingua::sizes::LIMIT_CELLS_LENGTH;
+use lingua::sizes::MOST_LIMITS;
 use lingua::sizes::PRESENT_BODIES_LENGTH;
 use lingua::sizes::VARIABLE_BODIES_LENGTH;
 use pair::Pair;
@@ -21,15 +22,16 @@ ghost use mathlib.Core.Path.{_≡_};
 ghost use mathlib.Core.List.{List, _++_ as followed};
 ghost use Prim.Native.Nat.{ℕ};
 ghost use lib.ListN.{length, replicate};
-ghost use Rattle.lingua.specs.Numbers.{type-section, limit-section, variable-bodies-length, open-bodies-length, present-bodies-length};
+ghost use Rattle.lingua.specs.Numbers.{type-section, variable-bodies-length, open-bodies-length, present-bodies-length};
 ghost use Rattle.lingua.specs.Rows.{tableCount};
 ghost use Rattle.lingua.specs.Run.{run as meaning};
 ghost use Rattle.lingua.specs.Trees.{profileOf};
 ghost use Rattle.lingua.specs.Inputs.{inputs, buffers};
 ghost use Rattle.lingua.specs.Calls.{readingsOf, checkedResult, checkedCall};
 ghost use Rattle.pair.specs.Pair.{PairIs};
-ghost use Rattle.decoder.specs.Tables.{IsTable, AreTables};
+ghost use Rattle.decoder.specs.Tables.{AreTables};
 ghost use Rattle.rules.specs.Types.{BodiesBelow};
+ghost use Rattle.profile.specs.Find.{LimitsOwned};
 ghost use Rattle.taken.specs.Taken.{PairOf};
 ghost use Rattle.taken.specs.Ways.{Startable, checkedEnd};
 
@@ -40,6 +42,7 @@ fn checked_rows(
     tables: Tables,
     limits: &[u8],
     named: Table,
+    owners: [u8; MOST_LIMITS],
     bodies: &[u8],
     who: &[u16],
     numbers: &[i64],
@@ -52,7 +55,7 @@ fn checked_rows(
     area: &mut [u8],
 ) -> RunAnswer
     requires { ⌜ Startable (now rows) (now who) (now numbers) (buffers (now cells) (now states) (now «open_cells») (now «open_states»)) ⌝ }
-    requires { ⌜ AreTables (now rows) tables × IsTable (now limits) limit-section named ⌝ }
+    requires { ⌜ AreTables (now rows) tables × LimitsOwned (now rows) (now limits) named owners ⌝ }
     requires { ⌜ BodiesBelow (now rows) (now bodies) (tableCount (now rows) type-section) × ((now own ≡ replicate variable-bodies-length 0) × (length (now area) ≡ open-bodies-length)) ⌝ }
     ensures { λ r. ⌜ checkedResult r (buffers (now (cells .exit)) (now (states .exit)) (now («open_cells» .exit)) (now («open_states» .exit))) (followed (now (own .exit)) (now (area .exit))) ≡ checkedEnd budget (meaning (profileOf (now (rows .entry)) (now (limits .entry))) (readingsOf (now (who .entry)) (now (numbers .entry))) budget) ⌝ }
 {
@@ -70,6 +73,7 @@ fn checked_rows(
         declarations,
         limits,
         named,
+        owners,
         &mut kept,
         &mut *cells,
         &mut *states,
@@ -101,6 +105,7 @@ fn checked_lent(
     tables: Tables,
     limits: &[u8],
     named: Table,
+    owners: [u8; MOST_LIMITS],
     bodies: &[u8],
     who: &[u16],
     numbers: &[i64],
@@ -112,7 +117,7 @@ fn checked_lent(
     present: &mut [u8],
 ) -> RunAnswer
     requires { ⌜ Startable (now rows) (now who) (now numbers) (buffers (now cells) (now states) (now «open_cells») (now «open_states»)) ⌝ }
-    requires { ⌜ AreTables (now rows) tables × IsTable (now limits) limit-section named ⌝ }
+    requires { ⌜ AreTables (now rows) tables × LimitsOwned (now rows) (now limits) named owners ⌝ }
     requires { ⌜ BodiesBelow (now rows) (now bodies) (tableCount (now rows) type-section) × (length (now present) ≡ present-bodies-length) ⌝ }
     ensures { λ r. ⌜ checkedResult r (buffers (now (cells .exit)) (now (states .exit)) (now («open_cells» .exit)) (now («open_states» .exit))) (now (present .exit)) ≡ checkedEnd budget (meaning (profileOf (now (rows .entry)) (now (limits .entry))) (readingsOf (now (who .entry)) (now (numbers .entry))) budget) ⌝ }
 {
@@ -122,6 +127,7 @@ fn checked_lent(
         tables,
         limits,
         named,
+        owners,
         bodies,
         who,
         numbers,
@@ -177,11 +183,13 @@ pub fn checked_taken(
     let m = pair.limits;
     let tables = pair.tables;
     let named = pair.named;
+    let owners = pair.owners;
     checked_lent(
         &areas[..n],
         tables,
         &others[..m],
         named,
+        owners,
         bodies,
         who,
         numbers,

@@ -10,6 +10,7 @@ use lingua::errors::NO_ERROR;
 use lingua::errors::TYPE_ERROR_FOUND;
 use lingua::sizes::LAYOUT_LENGTH;
 use lingua::sizes::LIMIT_CELLS_LENGTH;
+use lingua::sizes::MOST_LIMITS;
 use pair::Pair;
 use run::start::clear_cells;
 use run::start::clear_states;
@@ -20,15 +21,16 @@ ghost use mathlib.Core.Path.{_≡_};
 ghost use mathlib.Core.List.{List};
 ghost use Prim.Native.Nat.{ℕ};
 ghost use lib.ListN.{length};
-ghost use Rattle.lingua.specs.Numbers.{layout-length, type-section, limit-section};
+ghost use Rattle.lingua.specs.Numbers.{layout-length, type-section};
 ghost use Rattle.lingua.specs.Rows.{tableCount};
 ghost use Rattle.lingua.specs.Run.{run as meaning};
 ghost use Rattle.lingua.specs.Trees.{profileOf};
 ghost use Rattle.lingua.specs.Inputs.{inputs, buffers};
 ghost use Rattle.lingua.specs.Calls.{readingsOf, ran, runResult, erasedCall, erasedResult};
 ghost use Rattle.pair.specs.Pair.{PairIs};
-ghost use Rattle.decoder.specs.Tables.{IsTable, AreTables};
+ghost use Rattle.decoder.specs.Tables.{AreTables};
 ghost use Rattle.rules.specs.Types.{BodiesBelow};
+ghost use Rattle.profile.specs.Find.{LimitsOwned};
 ghost use Rattle.taken.specs.Taken.{PairOf};
 ghost use Rattle.taken.specs.Ways.{Startable, NumbersLimited, PassedRows, erasedRows};
 
@@ -38,6 +40,7 @@ fn passed_rows(
     tables: Tables,
     limits: &[u8],
     named: Table,
+    owners: [u8; MOST_LIMITS],
     layout: &[u16],
     who: &[u16],
     numbers: &[i64],
@@ -48,7 +51,7 @@ fn passed_rows(
     open_states: &mut [u16],
 ) -> RunAnswer
     requires { ⌜ Startable (now rows) (now who) (now numbers) (buffers (now cells) (now states) (now «open_cells») (now «open_states»)) ⌝ }
-    requires { ⌜ AreTables (now rows) tables × IsTable (now limits) limit-section named ⌝ }
+    requires { ⌜ AreTables (now rows) tables × LimitsOwned (now rows) (now limits) named owners ⌝ }
     requires { ⌜ PassedRows (now rows) (now limits) (now layout) × NumbersLimited (now rows) (now limits) ⌝ }
     ensures { λ r. ⌜ runResult r (buffers (now (cells .exit)) (now (states .exit)) (now («open_cells» .exit)) (now («open_states» .exit))) ≡ ran budget (meaning (profileOf (now (rows .entry)) (now (limits .entry))) (readingsOf (now (who .entry)) (now (numbers .entry))) budget) ⌝ }
 {
@@ -66,6 +69,7 @@ fn passed_rows(
         declarations,
         limits,
         named,
+        owners,
         &mut kept,
         &mut *cells,
         &mut *states,
@@ -109,6 +113,7 @@ fn erased_rows(
     tables: Tables,
     limits: &[u8],
     named: Table,
+    owners: [u8; MOST_LIMITS],
     bodies: &[u8],
     who: &[u16],
     numbers: &[i64],
@@ -120,7 +125,7 @@ fn erased_rows(
     layout: &mut [u16],
 ) -> RunAnswer
     requires { ⌜ Startable (now rows) (now who) (now numbers) (buffers (now cells) (now states) (now «open_cells») (now «open_states»)) ⌝ }
-    requires { ⌜ AreTables (now rows) tables × IsTable (now limits) limit-section named ⌝ }
+    requires { ⌜ AreTables (now rows) tables × LimitsOwned (now rows) (now limits) named owners ⌝ }
     requires { ⌜ BodiesBelow (now rows) (now bodies) (tableCount (now rows) type-section) × ((length (now layout) ≡ layout-length) × NumbersLimited (now rows) (now limits)) ⌝ }
     ensures { λ r. ⌜ erasedResult r (buffers (now (cells .exit)) (now (states .exit)) (now («open_cells» .exit)) (now («open_states» .exit))) (now (layout .exit)) ≡ erasedRows (now (rows .entry)) (now (limits .entry)) (now (who .entry)) (now (numbers .entry)) budget (buffers (now (cells .entry)) (now (states .entry)) (now («open_cells» .entry)) (now («open_states» .entry))) (now (layout .entry)) ⌝ }
 {
@@ -135,6 +140,7 @@ fn erased_rows(
         tables,
         limits,
         named,
+        owners,
         layout,
         who,
         numbers,
@@ -185,11 +191,13 @@ pub fn erased_taken(
     let m = pair.limits;
     let tables = pair.tables;
     let named = pair.named;
+    let owners = pair.owners;
     erased_rows(
         &areas[..n],
         tables,
         &others[..m],
         named,
+        owners,
         bodies,
         who,
         numbers,

@@ -31,7 +31,7 @@ slice-aggregate-copy-front : tie.Need-slice-aggregate-copy-front
 slice-aggregate-copy-front c = search needs
 
 copy-front-requires : tie.Need-copy-front-requires
-copy-front-requires c κs = omega (arith, c .before .before .before .before .before .before .before .before .before .before .before .checked-rows .kept .1 .1 .1 .1 .1 .1 .1 .1 .1 .1 .1 .1 .0, same-len-mid 1536 (length (now (c .before .before .before .before .before .before .before .before .before .before .before .before .before .before .before .before .before .before .before .before .before .before .before .before .before .args .present)) - 1536) (now (c .before .before .before .before .before .before .before .before .before .before .before .before .before .before .before .before .before .before .before .before .before .before .before .before .before .args .present)) (c .before .before .before .before .before .before .before .before .before .before .before .checked-rows .last .1 .1 .1 .1 .1 .1 .1 .1 .1 .1 .1 .1 .1 .0) (c .before .before .before .before .before .before .before .before .before .before .before .checked-rows .kept .1 .1 .1 .1 .1 .1 .1 .1 .1 .1 .1 .1 .1 .0), c .before .before .before .before .before .before .before .before .before .before .before .before .before .before .before .before .before .before .before .before .before .before .before .before .before .pre .1 .1 .1)
+copy-front-requires c κs = omega (arith, c .before .before .before .before .before .before .before .before .before .before .before .checked-rows .kept .1 .1 .1 .1 .1 .1 .1 .1 .1 .1 .1 .1 .1 .0, same-len-mid 1536 (length (now (c .before .before .before .before .before .before .before .before .before .before .before .before .before .before .before .before .before .before .before .before .before .before .before .before .before .args .present)) - 1536) (now (c .before .before .before .before .before .before .before .before .before .before .before .before .before .before .before .before .before .before .before .before .before .before .before .before .before .args .present)) (c .before .before .before .before .before .before .before .before .before .before .before .checked-rows .last .1 .1 .1 .1 .1 .1 .1 .1 .1 .1 .1 .1 .1 .1 .0) (c .before .before .before .before .before .before .before .before .before .before .before .checked-rows .kept .1 .1 .1 .1 .1 .1 .1 .1 .1 .1 .1 .1 .1 .1 .0), c .before .before .before .before .before .before .before .before .before .before .before .before .before .before .before .before .before .before .before .before .before .before .before .before .before .pre .1 .1 .1)
 
 same-length : tie.Need-same-length
 same-length c = search needs
@@ -49,7 +49,7 @@ same-length-5 : tie.Need-same-length-5
 same-length-5 c = search needs
 
 returns : tie.Need-returns
-returns c = ap (checkedResult _ _) (c .before .before .copy-front .ensures ∙ front-back (c .before .before .before .before .before .before .before .before .before .before .before .before .before .before .checked-rows .last .1 .1 .1 .1 .1 .1 .1 .1 .1 .1 .1 .1 .0) (c .before .before .before .before .before .before .before .before .before .before .before .before .before .before .checked-rows .last .1 .1 .1 .1 .1 .1 .1 .1 .1 .1 .1 .1 .1 .0) (now (c .before .before .before .before .before .before .before .before .before .before .before .before .before .before .before .before .before .before .before .before .before .before .before .before .before .before .before .before .args .present)) 1536 (omega (arith, c .before .before .before .before .before .before .before .before .before .before .before .before .before .before .before .before .before .before .before .before .before .before .before .before .before .before .before .before .pre .1 .1 .1)) (omega (arith, c .before .before .before .before .before .before .before .before .before .before .before .before .before .before .checked-rows .kept .1 .1 .1 .1 .1 .1 .1 .1 .1 .1 .1 .1 .0))) ∙ c .before .before .before .before .before .before .before .before .before .before .before .before .before .before .checked-rows .ensures
+returns c = ap (checkedResult _ _) (c .before .before .copy-front .ensures ∙ front-back (c .before .before .before .before .before .before .before .before .before .before .before .before .before .before .checked-rows .last .1 .1 .1 .1 .1 .1 .1 .1 .1 .1 .1 .1 .1 .0) (c .before .before .before .before .before .before .before .before .before .before .before .before .before .before .checked-rows .last .1 .1 .1 .1 .1 .1 .1 .1 .1 .1 .1 .1 .1 .1 .0) (now (c .before .before .before .before .before .before .before .before .before .before .before .before .before .before .before .before .before .before .before .before .before .before .before .before .before .before .before .before .args .present)) 1536 (omega (arith, c .before .before .before .before .before .before .before .before .before .before .before .before .before .before .before .before .before .before .before .before .before .before .before .before .before .before .before .before .pre .1 .1 .1)) (omega (arith, c .before .before .before .before .before .before .before .before .before .before .before .before .before .before .checked-rows .kept .1 .1 .1 .1 .1 .1 .1 .1 .1 .1 .1 .1 .1 .0))) ∙ c .before .before .before .before .before .before .before .before .before .before .before .before .before .before .checked-rows .ensures
 
 pub checked-lent-spec : {M : Type 1} → statement M
 checked-lent-spec =
