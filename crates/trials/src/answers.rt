@@ -5,6 +5,7 @@ use crate::sparse::put_byte_places;
 use crate::sparse::put_cells;
 use crate::sparse::put_words;
 use lingua::CheckAnswer;
+use lingua::FindAnswer;
 use lingua::ReadAnswer;
 use lingua::RunAnswer;
 use lingua::WriteAnswer;
@@ -149,6 +150,27 @@ fn rows_line(model: u16, count: u16, rows: &[u8], out: &mut [u8]) -> usize {
     let after = put_field(out, between, count as u64);
     let before = put(out, after, b' ');
     let end = put_hex(out, before, first::bytes(rows, count as usize * ROW_BYTES));
+    put(out, end, b'\n')
+}
+
+pub(crate) fn find_line(answer: FindAnswer, out: &mut [u8]) -> usize {
+    match answer {
+        FindAnswer::Refused(number) => put_refused_line(out, 0, number),
+        FindAnswer::Found { index, looked } => found_line(index, looked, out),
+        FindAnswer::Missing { looked } => missing_line(looked, out),
+    }
+}
+
+fn found_line(index: u16, looked: u16, out: &mut [u8]) -> usize {
+    let name = put_bytes(out, 0, b"found");
+    let between = put_field(out, name, index as u64);
+    let end = put_field(out, between, looked as u64);
+    put(out, end, b'\n')
+}
+
+fn missing_line(looked: u16, out: &mut [u8]) -> usize {
+    let name = put_bytes(out, 0, b"none");
+    let end = put_field(out, name, looked as u64);
     put(out, end, b'\n')
 }
 

@@ -4,6 +4,7 @@ ghost use lib.ListN.{length};
 use crate::answers::bad_case;
 use crate::answers::bodies_line;
 use crate::answers::check_line;
+use crate::answers::find_line;
 use crate::answers::read_line;
 use crate::answers::run_line;
 use crate::answers::write_line;
@@ -21,6 +22,7 @@ use lingua::FileKind;
 use lingua::sizes::BLOCK_BYTES;
 use lingua::sizes::CELLS_LENGTH;
 use lingua::sizes::LAYOUT_LENGTH;
+use lingua::sizes::NAME_BYTES;
 use lingua::sizes::OPEN_CELLS_LENGTH;
 use lingua::sizes::OPEN_STATES_LENGTH;
 use lingua::sizes::PRESENT_BODIES_LENGTH;
@@ -49,6 +51,9 @@ pub(crate) fn answer(line: &[u8], out: &mut [u8]) -> usize {
         }
         if same(kind, b"read") {
             return read_case(line, out);
+        }
+        if same(kind, b"find") {
+            return find_case(line, out);
         }
     }
     if count == 4 {
@@ -96,6 +101,23 @@ fn read_file(kind: FileKind, file: &[u8], out: &mut [u8]) -> usize {
     let mut rows = [nonsense::BYTE; ROWS_LENGTH];
     let answer = calls::files::read(kind, file, &mut rows);
     read_line(answer, nonsense::bytes_kept(&rows), &rows, out)
+}
+
+// ---- find PROFILE NAME
+fn find_case(line: &[u8], out: &mut [u8]) -> usize {
+    let mut profile = [0u8; 32768];
+    let Count::Of(p) = decode(field(line, 1), &mut profile) else {
+        return bad_case(out);
+    };
+    let mut name = [0u8; NAME_BYTES];
+    let Count::Of(n) = decode(field(line, 2), &mut name) else {
+        return bad_case(out);
+    };
+    if n != NAME_BYTES {
+        return bad_case(out);
+    }
+    let answer = calls::names::find_variable(first::bytes(&profile, p), name);
+    find_line(answer, out)
 }
 
 // ---- write KIND MODEL ROWS
