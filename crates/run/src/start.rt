@@ -1,5 +1,5 @@
-// The start of a run: no variable is filled, and each has its declared yoke and limit. Limits are three cells for each variable, whether
-// there is one, and its two ends: whose each limit is, was found when the pair of files was taken, and no name is searched for here.
+// The start of a run: no variable is filled, and each has its declared yoke and limit. Limits are three cells for each variable: whether
+// there is one, and its two ends. Whose each limit is was found when the pair of files was taken, so that no name is searched for here.
 use crate::words::set_yoke;
 use decoder::tables::Table;
 use lingua::sizes::LIMIT_CELLS;
