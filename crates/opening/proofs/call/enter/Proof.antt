@@ -1,4 +1,4 @@
--- `walk::call::enter` meets its contract: the variables that begin, then the two copies in, each from the memory that the one before left.
+-- `opening::call::enter` meets its contract: the variables that begin, then the two copies in, each from the memory that the one before left.
 -- Assumes nothing.
 use native.Mathlib.Omega.{arith}
 use borrow.Author.Needs.{needs}

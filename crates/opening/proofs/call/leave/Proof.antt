@@ -1,4 +1,4 @@
--- `walk::call::leave` meets its contract: out of budget the variables stay open, else the references come back. Assumes nothing.
+-- `opening::call::leave` meets its contract: out of budget the variables stay open, else the references come back. Assumes nothing.
 use borrow.Author.Needs.{needs}
 use Rattle.opening.proofs.Given.{counted, few-values, few-references}
 use Rattle.opening.proofs.Leaving.{cells-fit, states-fit, present-fit, left-there, left-narrow, still-goes, back-has-facing, leaves-open, leaves-back}

@@ -1,4 +1,4 @@
--- `walk::leaf::assignment` meets its contract: passed over, out, or settled. Assumes nothing.
+-- `opening::leaf::assignment` meets its contract: passed over, out, or settled. Assumes nothing.
 use Rattle.profile.specs.Facts.{instructionRowTree}
 use Rattle.run.specs.Instructing.{assign-passed, assign-out, assign-settled}
 use Rattle.opening.proofs.Rows.{leaf-narrow, leaf-executes, assign-there, assign-row}

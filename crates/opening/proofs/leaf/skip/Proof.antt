@@ -1,4 +1,4 @@
--- `walk::leaf::skip` takes its step, unless an error is recorded. Assumes nothing.
+-- `opening::leaf::skip` takes its step, unless an error is recorded. Assumes nothing.
 use Rattle.run.specs.Acting.{skip-passed, skip-stepped}
 use borrow.Author.Needs.{needs}
 use Rattle.opening.proofs.leaf.skip.Statement.{statement}

@@ -1,4 +1,4 @@
--- `walk::leaf::yoke_change` meets its contract: passed over, out, or settled. Assumes nothing.
+-- `opening::leaf::yoke_change` meets its contract: passed over, out, or settled. Assumes nothing.
 use native.Mathlib.Omega.{arith}
 use Rattle.profile.specs.Facts.{instructionRowTree}
 use Rattle.run.specs.Instructing.{change-passed, change-out, change-settled}
