@@ -2,6 +2,7 @@
 pub mod both; // both.rt: both runs of one profile
 pub mod checked_run; // checked_run.rt: the checked run
 pub mod erased_run; // erased_run.rt: the erased run
-pub mod files; // files.rt: the reader and the writer
-pub mod names; // names.rt: a variable by its name
-pub mod types; // types.rt: the type check
+
+pub use file_calls::files; // the reader and the writer
+pub use file_calls::names; // a variable by its name
+pub use file_calls::types; // the type check

@@ -6,10 +6,10 @@ use lib.Seq.{length-take-le}
 use Rattle.lingua.specs.Answers.{fileMeaning}
 use Rattle.lingua.specs.Format.{modelOf}
 use Rattle.pair.proofs.Returns.{read-short, read-refused, read-done, none-of-either, header-there, taken-length, rows-written, room-most}
-use Rattle.calls.proofs.files.read.Statement.{statement}
-use Rattle.calls.proofs.files.read.Tie as tie
-use Rattle.calls.proofs.files.read.Reads as reads
-use Rattle.calls.proofs.files.read.Lts as lts
+use Rattle.file_calls.proofs.files.read.Statement.{statement}
+use Rattle.file_calls.proofs.files.read.Tie as tie
+use Rattle.file_calls.proofs.files.read.Reads as reads
+use Rattle.file_calls.proofs.files.read.Lts as lts
 use Rattle.blocks.proofs.rows.copy_rows.Reads as copy-rows-reads
 use Rattle.blocks.proofs.words.word16_at.Reads as word16-at-reads
 use Rattle.pair.proofs.file.take.Reads as take-reads

@@ -4,10 +4,10 @@ use native.Mathlib.Omega.{arith}
 use borrow.Author.Needs.{needs}
 use Rattle.lingua.specs.Answers.{fileMeaning}
 use Rattle.pair.proofs.Returns.{write-odd, write-other, write-refused, write-done, file-short}
-use Rattle.calls.proofs.files.write.Statement.{statement}
-use Rattle.calls.proofs.files.write.Tie as tie
-use Rattle.calls.proofs.files.write.Reads as reads
-use Rattle.calls.proofs.files.write.Lts as lts
+use Rattle.file_calls.proofs.files.write.Statement.{statement}
+use Rattle.file_calls.proofs.files.write.Tie as tie
+use Rattle.file_calls.proofs.files.write.Reads as reads
+use Rattle.file_calls.proofs.files.write.Lts as lts
 use Rattle.blocks.proofs.writer.file_length.Reads as file-length-reads
 use Rattle.blocks.proofs.writer.write_file.Reads as write-file-reads
 use Rattle.rules.proofs.refusal.rows_refusal.Reads as rows-refusal-reads

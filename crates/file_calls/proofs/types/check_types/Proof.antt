@@ -3,12 +3,12 @@ use mathlib.Core.Path.{refl, sym}
 use lib.Seq.{length-take-le}
 use denote.Ref.{now}
 use Rattle.pair.proofs.Given.{room-there}
-use Rattle.calls.proofs.Checking.{check-short, check-refused, ready, check-passed, check-failed}
+use Rattle.file_calls.proofs.Checking.{check-short, check-refused, ready, check-passed, check-failed}
 use borrow.Author.Needs.{needs}
-use Rattle.calls.proofs.types.check_types.Statement.{statement}
-use Rattle.calls.proofs.types.check_types.Tie as tie
-use Rattle.calls.proofs.types.check_types.Reads as reads
-use Rattle.calls.proofs.types.check_types.Lts as lts
+use Rattle.file_calls.proofs.types.check_types.Statement.{statement}
+use Rattle.file_calls.proofs.types.check_types.Tie as tie
+use Rattle.file_calls.proofs.types.check_types.Reads as reads
+use Rattle.file_calls.proofs.types.check_types.Lts as lts
 use Rattle.pair.proofs.take_pair.Reads as take-pair-reads
 
 returns : tie.Need-returns

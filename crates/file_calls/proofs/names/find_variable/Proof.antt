@@ -4,10 +4,10 @@ use lib.Seq.{length-take-le}
 use Rattle.lingua.specs.Answers.{fileMeaning}
 use Rattle.pair.proofs.Returns.{room-most}
 use Rattle.lingua.specs.Format.{profile}
-use Rattle.calls.proofs.Naming.{find-refused, declarations-there, at-small, missing-small, find-found, find-missing}
+use Rattle.file_calls.proofs.Naming.{find-refused, declarations-there, at-small, missing-small, find-found, find-missing}
 use borrow.Author.Needs.{needs}
-use Rattle.calls.proofs.names.find_variable.Statement.{statement}
-use Rattle.calls.proofs.names.find_variable.Tie as tie
+use Rattle.file_calls.proofs.names.find_variable.Statement.{statement}
+use Rattle.file_calls.proofs.names.find_variable.Tie as tie
 
 slice-aggregate-take : tie.Need-slice-aggregate-take
 slice-aggregate-take c = search needs
