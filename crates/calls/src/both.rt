@@ -4,8 +4,8 @@ use lingua::sizes::AREA_BYTES;
 use lingua::sizes::AREAS_LENGTH;
 use lingua::sizes::TYPE_BODIES_LENGTH;
 use pair::take_pair;
-use taken::checked_run::checked_taken;
-use taken::erased_run::erased_taken;
+use taken_checked::checked_run::checked_taken;
+use taken_erased::erased_run::erased_taken;
 ghost use Rattle.lingua.specs.Inputs.{inputs, buffers};
 ghost use Rattle.calls.specs.Both.{BothRuns};
 

@@ -12,7 +12,7 @@ use lingua::sizes::STATES_LENGTH;
 use lingua::sizes::TYPE_BODIES_LENGTH;
 use lingua::sizes::VARIABLE_BODIES_LENGTH;
 use pair::take_pair;
-use taken::checked_run::checked_taken;
+use taken_checked::checked_run::checked_taken;
 ghost use Prim.Native.Nat.{_≤_};
 ghost use lib.ListN.{length};
 ghost use Rattle.lingua.specs.Report.{reportText};

@@ -5,7 +5,7 @@ ghost use Prim.Native.Nat.{_≤_};
 ghost use lib.ListN.{length, drop};
 
 // The profile's, which lie by themselves while the run goes on, come to the front.
-pub(crate) fn copy_front(own: &[u8], present: &mut [u8])
+pub fn copy_front(own: &[u8], present: &mut [u8])
     requires { ⌜ length (now own) ≤ length (now present) ⌝ }
     ensures { λ _. ⌜ now (present .exit) ≡ followed (now (own .entry)) (drop (length (now (own .entry))) (now (present .entry))) ⌝ }
 {

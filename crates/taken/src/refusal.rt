@@ -15,7 +15,7 @@ ghost use Rattle.pair.specs.Pair.{PairIs};
 ghost use Rattle.taken.specs.Taken.{PairOf, RunIs};
 
 // The lowest rule of 1 to 16 that applies to a run of a taken pair, 0 where none does.
-pub(crate) fn run_refusal(
+pub fn run_refusal(
     pair: Pair,
     areas: &[u8],
     bodies: &[u8],

@@ -1,12 +1,12 @@
--- `taken::erased_run::erased_taken` meets its contract: refused, 17 included, or as the run of both files ends. Assumes nothing.
+-- `taken_erased::erased_run::erased_taken` meets its contract: refused, 17 included, or as the run of both files ends. Assumes nothing.
 use mathlib.Core.Path.{sym}
 use denote.Ref.{now}
 use lib.Seq.{length-take-le}
 use Rattle.lingua.specs.Inputs.{buffers}
 use Rattle.taken.proofs.Calling.{erased-asks, layout-wrong, erased-run-refused, erased-done}
 use borrow.Author.Needs.{needs}
-use Rattle.taken.proofs.erased_run.erased_taken.Statement.{statement}
-use Rattle.taken.proofs.erased_run.erased_taken.Tie as tie
+use Rattle.taken_erased.proofs.erased_run.erased_taken.Statement.{statement}
+use Rattle.taken_erased.proofs.erased_run.erased_taken.Tie as tie
 
 returns : tie.Need-returns
 returns c = λ prof lims h. layout-wrong _ (buffers _ _ _ _) _ (c .before .before .before .before .before .before .before .before .args .budget) (c .if1 .taken)

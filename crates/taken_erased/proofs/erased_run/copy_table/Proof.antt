@@ -1,13 +1,13 @@
--- `taken::erased_run::copy_table` meets its contract: the loop copies from the front. Assumes nothing.
+-- `taken_erased::erased_run::copy_table` meets its contract: the loop copies from the front. Assumes nothing.
 use denote.Ref.{now}
 use mathlib.Core.Path.{_≡_, refl, _∙_}
 use Prim.Native.Nat.{_-_, _≤_}
 use native.Mathlib.Omega.{arith}
 use lib.ListN.{length, take, set, length-set}
 use Rattle.taken.proofs.Copying.{copy-more, copied}
 use borrow.Author.Needs.{needs}
-use Rattle.taken.proofs.erased_run.copy_table.Statement.{statement}
-use Rattle.taken.proofs.erased_run.copy_table.Tie as tie
+use Rattle.taken_erased.proofs.erased_run.copy_table.Statement.{statement}
+use Rattle.taken_erased.proofs.erased_run.copy_table.Tie as tie
 
 abbrev Inv-loop : tie.InvT-loop
 Inv-loop table layout₀ i₀ layout i = (i ≤ 1024) × (take i layout ≡ take i table) × (length layout ≡ length layout₀)

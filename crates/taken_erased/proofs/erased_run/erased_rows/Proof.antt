@@ -1,11 +1,11 @@
--- `taken::erased_run::erased_rows` meets its contract: rule 17, or the run with the table that the type check left. Assumes nothing.
+-- `taken_erased::erased_run::erased_rows` meets its contract: rule 17, or the run with the table that the type check left. Assumes nothing.
 use denote.Ref.{now}
 use native.Mathlib.Omega.{arith}
 use Rattle.lingua.specs.Inputs.{buffers}
 use Rattle.taken.proofs.Calling.{faulted, passed-rows, passed-done}
 use borrow.Author.Needs.{needs}
-use Rattle.taken.proofs.erased_run.erased_rows.Statement.{statement}
-use Rattle.taken.proofs.erased_run.erased_rows.Tie as tie
+use Rattle.taken_erased.proofs.erased_run.erased_rows.Statement.{statement}
+use Rattle.taken_erased.proofs.erased_run.erased_rows.Tie as tie
 
 slice-aggregate-check-profile : tie.Need-slice-aggregate-check-profile
 slice-aggregate-check-profile c = search needs

@@ -1,11 +1,11 @@
--- `taken::checked_run::checked_rows` meets its contract: bodies are kept, memory is begun, and the run goes on from there. Assumes nothing.
+-- `taken_checked::checked_run::checked_rows` meets its contract: bodies are kept, memory is begun, and the run goes on from there. Assumes nothing.
 use mathlib.Core.Path.{refl}
 use native.Mathlib.Omega.{arith}
 use Rattle.taken.proofs.Beginning.{heads-known, declarations-known, checked-begins, checked-clear}
 use Rattle.taken.proofs.Calling.{checked-end}
 use borrow.Author.Needs.{needs}
-use Rattle.taken.proofs.checked_run.checked_rows.Statement.{statement}
-use Rattle.taken.proofs.checked_run.checked_rows.Tie as tie
+use Rattle.taken_checked.proofs.checked_run.checked_rows.Statement.{statement}
+use Rattle.taken_checked.proofs.checked_run.checked_rows.Tie as tie
 
 clear-cells-requires : tie.Need-clear-cells-requires
 clear-cells-requires c κs = search needs

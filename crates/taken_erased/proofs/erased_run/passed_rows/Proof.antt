@@ -1,10 +1,10 @@
--- `taken::erased_run::passed_rows` meets its contract: memory is begun, and the run goes on from there. Assumes nothing.
+-- `taken_erased::erased_run::passed_rows` meets its contract: memory is begun, and the run goes on from there. Assumes nothing.
 use mathlib.Core.Path.{refl}
 use native.Mathlib.Omega.{arith}
 use Rattle.taken.proofs.Beginning.{heads-known, erased-begins, erased-clear}
 use borrow.Author.Needs.{needs}
-use Rattle.taken.proofs.erased_run.passed_rows.Statement.{statement}
-use Rattle.taken.proofs.erased_run.passed_rows.Tie as tie
+use Rattle.taken_erased.proofs.erased_run.passed_rows.Statement.{statement}
+use Rattle.taken_erased.proofs.erased_run.passed_rows.Tie as tie
 
 clear-cells-requires : tie.Need-clear-cells-requires
 clear-cells-requires c κs = search needs

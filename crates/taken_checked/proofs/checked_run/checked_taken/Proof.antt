@@ -1,12 +1,12 @@
--- `taken::checked_run::checked_taken` meets its contract: refused, or as the run of both files ends. Assumes nothing.
+-- `taken_checked::checked_run::checked_taken` meets its contract: refused, or as the run of both files ends. Assumes nothing.
 use mathlib.Core.Path.{sym}
 use denote.Ref.{now}
 use lib.Seq.{length-take-le}
 use Rattle.lingua.specs.Inputs.{buffers}
 use Rattle.taken.proofs.Calling.{checked-asks, present-wrong, run-refused, run-done}
 use borrow.Author.Needs.{needs}
-use Rattle.taken.proofs.checked_run.checked_taken.Statement.{statement}
-use Rattle.taken.proofs.checked_run.checked_taken.Tie as tie
+use Rattle.taken_checked.proofs.checked_run.checked_taken.Statement.{statement}
+use Rattle.taken_checked.proofs.checked_run.checked_taken.Tie as tie
 
 returns : tie.Need-returns
 returns c = λ prof lims h. present-wrong _ (buffers _ _ _ _) _ (c .before .before .before .before .before .before .before .before .args .budget) (c .if1 .taken)

@@ -1,6 +1,5 @@
 // The erased run of a pair of files that was taken (document 01: chair run). It fills the layout table (sheet) itself, whatever that held; a
 // refusal, 17 included, leaves all lent memory as it was.
-use crate::refusal::run_refusal;
 use decoder::tables::Table;
 use decoder::tables::Tables;
 use frames::way::Way;
@@ -15,6 +14,7 @@ use pair::Pair;
 use run::start::clear_cells;
 use run::start::clear_states;
 use run::start::start;
+use taken::refusal::run_refusal;
 use typecheck::whole::check_profile;
 use whole_run::whole::run;
 ghost use mathlib.Core.Path.{_≡_};

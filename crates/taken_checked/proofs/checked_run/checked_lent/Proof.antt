@@ -1,4 +1,4 @@
--- `taken::checked_run::checked_lent` meets its contract: the run on what is lent behind the profile's bodies, which then come to the front.
+-- `taken_checked::checked_run::checked_lent` meets its contract: the run on what is lent behind the profile's bodies, which then come to the front.
 -- Assumes nothing.
 use mathlib.Core.Path.{refl, ap, _∙_}
 use Prim.Native.Nat.{_-_}
@@ -7,10 +7,10 @@ use lib.ListN.{length}
 use denote.Ref.{now}
 use borrow.Rule.Slice.PartMut.{same-len-mid}
 use Rattle.lingua.specs.Calls.{checkedResult}
 use Rattle.taken.proofs.Calling.{lent-length, front-back}
 use borrow.Author.Needs.{needs}
-use Rattle.taken.proofs.checked_run.checked_lent.Statement.{statement}
-use Rattle.taken.proofs.checked_run.checked_lent.Tie as tie
+use Rattle.taken_checked.proofs.checked_run.checked_lent.Statement.{statement}
+use Rattle.taken_checked.proofs.checked_run.checked_lent.Tie as tie
 
 slice-aggregate-checked-rows : tie.Need-slice-aggregate-checked-rows
 slice-aggregate-checked-rows c = search needs

@@ -1,6 +1,4 @@
 // The checked run of a pair of files that was taken (document 01: desk run). A refusal leaves all lent memory as it was.
-use crate::present::copy_front;
-use crate::refusal::run_refusal;
 use decoder::tables::Table;
 use decoder::tables::Tables;
 use frames::way::Way;
@@ -17,6 +15,8 @@ use run::bodies::keep_bodies;
 use run::start::clear_cells;
 use run::start::clear_states;
 use run::start::start;
+use taken::present::copy_front;
+use taken::refusal::run_refusal;
 use whole_run::whole::run;
 ghost use mathlib.Core.Path.{_≡_};
 ghost use mathlib.Core.List.{List, _++_ as followed};
