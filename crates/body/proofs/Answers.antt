@@ -2,7 +2,7 @@
 use mathlib.Core.Path.{_≡_, refl, sym, ap, subst, _∙_}
 use mathlib.Core.Bool.{Bool, true, false, _||_}
 use mathlib.Core.List.{List, [], _∷_}
-use Prim.Native.Nat.{ℕ, zero, suc, _≤_}
+use Prim.Native.Nat.{ℕ, _≤_}
 use native.Mathlib.Omega.{arith}
 use lib.Dec.{ltb, eqb}
 use lib.ListN.{replicate}
@@ -41,27 +41,33 @@ given x c f b o h p q r e =
     })
 
 -- ---- simple bodies
-pub scalar-held : (t : ℕ) → 1 ≤ t → t ≤ 3 → Holds (pad 96 0 (t ∷ [])) (simpleOf t)
-unfolding simpleOf encoded bytes size nodes
-scalar-held zero h k = absurd (let z : ⊥ = omega arith in z)
-scalar-held (suc zero) h k = record { is = refl; few-cells = omega arith; few-nodes = omega arith }
-scalar-held (suc (suc zero)) h k = record { is = refl; few-cells = omega arith; few-nodes = omega arith }
-scalar-held (suc (suc (suc zero))) h k = record { is = refl; few-cells = omega arith; few-nodes = omega arith }
-scalar-held (suc (suc (suc (suc t)))) h k = absurd (let z : ⊥ = omega arith in z)
+scalar-one : (t : ℕ) → (1 ≡ size (simpleOf t)) × (1 ≡ nodes (simpleOf t))
+unfolding simpleOf size nodes
+scalar-one t = by-one (eqb t 1) (eqb t 2) (eqb t 7) refl refl refl
+  where
+    by-one : (p q r : Bool) → eqb t 1 ≡ p → eqb t 2 ≡ q → eqb t 7 ≡ r → (1 ≡ size (simpleOf t)) × (1 ≡ nodes (simpleOf t))
+    by-one true q r e f g = rw e (refl, refl)
+    by-one false true r e f g = rw (e, f) (refl, refl)
+    by-one false false true e f g = rw (e, f, g) (refl, refl)
+    by-one false false false e f g = rw (e, f, g) (refl, refl)
 
 pub scalar-cell : (t : ℕ) → 1 ≡ size (simpleOf t)
-unfolding simpleOf size
-scalar-cell t = by-one (eqb t 1) (eqb t 2) refl refl
-  where
-    by-one : (p q : Bool) → eqb t 1 ≡ p → eqb t 2 ≡ q → 1 ≡ size (simpleOf t)
-    by-one true q e f = rw e refl
-    by-one false true e f = rw (e, f) refl
-    by-one false false e f = rw (e, f) refl
+scalar-cell t = scalar-one t .0
 
-pub scalar-is : (t : ℕ) (x : List ℕ) → x ≡ pad 96 0 (t ∷ []) → 1 ≤ t → t ≤ 3
+pub scalar-held : (t : ℕ) → bytes (simpleOf t) ≡ t ∷ [] → Holds (pad 96 0 (t ∷ [])) (simpleOf t)
+unfolding encoded
+scalar-held t h =
+    let one = scalar-one t in
+    record {
+      is = ap (λ (l : List ℕ). pad 96 0 l) (sym h);
+      few-cells = omega (arith, one .0);
+      few-nodes = omega (arith, one .1);
+    }
+
+pub scalar-is : (t : ℕ) (x : List ℕ) → x ≡ pad 96 0 (t ∷ []) → bytes (simpleOf t) ≡ t ∷ []
     → Types (record { error = 0; body = x; cells = 1; offset = 0 }) (ok (simpleOf t)) 0
-scalar-is t x e h k =
-    given x 1 0 (simpleOf t) 0 (subst (λ (l : List ℕ). Holds l (simpleOf t)) (sym e) (scalar-held t h k)) (scalar-cell t) refl
+scalar-is t x e h =
+    given x 1 0 (simpleOf t) 0 (subst (λ (l : List ℕ). Holds l (simpleOf t)) (sym e) (scalar-held t h)) (scalar-cell t) refl
     (ok (simpleOf t)) refl
 
 -- ---- the bounds, by the numbers of a body

@@ -7,7 +7,7 @@ use native.Mathlib.Omega.{arith}
 use borrow.Author.Tests.{ltb-false}
 use lib.Dec.{ltb}
 use lib.ListN.{length, getD}
-use Rattle.lingua.specs.Body.{Body, boolean, number, word, list-of, record-of, Attributes, end, attribute, size, nodes, attributeNodes, depth, attributeDepth, width, tooLarge}
+use Rattle.lingua.specs.Body.{Body, boolean, number, word, hundredths, list-of, record-of, Attributes, end, attribute, size, nodes, attributeNodes, depth, attributeDepth, width, tooLarge}
 use Rattle.lingua.specs.Encode.{bytes}
 use Rattle.laws.specs.Encoded.{bytes-below}
 
@@ -16,6 +16,7 @@ unfoldable pub tag : Body → ℕ
 tag boolean = 1
 tag number = 2
 tag word = 3
+tag hundredths = 7
 tag (list-of b) = 4
 tag (record-of fs) = 5
 
@@ -24,6 +25,7 @@ unfolding bytes
 some-bytes boolean = omega arith
 some-bytes number = omega arith
 some-bytes word = omega arith
+some-bytes hundredths = omega arith
 some-bytes (list-of b) = omega arith
 some-bytes (record-of fs) = omega arith
 
@@ -32,6 +34,7 @@ unfolding bytes tag
 first-byte boolean rest = refl
 first-byte number rest = refl
 first-byte word rest = refl
+first-byte hundredths rest = refl
 first-byte (list-of b) rest = refl
 first-byte (record-of fs) rest = refl
 
@@ -75,6 +78,7 @@ mutual
   depth-below boolean = omega arith
   depth-below number = omega arith
   depth-below word = omega arith
+  depth-below hundredths = omega arith
   depth-below (list-of b) = omega (arith, depth-below b)
   depth-below (record-of fs) = omega (arith, attribute-depth-below fs)
 

@@ -9,7 +9,7 @@ use borrow.Author.Count.{below-none, below-more}
 use borrow.Author.Tests.{eqb-true, eq-eqb}
 use lib.ListN.{length, getD}
 use lib.Seq.{ext-getD}
-use Rattle.lingua.specs.Body.{Body, boolean, number, word, list-of, record-of, Attributes, end, attribute, isBoolean, isNumber, isWord, elementBody, attributesOf, sameBody, sameAttributes}
+use Rattle.lingua.specs.Body.{Body, boolean, number, word, hundredths, list-of, record-of, Attributes, end, attribute, isBoolean, isNumber, isWord, isHundredths, elementBody, attributesOf, sameBody, sameAttributes}
 use Rattle.lingua.specs.Encode.{encoded}
 use Rattle.body.specs.Encode.{Holds}
 use Rattle.body.proofs.Parser.{encoded-injective}
@@ -31,12 +31,13 @@ clash e = let k : _≡_ {A = ℕ} 0 1 = cc in absurd (let b : ⊥ = omega arith 
 
 -- ---- the test of equal bodies is right
 mutual
-  unfolding sameBody isBoolean isNumber isWord elementBody attributesOf
+  unfolding sameBody isBoolean isNumber isWord isHundredths elementBody attributesOf
 
   itself : (b : Body) → true ≡ sameBody b b
   itself boolean = refl
   itself number = refl
   itself word = refl
+  itself hundredths = refl
   itself (list-of b) = itself b
   itself (record-of fs) = all-itself fs
 
@@ -47,32 +48,43 @@ mutual
       (and-true (sameBody b b) (sameAttributes fs fs) (itself b) (all-itself fs))
 
 mutual
-  unfolding sameBody isBoolean isNumber isWord elementBody attributesOf
+  unfolding sameBody isBoolean isNumber isWord isHundredths elementBody attributesOf
 
   from-same : (b c : Body) → true ≡ sameBody b c → b ≡ c
   from-same boolean boolean e = refl
   from-same boolean number e = clash e
   from-same boolean word e = clash e
+  from-same boolean hundredths e = clash e
   from-same boolean (list-of c) e = clash e
   from-same boolean (record-of gs) e = clash e
   from-same number boolean e = clash e
   from-same number number e = refl
   from-same number word e = clash e
+  from-same number hundredths e = clash e
   from-same number (list-of c) e = clash e
   from-same number (record-of gs) e = clash e
   from-same word boolean e = clash e
   from-same word number e = clash e
   from-same word word e = refl
+  from-same word hundredths e = clash e
   from-same word (list-of c) e = clash e
   from-same word (record-of gs) e = clash e
+  from-same hundredths boolean e = clash e
+  from-same hundredths number e = clash e
+  from-same hundredths word e = clash e
+  from-same hundredths hundredths e = refl
+  from-same hundredths (list-of c) e = clash e
+  from-same hundredths (record-of gs) e = clash e
   from-same (list-of b) boolean e = clash e
   from-same (list-of b) number e = clash e
   from-same (list-of b) word e = clash e
+  from-same (list-of b) hundredths e = clash e
   from-same (list-of b) (list-of c) e = ap list-of (from-same b c e)
   from-same (list-of b) (record-of gs) e = clash e
   from-same (record-of fs) boolean e = clash e
   from-same (record-of fs) number e = clash e
   from-same (record-of fs) word e = clash e
+  from-same (record-of fs) hundredths e = clash e
   from-same (record-of fs) (list-of c) e = clash e
   from-same (record-of fs) (record-of gs) e = ap record-of (from-all-same fs gs e)
 

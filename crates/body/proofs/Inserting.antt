@@ -8,7 +8,7 @@ use native.Mathlib.Omega.{arith}
 use lib.Dec.{ltb}
 use lib.ListN.{length, take, drop, set, getD, replicate, length-append, length-drop}
 use lib.Seq.{take-append-le, drop-append-le, take-append-seam, drop-drop, take-append-add, drop-append-add, length-take-le, take-at, append-snoc, paste}
-use Rattle.lingua.specs.Body.{Body, boolean, number, word, list-of, record-of, Attributes, end, attribute, nodes, attributeNodes, countAttributes, insertAttribute}
+use Rattle.lingua.specs.Body.{Body, boolean, number, word, hundredths, list-of, record-of, Attributes, end, attribute, nodes, attributeNodes, countAttributes, insertAttribute}
 use Rattle.lingua.specs.Value.{pad}
 use Rattle.lingua.specs.Encode.{bytes, attributeBytes, encoded}
 use Rattle.laws.specs.Encoded.{bytes-below}
@@ -26,6 +26,7 @@ unfolding nodes
 some-nodes boolean = omega arith
 some-nodes number = omega arith
 some-nodes word = omega arith
+some-nodes hundredths = omega arith
 some-nodes (list-of b) = omega arith
 some-nodes (record-of fs) = omega arith
 

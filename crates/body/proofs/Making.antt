@@ -5,7 +5,7 @@ use Prim.Native.Nat.{ℕ, _+_, _-_, _≤_, _<_}
 use native.Mathlib.Omega.{arith}
 use lib.ListN.{length, take, drop, getD, set, replicate, length-append}
 use lib.Seq.{take-append-seam, paste}
-use Rattle.lingua.specs.Body.{Body, boolean, number, word, list-of, record-of, end, attribute, size, nodes, countAttributes}
+use Rattle.lingua.specs.Body.{Body, boolean, number, word, hundredths, list-of, record-of, end, attribute, size, nodes, countAttributes}
 use Rattle.lingua.specs.Value.{pad}
 use Rattle.lingua.specs.Encode.{bytes, encoded}
 use Rattle.laws.specs.Encoded.{bytes-below, length-encoded}
@@ -80,12 +80,13 @@ part-taken x at n b h e =
     ∙ ap (λ (l : List ℕ). pad 96 0 (take (length (bytes b)) l)) (h .is)
     ∙ ap (λ (l : List ℕ). pad 96 0 l) (take-append-seam (bytes b) (h .rest))
 
--- a simple body is its tag
+-- a boolean, a number or a word is its tag
 simple-bytes : (b : Body) → tag b ≤ 3 → tag b ∷ [] ≡ bytes b
 unfolding tag bytes
 simple-bytes boolean h = refl
 simple-bytes number h = refl
 simple-bytes word h = refl
+simple-bytes hundredths h = absurd (let z : ⊥ = omega (arith, h) in z)
 simple-bytes (list-of b) h = absurd (let z : ⊥ = omega (arith, h) in z)
 simple-bytes (record-of fs) h = absurd (let z : ⊥ = omega (arith, h) in z)
 

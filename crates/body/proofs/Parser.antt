@@ -7,7 +7,7 @@ use native.Mathlib.Omega.{arith}
 use lib.Dec.{eqb}
 use lib.ListN.{length, replicate}
 use Rattle.lingua.specs.Outcome.{if_then_else_}
-use Rattle.lingua.specs.Body.{Body, boolean, number, word, list-of, record-of, Attributes, end, attribute, depth, attributeDepth, countAttributes}
+use Rattle.lingua.specs.Body.{Body, boolean, number, word, hundredths, list-of, record-of, Attributes, end, attribute, depth, attributeDepth, countAttributes}
 use Rattle.lingua.specs.Value.{pad}
 use Rattle.lingua.specs.Encode.{bytes, attributeBytes, encoded}
 use Rattle.body.specs.Encode.{Holds}
@@ -42,7 +42,8 @@ parse (suc n) (t ∷ xs) =
     if eqb t 1 then record { body = boolean; rest = xs } else
     (if eqb t 2 then record { body = number; rest = xs } else
     (if eqb t 3 then record { body = word; rest = xs } else
-    (if eqb t 4 then record { body = list-of (parse n xs .body); rest = parse n xs .rest } else parseRecord (parse n) xs)))
+    (if eqb t 7 then record { body = hundredths; rest = xs } else
+    (if eqb t 4 then record { body = list-of (parse n xs .body); rest = parse n xs .rest } else parseRecord (parse n) xs))))
 
 mutual
   unfolding bytes depth countAttributes parse parseRecord parseMany
@@ -51,11 +52,13 @@ mutual
   parse-bytes boolean zero r h = absurd (let k : ⊥ = omega (arith, h) in k)
   parse-bytes number zero r h = absurd (let k : ⊥ = omega (arith, h) in k)
   parse-bytes word zero r h = absurd (let k : ⊥ = omega (arith, h) in k)
+  parse-bytes hundredths zero r h = absurd (let k : ⊥ = omega (arith, h) in k)
   parse-bytes (list-of b) zero r h = absurd (let k : ⊥ = omega (arith, h) in k)
   parse-bytes (record-of fs) zero r h = absurd (let k : ⊥ = omega (arith, h) in k)
   parse-bytes boolean (suc n) r h = refl
   parse-bytes number (suc n) r h = refl
   parse-bytes word (suc n) r h = refl
+  parse-bytes hundredths (suc n) r h = refl
   parse-bytes (list-of b) (suc n) r h = let e = parse-bytes b n r (omega (arith, h)) in rw e
   parse-bytes (record-of fs) (suc n) r h = let e = parse-many fs n r (omega (arith, h)) in rw e
 

@@ -6,7 +6,7 @@ use native.Mathlib.Nat.{add-zero}
 use native.Mathlib.Omega.{arith}
 use lib.ListN.{length, drop, getD, length-append, length-drop}
 use lib.Seq.{getD-drop, drop-drop, drop-append-seam}
-use Rattle.lingua.specs.Body.{Body, boolean, number, word, list-of, record-of, Attributes, end, attribute, size, nodes, depth, countAttributes}
+use Rattle.lingua.specs.Body.{Body, boolean, number, word, hundredths, list-of, record-of, Attributes, end, attribute, size, nodes, depth, countAttributes}
 use Rattle.lingua.specs.Encode.{bytes, attributeBytes}
 use Rattle.body.specs.Walk.{At, AttributesAt}
 use Rattle.body.proofs.Bytes.{tag, some-bytes, first-byte}
@@ -85,6 +85,7 @@ unfolding tag
 list-view boolean e = absurd (let k : ⊥ = omega (arith, e) in k)
 list-view number e = absurd (let k : ⊥ = omega (arith, e) in k)
 list-view word e = absurd (let k : ⊥ = omega (arith, e) in k)
+list-view hundredths e = absurd (let k : ⊥ = omega (arith, e) in k)
 list-view (list-of b) e = record { element = b; is = refl }
 list-view (record-of fs) e = absurd (let k : ⊥ = omega (arith, e) in k)
 
@@ -97,6 +98,7 @@ unfolding tag
 record-view boolean e = absurd (let k : ⊥ = omega (arith, e) in k)
 record-view number e = absurd (let k : ⊥ = omega (arith, e) in k)
 record-view word e = absurd (let k : ⊥ = omega (arith, e) in k)
+record-view hundredths e = absurd (let k : ⊥ = omega (arith, e) in k)
 record-view (list-of b) e = absurd (let k : ⊥ = omega (arith, e) in k)
 record-view (record-of fs) e = record { attributes = fs; is = refl }
 
@@ -111,6 +113,7 @@ unfolding tag size nodes depth bytes
 simple-view boolean f g = record { one-cell = refl; one-node = refl; one-level = refl; one-byte = refl }
 simple-view number f g = record { one-cell = refl; one-node = refl; one-level = refl; one-byte = refl }
 simple-view word f g = record { one-cell = refl; one-node = refl; one-level = refl; one-byte = refl }
+simple-view hundredths f g = record { one-cell = refl; one-node = refl; one-level = refl; one-byte = refl }
 simple-view (list-of b) f g = absurd (f refl)
 simple-view (record-of fs) f g = absurd (g refl)
 

@@ -58,7 +58,7 @@ pub fn element(body: [u8; BODY_BYTES]) -> [u8; BODY_BYTES]
     part(body, 1, PAST_TAG)
 }
 
-// The body that stands at a place, by itself; a simple one is made by its tag.
+// The body that stands at a place, by itself; a boolean, a number or a word is made by its tag.
 pub fn body_at(body: [u8; BODY_BYTES], at: usize) -> [u8; BODY_BYTES]
     requires { ⌜ SomeAt body at ⌝ }
     ensures { λ r. ⌜ ((b : Body) → At body at b → r ≡ encoded b) ⌝ }

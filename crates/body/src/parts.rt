@@ -39,7 +39,7 @@ pub fn part(body: [u8; BODY_BYTES], from: usize, n: usize) -> [u8; BODY_BYTES]
     pasted([0u8; BODY_BYTES], 0, body, from, n)
 }
 
-// A simple body is its first byte alone; of two others all bytes are compared, since the encoding is injective.
+// A boolean, a number or a word is its first byte alone; of two others all bytes are compared, since the encoding is injective.
 pub fn same(x: [u8; BODY_BYTES], y: [u8; BODY_BYTES]) -> bool
     ensures { λ r. ⌜ ((b c : Body) → Holds x b → Holds y c → r ≡ sameBody b c) ⌝ }
 {

@@ -7,13 +7,16 @@ use lingua::sizes::BODY_NODES;
 use lingua::sizes::RECORD_ATTRIBUTES;
 ghost use mathlib.Core.Path.{_≡_};
 ghost use mathlib.Core.Bool.{_||_};
+ghost use mathlib.Core.List.{[], _∷_};
 ghost use Prim.Native.Nat.{ℕ, _≤_};
 ghost use lib.Dec.{ltb};
 ghost use Rattle.lingua.specs.Numbers.{body-cells, body-nodes, body-depth, record-attributes};
 ghost use Rattle.lingua.specs.Outcome.{ok, fail};
+ghost use Rattle.lingua.specs.Encode.{bytes};
 ghost use Rattle.body.specs.Typed.{Types, simpleOf};
 
-// The result's body with its cells, and the attribute's cell offset of 17 to 19 and 26; or a type error.
+// The result's body with its cells, and the attribute's cell offset of 17 to 19 and 26, or of 5 to 8 whether hundredths are reckoned with; or a
+// type error.
 pub struct Typed {
     pub error: u8,
     pub body: [u8; BODY_BYTES],
@@ -35,8 +38,7 @@ pub fn failed(error: u8) -> Typed
 
 // A simple body by its tag.
 pub fn scalar(tag: u8) -> Typed
-    requires { ⌜ 1 ≤ tag ⌝ }
-    requires { ⌜ tag ≤ 3 ⌝ }
+    requires { ⌜ bytes (simpleOf tag) ≡ tag ∷ [] ⌝ }
     ensures { λ r. ⌜ Types r (ok (simpleOf tag)) 0 ⌝ }
 {
     let body = simple(tag);

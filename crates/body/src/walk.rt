@@ -17,6 +17,8 @@ pub const LIST: u8 = 4;
 
 pub const RECORD: u8 = 5;
 
+pub const HUNDREDTHS: u8 = 7;
+
 // A body's cells, nodes and depth, and the place after its last byte.
 pub struct Measure {
     pub cells: usize,
@@ -67,7 +69,7 @@ pub fn measure_at(body: [u8; BODY_BYTES], at: usize) -> Measure
     }
 }
 
-// The n attributes at a place, taken together; one with a simple body is passed without a call.
+// The n attributes at a place, taken together; a boolean, a number or a word is passed without a call.
 fn attributes_at(body: [u8; BODY_BYTES], at: usize, n: u8) -> Measure
     requires { ⌜ SomeAttributesAt body at n ⌝ }
     ensures { λ r. ⌜ ((fs : Attributes) → AttributesAt body at fs → n ≡ countAttributes fs → AttributesMeasured r at fs) ⌝ }
@@ -100,7 +102,7 @@ fn attributes_at(body: [u8; BODY_BYTES], at: usize, n: u8) -> Measure
     }
 }
 
-// The body at a place, where it may well be a simple one: most are.
+// The body at a place, where it may well be a boolean, a number or a word: most are.
 pub fn measured(body: [u8; BODY_BYTES], at: usize) -> Measure
     requires { ⌜ SomeAt body at ⌝ }
     ensures { λ r. ⌜ ((b : Body) → At body at b → Measured r at b) ⌝ }

@@ -1,12 +1,12 @@
 -- The operations' half on bodies, one law for each way in which it ends. Assumes nothing.
 use mathlib.Core.Path.{_≡_, refl}
-use mathlib.Core.Bool.{true, false}
+use mathlib.Core.Bool.{true, false, _&&_}
 use mathlib.Core.Option.{some, none}
 use Prim.Native.Nat.{ℕ}
 use lib.Dec.{ltb}
 use Rattle.lingua.specs.Outcome.{ok, fail, isSome}
-use Rattle.lingua.specs.Body.{Body, list-of, record-of, Attributes, end, attribute, sameBody, isBoolean, isNumber, isWord, isSimple, elementBody, attributesOf, countAttributes, attributeBody, insertAttribute, removeAttribute, tooLarge}
-use Rattle.lingua.specs.Operation.{negation, make-record, select, make-list, top, pop, remove, equal, glue, expand, change, push, bounded, present, numbersTo, unaryBody, binaryBody}
+use Rattle.lingua.specs.Body.{Body, list-of, record-of, Attributes, end, attribute, sameBody, isBoolean, isNumber, isWord, isHundredths, isQuantity, isSimple, elementBody, attributesOf, countAttributes, attributeBody, insertAttribute, removeAttribute, tooLarge}
+use Rattle.lingua.specs.Operation.{negation, make-record, select, make-list, top, pop, remove, to-hundredths, to-number, equal, glue, expand, change, push, bounded, present, quantitiesTo, unaryBody, binaryBody}
 use Rattle.body.specs.Typed.{simpleOf}
 
 -- ---- one operand
@@ -78,18 +78,30 @@ pub remove-found : (n : ℕ) (b : Body) (fs : Attributes) → attributesOf b ≡
 unfolding unaryBody present
 remove-found n b fs e0 e1 e2 = rw (e0, e1, e2) refl
 
+pub to-hundredths-other : (b : Body) → isNumber b ≡ false → unaryBody to-hundredths b ≡ fail 8
+unfolding unaryBody
+to-hundredths-other b e0 = rw (e0) refl
+
+pub to-hundredths-number : (b : Body) → isNumber b ≡ true → unaryBody to-hundredths b ≡ ok (simpleOf 7)
+unfolding unaryBody simpleOf
+to-hundredths-number b e0 = rw (e0) refl
+
+pub to-number-other : (b : Body) → isHundredths b ≡ false → unaryBody to-number b ≡ fail 8
+unfolding unaryBody
+to-number-other b e0 = rw (e0) refl
+
+pub to-number-hundredths : (b : Body) → isHundredths b ≡ true → unaryBody to-number b ≡ ok (simpleOf 2)
+unfolding unaryBody simpleOf
+to-number-hundredths b e0 = rw (e0) refl
+
 -- ---- two operands
-pub numbers-first : (d b c : Body) → isNumber b ≡ false → numbersTo d b c ≡ fail 8
-unfolding numbersTo
-numbers-first d b c e0 = rw (e0) refl
+pub quantities-other : (d b c : Body) → isQuantity b && sameBody b c ≡ false → quantitiesTo d b c ≡ fail 8
+unfolding quantitiesTo
+quantities-other d b c e0 = rw (e0) refl
 
-pub numbers-second : (d b c : Body) → isNumber b ≡ true → isNumber c ≡ false → numbersTo d b c ≡ fail 8
-unfolding numbersTo
-numbers-second d b c e0 e1 = rw (e0, e1) refl
-
-pub numbers-both : (d b c : Body) → isNumber b ≡ true → isNumber c ≡ true → numbersTo d b c ≡ ok d
-unfolding numbersTo
-numbers-both d b c e0 e1 = rw (e0, e1) refl
+pub quantities-both : (d b c : Body) → isQuantity b && sameBody b c ≡ true → quantitiesTo d b c ≡ ok d
+unfolding quantitiesTo
+quantities-both d b c e0 = rw (e0) refl
 
 pub equal-other : (b c : Body) → isSimple b ≡ false → binaryBody equal b c ≡ fail 17
 unfolding binaryBody

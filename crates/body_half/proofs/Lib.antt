@@ -3,5 +3,6 @@ pub mod Bounds
 pub mod Expanding
 pub mod Results
 pub mod Offsets
+pub mod Quantities
 pub mod Simple
 pub mod HalfEnds

@@ -1,4 +1,4 @@
--- The halves on bodies with the layout table's second number: the code's offset is the definition's, and it is small, since it lies
+-- The halves on bodies with the layout table's second number: the code's is the definition's, and it is small, since an offset lies
 -- within a record that has few cells. Assumes nothing.
 use mathlib.Core.Path.{_≡_, refl, sym, ap, _∙_}
 use mathlib.Core.Bool.{Bool, true, false, not}
@@ -9,10 +9,11 @@ use lib.Dec.{eqb}
 use Rattle.lingua.specs.Numbers.{body-cells}
 use Rattle.lingua.specs.Errors.{attribute-present, no-such-attribute, no-coherence, body-too-large}
 use Rattle.lingua.specs.Outcome.{ok, fail, Result, require, if_then_else_, _>>_}
-use Rattle.lingua.specs.Body.{Body, boolean, number, word, list-of, record-of, Attributes, end, attribute, size, sizes, sameBody, attributesOf, attributeBody, attributeOffset, insertAttribute, tooLarge}
-use Rattle.lingua.specs.Operation.{Unary, negation, make-record, select, make-list, top, pop, remove, Binary, add, subtract, multiply, divide, less, equal, glue, expand, change, push, bounded, present, unaryBody, binaryBody}
-use Rattle.lingua.specs.Typing.{offsetIn, unarySecond, binarySecond}
+use Rattle.lingua.specs.Body.{Body, boolean, number, word, hundredths, list-of, record-of, Attributes, end, attribute, size, sizes, isHundredths, sameBody, attributesOf, attributeBody, attributeOffset, insertAttribute, tooLarge}
+use Rattle.lingua.specs.Operation.{Unary, negation, make-record, select, make-list, top, pop, remove, to-hundredths, to-number, Binary, add, subtract, multiply, divide, less, equal, glue, expand, change, push, bounded, present, quantitiesTo, unaryBody, binaryBody}
+use Rattle.lingua.specs.Typing.{offsetIn, hundredthsFlag, unarySecond, binarySecond}
 use Rattle.laws.specs.Outcomes.{fail-is-ok, ok-same, required, asked}
+use Rattle.laws.specs.Halves.{quantities-body}
 use Rattle.body.specs.Encode.{Holds}
 use Rattle.body.specs.declared.typed.Typed.{Typed as Half-typed}
 use Rattle.body.specs.Typed.{typed, Fit, Types, binaryOffset, offsetAfter}
@@ -33,6 +34,7 @@ unfolding offsetIn attributesOf size
 offset-within n boolean = omega arith
 offset-within n number = omega arith
 offset-within n word = omega arith
+offset-within n hundredths = omega arith
 offset-within n (list-of b) = omega arith
 offset-within n (record-of fs) = attribute-within n fs
 
@@ -53,6 +55,8 @@ unary-small make-list b h = omega arith
 unary-small top b h = omega arith
 unary-small pop b h = omega arith
 unary-small (remove n) b h = omega (arith, offset-within n b)
+unary-small to-hundredths b h = omega arith
+unary-small to-number b h = omega arith
 
 -- an expanded record is the record with the attribute in its place
 expanded : (n : ℕ) (b c d : Body) → binaryBody (expand n) b c ≡ ok d → offsetAfter n c (attributesOf b) ≡ offsetIn n d
@@ -60,6 +64,7 @@ unfolding binaryBody attributesOf bounded offsetAfter offsetIn
 expanded n boolean c d e = fail-is-ok e
 expanded n number c d e = fail-is-ok e
 expanded n word c d e = fail-is-ok e
+expanded n hundredths c d e = fail-is-ok e
 expanded n (list-of b) c d e = fail-is-ok e
 expanded n (record-of fs) c d e =
     let p = required (not (present n fs)) attribute-present (bounded (record-of (insertAttribute n c fs))) d e in
@@ -72,18 +77,31 @@ unfolding binaryBody attributesOf
 changed n boolean c d e = fail-is-ok e
 changed n number c d e = fail-is-ok e
 changed n word c d e = fail-is-ok e
+changed n hundredths c d e = fail-is-ok e
 changed n (list-of b) c d e = fail-is-ok e
 changed n (record-of fs) c d e =
     let p = asked (attributeBody n fs) no-such-attribute (λ x. require (sameBody x c) no-coherence >> ok (record-of fs)) d e in
     let q = required (sameBody (p .0) c) no-coherence (ok (record-of fs)) d (p .2) in
     ok-same (q .1)
 
+-- what is reckoned with keeps its body
+flag-small : (b : Body) → hundredthsFlag b ≤ body-cells
+unfolding hundredthsFlag
+flag-small b = by (isHundredths b)
+  where
+    by : (t : Bool) → (if t then 1 else 0) ≤ body-cells
+    by true = omega arith
+    by false = omega arith
+
+reckoned-second : (b c d : Body) → quantitiesTo b b c ≡ ok d → Second (hundredthsFlag b) (hundredthsFlag d)
+reckoned-second b c d e = record { is = ap hundredthsFlag (sym (quantities-body e .2)); small = flag-small b }
+
 binary-second : (o : Binary) (b c d : Body) → binaryBody o b c ≡ ok d → size d ≤ body-cells → Second (binaryOffset o b c) (binarySecond o b c d)
-unfolding binaryOffset binarySecond
-binary-second add b c d e h = none-is 0 refl
-binary-second subtract b c d e h = none-is 0 refl
-binary-second multiply b c d e h = none-is 0 refl
-binary-second divide b c d e h = none-is 0 refl
+unfolding binaryOffset binarySecond binaryBody
+binary-second add b c d e h = reckoned-second b c d e
+binary-second subtract b c d e h = reckoned-second b c d e
+binary-second multiply b c d e h = reckoned-second b c d e
+binary-second divide b c d e h = reckoned-second b c d e
 binary-second less b c d e h = none-is 0 refl
 binary-second equal b c d e h = none-is 0 refl
 binary-second glue b c d e h = none-is 0 refl

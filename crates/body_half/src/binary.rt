@@ -9,6 +9,7 @@ use body::typed::failed;
 use body::typed::scalar;
 use body::typed::too_large;
 use body::walk::BOOLEAN;
+use body::walk::HUNDREDTHS;
 use body::walk::LIST;
 use body::walk::NUMBER;
 use body::walk::RECORD;
@@ -25,32 +26,65 @@ use lingua::errors::NUMBER_EXPECTED;
 use lingua::errors::RECORD_EXPECTED;
 use lingua::errors::WORD_EXPECTED;
 use lingua::sizes::BODY_BYTES;
-ghost use Prim.Native.Nat.{_≤_};
-ghost use Rattle.lingua.specs.Body.{Body};
-ghost use Rattle.lingua.specs.Operation.{numbersTo, equal, glue, expand, change, push, binaryBody};
+ghost use mathlib.Core.Path.{_≡_};
+ghost use mathlib.Core.Bool.{_&&_};
+ghost use Rattle.lingua.specs.Body.{Body, boolean, isQuantity, sameBody};
+ghost use Rattle.lingua.specs.Operation.{quantitiesTo, equal, glue, expand, change, push, binaryBody};
+ghost use Rattle.lingua.specs.Typing.{hundredthsFlag};
 ghost use Rattle.body.specs.Encode.{Holds, Held};
-ghost use Rattle.body.specs.Typed.{Types, simpleOf, binaryOffset};
+ghost use Rattle.body.specs.Typed.{Types, binaryOffset};
 
-// Kinds 5 to 9: two numbers give a body of the tag.
-pub fn numbers(tag: u8, x: [u8; BODY_BYTES], y: [u8; BODY_BYTES]) -> Typed
-    requires { ⌜ 1 ≤ tag ⌝ }
-    requires { ⌜ tag ≤ 3 ⌝ }
-    ensures { λ r. ⌜ ((b c : Body) → Holds x b → Holds y c → Types r (numbersTo (simpleOf tag) b c) 0) ⌝ }
+// Two numbers, or two hundredths.
+fn quantities(x: [u8; BODY_BYTES], y: [u8; BODY_BYTES]) -> bool
+    ensures { λ r. ⌜ ((b c : Body) → Holds x b → Holds y c → r ≡ (isQuantity b && sameBody b c)) ⌝ }
 {
-    if x[0] != NUMBER {
-        return failed(NUMBER_EXPECTED);
+    let a = x[0];
+    let b = y[0];
+    if a == NUMBER {
+        return b == NUMBER;
     }
-    if y[0] != NUMBER {
-        return failed(NUMBER_EXPECTED);
+    if a == HUNDREDTHS {
+        return b == HUNDREDTHS;
     }
-    scalar(tag)
+    false
 }
 
-// Kind 10.
+// Kinds 5 to 8: the operands' own body; the second number is 1 for hundredths.
+pub fn reckoned(x: [u8; BODY_BYTES], y: [u8; BODY_BYTES]) -> Typed
+    ensures { λ r. ⌜ ((b c : Body) → Holds x b → Holds y c → Types r (quantitiesTo b b c) (hundredthsFlag b)) ⌝ }
+{
+    if !quantities(x, y) {
+        return failed(NUMBER_EXPECTED);
+    }
+    if x[0] == HUNDREDTHS {
+        return Typed {
+            error: 0,
+            body: x,
+            cells: 1,
+            offset: 1,
+        };
+    }
+    scalar(NUMBER)
+}
+
+// Kind 9.
+pub fn compared(x: [u8; BODY_BYTES], y: [u8; BODY_BYTES]) -> Typed
+    ensures { λ r. ⌜ ((b c : Body) → Holds x b → Holds y c → Types r (quantitiesTo boolean b c) 0) ⌝ }
+{
+    if !quantities(x, y) {
+        return failed(NUMBER_EXPECTED);
+    }
+    scalar(BOOLEAN)
+}
+
+// Kind 10: a list or a record can't be compared.
 pub fn equal(x: [u8; BODY_BYTES], y: [u8; BODY_BYTES]) -> Typed
     ensures { λ r. ⌜ ((b c : Body) → Holds x b → Holds y c → Types r (binaryBody equal b c) 0) ⌝ }
 {
-    if WORD < x[0] {
+    if x[0] == LIST {
+        return failed(NOT_COMPARABLE);
+    }
+    if x[0] == RECORD {
         return failed(NOT_COMPARABLE);
     }
     if !same(x, y) {

@@ -10,7 +10,9 @@ use body::typed::failed;
 use body::typed::scalar;
 use body::typed::too_large;
 use body::walk::BOOLEAN;
+use body::walk::HUNDREDTHS;
 use body::walk::LIST;
+use body::walk::NUMBER;
 use body::walk::RECORD;
 use body::walk::measure_body;
 use lingua::errors::BODY_TOO_LARGE;
@@ -18,12 +20,13 @@ use lingua::errors::BOOLEAN_EXPECTED;
 use lingua::errors::LAST_ATTRIBUTE;
 use lingua::errors::LIST_EXPECTED;
 use lingua::errors::NO_SUCH_ATTRIBUTE;
+use lingua::errors::NUMBER_EXPECTED;
 use lingua::errors::RECORD_EXPECTED;
 use lingua::sizes::BODY_BYTES;
 use lingua::sizes::LIST_PLACES;
 ghost use mathlib.Core.Path.{_≡_};
 ghost use Rattle.lingua.specs.Body.{Body, isBoolean};
-ghost use Rattle.lingua.specs.Operation.{negation, make-record, select, make-list, top, pop, remove, unaryBody};
+ghost use Rattle.lingua.specs.Operation.{negation, make-record, select, make-list, top, pop, remove, to-hundredths, to-number, unaryBody};
 ghost use Rattle.lingua.specs.Typing.{unarySecond};
 ghost use Rattle.body.specs.Encode.{Holds, Held};
 ghost use Rattle.body.specs.Typed.{Types};
@@ -168,4 +171,24 @@ pub fn remove(n: u8, x: [u8; BODY_BYTES]) -> Typed
         cells: m.cells,
         offset: offset,
     }
+}
+
+// Kind 28.
+pub fn to_hundredths(x: [u8; BODY_BYTES]) -> Typed
+    ensures { λ r. ⌜ ((b : Body) → Holds x b → Types r (unaryBody to-hundredths b) 0) ⌝ }
+{
+    if x[0] != NUMBER {
+        return failed(NUMBER_EXPECTED);
+    }
+    scalar(HUNDREDTHS)
+}
+
+// Kind 29.
+pub fn to_number(x: [u8; BODY_BYTES]) -> Typed
+    ensures { λ r. ⌜ ((b : Body) → Holds x b → Types r (unaryBody to-number b) 0) ⌝ }
+{
+    if x[0] != HUNDREDTHS {
+        return failed(NUMBER_EXPECTED);
+    }
+    scalar(NUMBER)
 }

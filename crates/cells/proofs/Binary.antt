@@ -1,7 +1,7 @@
 -- An operation of two operands by its name: what each of them asks of the stack, and what it leaves; arithmetic with the
 -- number that it gives. Assumes nothing.
-use mathlib.Core.Path.{_≡_, refl, sym, ap, _∙_, subst}
-use mathlib.Core.Bool.{true, false}
+use mathlib.Core.Path.{_≡_, refl, sym, ap, ap₂, _∙_, subst}
+use mathlib.Core.Bool.{Bool, true, false}
 use mathlib.Core.List.{List}
 use mathlib.Core.Option.{some}
 use Prim.Native.Nat.{ℕ, _+_, _≤_, _<_}
@@ -10,21 +10,21 @@ use lib.ListN.{length, set, getD}
 use lib.IntN.{ℤ, pos}
 use Rattle.lingua.specs.Numbers.{body-cells}
 use Rattle.lingua.specs.Outcome.{ok, Result}
-use Rattle.lingua.specs.Body.{Body, boolean, number, word, list-of, record-of, Attributes, size, sizes, isSimple, attributesOf, attributeBody, attributeOffset, insertAttribute}
-use Rattle.lingua.specs.Value.{Value, whole, Fits, fit-whole, inRange, asWhole}
+use Rattle.lingua.specs.Body.{Body, boolean, number, word, list-of, record-of, Attributes, size, sizes, isHundredths, isQuantity, isSimple, attributesOf, attributeBody, attributeOffset, insertAttribute}
+use Rattle.lingua.specs.Value.{Value, Fits, fit-whole, fit-hundredths, inRangeOf, quantity, quantityBody, asWhole}
 use Rattle.lingua.specs.Operation.{Binary, less, equal, glue, expand, change, push, present, binaryBody}
 use Rattle.lingua.specs.Compute.{binaryValue}
 use Rattle.lingua.specs.Typing.{offsetIn, binarySecond}
 use Rattle.lingua.specs.Operations.{binaryMeaning}
 use Rattle.lingua.specs.declared.operations.BinaryOperation.{BinaryOperation}
-use Rattle.laws.specs.Halves.{numbers-body, equal-body, glue-body, expand-body, change-body, push-body, attribute-within, insert-within}
+use Rattle.laws.specs.Halves.{quantities-body, equal-body, glue-body, expand-body, change-body, push-body, attribute-within, insert-within}
 use Rattle.laws.specs.Records.{sizes-insert}
-use Rattle.laws.specs.Sound.{fit-number}
+use Rattle.laws.specs.Sound.{quantity-counts, quantity-range}
 use Rattle.cells.specs.Stack.{Lies, Holds, Leaves, Counted}
 use Rattle.cells.specs.Word.{WordAt}
 use Rattle.cells.specs.Operands.{Operands, HasOperands}
 use Rattle.cells.proofs.Elements.{leaves-answer}
-use Rattle.cells.proofs.Singles.{number-cell, put-number}
+use Rattle.cells.proofs.Singles.{quantity-cell, put-quantity}
 use Rattle.cells.proofs.Operands.{lies-as, leaves-as, lies-counted, lies-word}
 
 -- the offset of an attribute of a record
@@ -36,27 +36,29 @@ record-size : {b : Body} {fs : Attributes} → b ≡ record-of fs → size b ≡
 unfolding size
 record-size q = ap size q
 
--- ---- arithmetic: the operands' cells are numbers in range, and the number that it gives is put in the first one's place
-pub operand-range : {s : List ℤ} {at : ℕ} {b : Body} {x : Value} → b ≡ number → Lies s at b x → inRange (getD s at (pos 0)) ≡ true
-operand-range {s} {at} {b} {x} q h = let k = lies-as q h in ap inRange (number-cell k) ∙ fit-number (k .fit)
+-- ---- arithmetic: the operands' cells are numbers or counts in range, and what it gives is put in the first one's place
+pub operand-range : {s : List ℤ} {at : ℕ} {b : Body} {x : Value} → isQuantity b ≡ true → Lies s at b x → inRangeOf (isHundredths b) (getD s at (pos 0)) ≡ true
+operand-range {s} {at} {b} {x} q h =
+    ap₂ inRangeOf (sym (quantity-counts q (h .fit))) (quantity-cell q h) ∙ quantity-range q (h .fit)
 
-pub operand-number : {s : List ℤ} {at : ℕ} {b : Body} {x : Value} → b ≡ number → Lies s at b x → getD s at (pos 0) ≡ asWhole x
-operand-number q h = number-cell (lies-as q h)
-
--- a number is what its cell says
-whole-is : {v : Value} → Fits v number → whole (asWhole v) ≡ v
+-- a number or a count is what its cell says, and in range
+quantity-whole : (h : Bool) {v : Value} → Fits v (quantityBody h) → quantity h (asWhole v) ≡ v
 unfolding asWhole
-whole-is (fit-whole h) = refl
+quantity-whole true (fit-hundredths h) = refl
+quantity-whole false (fit-whole h) = refl
 
-pub number-leaves : (s : List ℤ) {d : Body} {o : Result Value} (v : Value) → d ≡ number → 0 < length s → o ≡ ok v → Fits v d → Leaves 0 (set s 0 (asWhole v)) d o
-number-leaves s {d} {o} v q l e h =
-    let k : Fits v number = subst (λ (c : Body). Fits v c) q h in
-    leaves-as q
-    (leaves-answer (record {
+pub quantity-in-range : (h : Bool) {v : Value} → Fits v (quantityBody h) → inRangeOf h (asWhole v) ≡ true
+unfolding asWhole inRangeOf
+quantity-in-range true (fit-hundredths h) = h
+quantity-in-range false (fit-whole h) = h
+
+pub quantity-leaves : (h : Bool) (s : List ℤ) {o : Result Value} (v : Value) → 0 < length s → o ≡ ok v → Fits v (quantityBody h) → Leaves 0 (set s 0 (asWhole v)) (quantityBody h) o
+quantity-leaves h s {o} v l e k =
+    leaves-answer (record {
       value = v;
       is = e;
-      lies = subst (λ (w : Value). Lies (set s 0 (asWhole v)) 0 number w) (whole-is k) (put-number s (asWhole v) l (fit-number k));
-    }))
+      lies = subst (λ (w : Value). Lies (set s 0 (asWhole v)) 0 (quantityBody h) w) (quantity-whole h k) (put-quantity h s (asWhole v) l (quantity-in-range h k));
+    })
 
 module _ {s : List ℤ} {cells others offset : ℕ} {b c d : Body} {x y : Value} where
   -- ---- what is asked
@@ -87,12 +89,12 @@ module _ {s : List ℤ} {cells others offset : ℕ} {b c d : Body} {x y : Value}
 
   -- ---- what is left
   module _ (last : List ℤ) where
-    pub less-leaves : ((v w : Value) → Lies s 0 number v → Lies s 64 number w → Holds last boolean (binaryValue less v w)) → Operands less s cells others offset b c d x y
+    pub less-leaves : ((e : Body) (v w : Value) → isQuantity e ≡ true → Lies s 0 e v → Lies s 64 e w → Holds last boolean (binaryValue less v w)) → Operands less s cells others offset b c d x y
         → Leaves 0 last d (binaryValue less x y)
     unfolding binaryBody
     less-leaves f h =
-        let p = numbers-body (h .half) in
-        leaves-as (p .2) (leaves-answer (f x y (lies-as (p .0) (h .lies)) (lies-as (p .1) (h .lies-other))))
+        let p = quantities-body (h .half) in
+        leaves-as (p .2) (leaves-answer (f b x y (p .0) (h .lies) (lies-as (p .1) (h .lies-other))))
 
     pub equal-leaves : ((e : Body) (v w : Value) → isSimple e ≡ true → Lies s 0 e v → Lies s 64 e w → Holds last boolean (binaryValue equal v w)) → Operands equal s cells others offset b c d x y
         → Leaves 0 last d (binaryValue equal x y)

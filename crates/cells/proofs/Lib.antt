@@ -1,5 +1,3 @@
-pub mod Range
-pub mod Results
 pub mod Moves
 pub mod Windows
 pub mod Fields

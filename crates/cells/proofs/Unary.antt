@@ -1,24 +1,28 @@
 -- An operation of one operand by its name: what each of them asks of the stack, and what it leaves. Assumes nothing.
-use mathlib.Core.Path.{_≡_, sym, ap, subst}
+use mathlib.Core.Path.{_≡_, refl, sym, ap, subst, _∙_}
 use mathlib.Core.List.{List}
 use mathlib.Core.Option.{some}
 use Prim.Native.Nat.{ℕ, _+_, _-_, _*_, _/_, _≤_}
 use native.Mathlib.Omega.{arith}
-use lib.IntN.{ℤ}
+use lib.ListN.{getD}
+use lib.IntN.{ℤ, pos}
 use Rattle.lingua.specs.Numbers.{body-cells, list-places}
-use Rattle.lingua.specs.Body.{Body, boolean, list-of, record-of, Attributes, size, sizes, attributesOf, attributeBody, attributeOffset, removeAttribute}
-use Rattle.lingua.specs.Value.{Value}
-use Rattle.lingua.specs.Operation.{Unary, negation, make-record, select, make-list, top, pop, remove}
+use Rattle.lingua.specs.Body.{Body, boolean, number, hundredths, isNumber, isHundredths, isQuantity, list-of, record-of, Attributes, size, sizes, attributesOf, attributeBody, attributeOffset, removeAttribute}
+use Rattle.lingua.specs.Value.{Value, inRange, inCounts}
+use Rattle.lingua.specs.Operation.{Unary, negation, make-record, select, make-list, top, pop, remove, to-hundredths, to-number}
 use Rattle.lingua.specs.Compute.{unaryValue}
 use Rattle.lingua.specs.Typing.{offsetIn, unarySecond}
 use Rattle.lingua.specs.Operations.{unaryMeaning}
 use Rattle.lingua.specs.declared.operations.UnaryOperation.{UnaryOperation}
-use Rattle.laws.specs.Halves.{unary-small, negation-body, make-record-body, select-body, make-list-body, top-body, pop-body, remove-body, attribute-within}
+use Rattle.laws.specs.Halves.{unary-small, negation-body, make-record-body, select-body, make-list-body, top-body, pop-body, remove-body, to-hundredths-body, to-number-body, attribute-within}
 use Rattle.laws.specs.Removal.{removed-fewer}
 use Rattle.cells.specs.Stack.{Lies, Holds, Leaves, Counted}
 use Rattle.cells.specs.Operands.{Operand, HasOperand}
 use Rattle.cells.proofs.Elements.{leaves-answer, list-size}
+use Rattle.laws.specs.Sound.{fit-number, fit-counts}
+use Rattle.cells.proofs.Singles.{quantity-cell}
 use Rattle.cells.proofs.Operands.{lies-as, leaves-as, lies-counted, make-record-law}
+use mathlib.Core.Bool.{true}
 
 offset-of : {b : Body} {offset : ℕ} {fs : Attributes} (n : ℕ) → b ≡ record-of fs → offsetIn n b ≡ offset → attributeOffset n fs ≡ offset
 unfolding offsetIn attributesOf
@@ -70,8 +74,24 @@ module _ {s : List ℤ} {cells result offset : ℕ} {b d : Body} {x : Value} whe
       let q = removed-cells n h in
       omega (arith, attribute-within n (p .attributes) (p .removed) (p .has), offset-of n (p .is) (h .offset-is), q .0, q .1)
 
+  pub to-hundredths-range : Operand to-hundredths s cells result offset b d x → inRange (getD s 0 (pos 0)) ≡ true
+  unfolding isQuantity isNumber
+  to-hundredths-range h =
+      let k = lies-as (to-hundredths-body (h .half) .0) (h .lies) in ap inRange (quantity-cell refl k) ∙ fit-number (k .fit)
+
+  pub to-number-range : Operand to-number s cells result offset b d x → inCounts (getD s 0 (pos 0)) ≡ true
+  unfolding isQuantity isNumber isHundredths
+  to-number-range h =
+      let k = lies-as (to-number-body (h .half) .0) (h .lies) in ap inCounts (quantity-cell refl k) ∙ fit-counts (k .fit)
+
   -- ---- what is left
   module _ (last : List ℤ) where
+    pub to-hundredths-leaves : ((v : Value) → Lies s 0 number v → Holds last hundredths (unaryValue to-hundredths v)) → Operand to-hundredths s cells result offset b d x → Leaves 0 last d (unaryValue to-hundredths x)
+    to-hundredths-leaves f h = let p = to-hundredths-body (h .half) in leaves-as (p .1) (leaves-answer (f x (lies-as (p .0) (h .lies))))
+
+    pub to-number-leaves : ((v : Value) → Lies s 0 hundredths v → Holds last number (unaryValue to-number v)) → Operand to-number s cells result offset b d x → Leaves 0 last d (unaryValue to-number x)
+    to-number-leaves f h = let p = to-number-body (h .half) in leaves-as (p .1) (leaves-answer (f x (lies-as (p .0) (h .lies))))
+
     pub negation-leaves : ((v : Value) → Lies s 0 boolean v → Holds last boolean (unaryValue negation v)) → Operand negation s cells result offset b d x → Leaves 0 last d (unaryValue negation x)
     negation-leaves f h = let p = negation-body (h .half) in leaves-as (p .1) (leaves-answer (f x (lies-as (p .0) (h .lies))))
 

@@ -1,4 +1,3 @@
-pub mod Image
 pub mod Stack
 pub mod Operands
 pub mod Word

@@ -1,28 +1,28 @@
 // An operation by its name: the values' half, in place on the operand stack, driven by the cells of the operands and of the result and by
-// the attribute's offset, as a body or the layout table gives them.
-use crate::arith;
-use crate::arith::Number;
+// the layout table's second number, as a body or the table gives them.
 use crate::lists;
 use crate::records;
 use crate::simple;
 use crate::words;
+use arith::Number;
 use lingua::errors::NO_ERROR;
 use lingua::operations::BinaryOperation;
 use lingua::operations::UnaryOperation;
 use lingua::sizes::BODY_CELLS;
 use lingua::sizes::LIST_PLACES;
 ghost use mathlib.Core.Path.{_≡_};
+ghost use mathlib.Core.Bool.{Bool};
 ghost use Prim.Native.Nat.{_+_, _<_, _≤_};
 ghost use lib.ListN.{length};
 ghost use Rattle.lingua.specs.Numbers.{body-cells};
-ghost use Rattle.lingua.specs.Body.{Body, number};
+ghost use Rattle.lingua.specs.Body.{Body};
 ghost use Rattle.lingua.specs.Outcome.{Result};
-ghost use Rattle.lingua.specs.Value.{Value};
+ghost use Rattle.lingua.specs.Value.{Value, quantityBody};
 ghost use Rattle.lingua.specs.Compute.{unaryValue, binaryValue};
 ghost use Rattle.lingua.specs.Operations.{unaryMeaning, binaryMeaning};
+ghost use Rattle.arith.specs.Image.{image};
 ghost use Rattle.cells.specs.Stack.{Leaves};
 ghost use Rattle.cells.specs.Operands.{Operand, HasOperand, Operands, HasOperands};
-ghost use Rattle.cells.specs.Image.{image};
 ghost use Rattle.cells.specs.Numeric.{Numeric};
 
 // A record of one attribute is made of the attribute's own cells.
@@ -46,14 +46,16 @@ pub fn unary(
         UnaryOperation::Top => return lists::top(stack, result),
         UnaryOperation::Pop => return lists::pop(stack, (cells - 1) / LIST_PLACES),
         UnaryOperation::Remove(_) => records::remove(stack, cells, offset, cells - result),
+        UnaryOperation::ToHundredths => simple::to_hundredths(stack),
+        UnaryOperation::ToNumber => simple::to_number(stack),
     }
     NO_ERROR
 }
 
-// A number to the first operand's place, or its error.
+// A number or a count to the first operand's place, or its error.
 fn put(stack: &mut [i64], answer: Number) -> u8
     requires { ⌜ 0 < length (now stack) ⌝ }
-    ensures { λ r. ⌜ ((o : Result Value) → answer ≡ image o → Numeric o → Leaves r (now (stack .exit)) number o) ⌝ }
+    ensures { λ r. ⌜ ((h : Bool) (o : Result Value) → answer ≡ image o → Numeric h o → Leaves r (now (stack .exit)) (quantityBody h) o) ⌝ }
 {
     match answer {
         Number::Whole(z) => {
@@ -64,6 +66,7 @@ fn put(stack: &mut [i64], answer: Number) -> u8
     }
 }
 
+// For arithmetic the second number says whether hundredths are counted.
 pub fn binary(
     operation: BinaryOperation,
     stack: &mut [i64],
@@ -78,11 +81,12 @@ pub fn binary(
 {
     let x = stack[0];
     let y = stack[BODY_CELLS];
+    let hundredths = offset == 1;
     match operation {
-        BinaryOperation::Add => return put(stack, crate::arith::add(x, y)),
-        BinaryOperation::Subtract => return put(stack, crate::arith::subtract(x, y)),
-        BinaryOperation::Multiply => return put(stack, crate::arith::multiply(x, y)),
-        BinaryOperation::Divide => return put(stack, crate::arith::divide(x, y)),
+        BinaryOperation::Add => return put(stack, arith::add(hundredths, x, y)),
+        BinaryOperation::Subtract => return put(stack, arith::subtract(hundredths, x, y)),
+        BinaryOperation::Multiply => return put(stack, arith::multiply(hundredths, x, y)),
+        BinaryOperation::Divide => return put(stack, arith::divide(hundredths, x, y)),
         BinaryOperation::Less => simple::less(stack),
         BinaryOperation::Equal => simple::equal(stack),
         BinaryOperation::Glue => return words::glue(stack),

@@ -3,7 +3,6 @@
 // a body. Only a value's own cells are read or written. To make a record of one attribute there is nothing to do: its cells
 // are the attribute's.
 pub mod apply; // apply.rt: an operation by its name
-pub mod arith; // arith.rt: arithmetic in range
 pub mod lists; // lists.rt: lists
 pub mod parts; // parts.rt: cells moved and cleared
 pub mod records; // records.rt: records

@@ -1,6 +1,6 @@
 -- A new value's checks, one law for each way that they end. Assumes nothing.
 use mathlib.Core.Path.{_≡_, refl, sym, ap, _∙_, subst}
-use mathlib.Core.Bool.{Bool, true, false, _&&_}
+use mathlib.Core.Bool.{Bool, true, false, _&&_, or-true}
 use mathlib.Core.List.{List}
 use Prim.Native.Nat.{ℕ, _*_, _≤_, _<_}
 use native.Mathlib.Omega.{arith}
@@ -9,20 +9,19 @@ use lib.ListN.{length, take, drop, getD}
 use Rattle.lingua.specs.Numbers.{body-bytes}
 use Rattle.lingua.specs.Errors.{no-coherence, yoke-expected, yoke-not-satisfied}
 use Rattle.lingua.specs.Outcome.{Result, require, _>>=_, _>>_}
-use Rattle.lingua.specs.Body.{Body, size, isNumber, isBoolean, coherent}
-use Rattle.lingua.specs.Value.{Value, Fits, fit-truth, fit-whole, fit-text, fit-items, fit-fields, asWhole, asTruth, Composite}
+use Rattle.lingua.specs.Body.{Body, boolean, number, word, hundredths, list-of, record-of, size, isNumber, isHundredths, isQuantity, isBoolean, coherent}
+use Rattle.lingua.specs.Value.{Value, Fits, fit-truth, fit-whole, fit-hundredths, fit-text, fit-items, fit-fields, asWhole, asTruth, Composite}
 use Rattle.lingua.specs.Expression.{Yoke, always}
 use Rattle.lingua.specs.Evaluation.{truthOr, evalYoke}
 use Rattle.lingua.specs.Store.{Variable, variableAt, presentBody, contents, within, admitted, yokeAt}
 use Rattle.lingua.specs.Trees.{yokeTree}
-use Rattle.laws.specs.Outcomes.{is-number, false-is-true}
+use Rattle.laws.specs.Outcomes.{false-is-true}
 use Rattle.decoder.specs.declared.tables.Table.{Table}
 use Rattle.profile.specs.Yokes.{always-is}
 use Rattle.body.specs.Encode.{Holds, Held}
 use Rattle.body.proofs.Tags as tags
-use Rattle.cells.specs.Stack.{Lies}
 use Rattle.cells.proofs.Operands.{lies-long}
-use Rattle.cells.proofs.Singles.{number-cell}
+use Rattle.cells.proofs.Singles.{quantity-cell}
 use Rattle.checked_row.specs.declared.answer.Evaluated.{Evaluated}
 use Rattle.run.specs.declared.steps.Truth.{Truth}
 use Rattle.run.specs.Reached.{lent, Tells}
@@ -33,24 +32,46 @@ use Rattle.checked_row.specs.Meaning.{Current, Gives}
 use Rattle.checked_store.specs.Meaning.{Bounds, Running}
 use Rattle.checked_row.proofs.Storing.{memory-of}
 
--- ---- a number's cell
-pub number-room : {value : List ℤ} {body : List ℕ} {x : Composite} → Current value body x → getD body 0 0 ≡ 2 → 0 < length value
-unfolding size
-number-room {value} {body} {x} h e = let b = is-number (x .body) (tags.is-number body (x .body) (h .holds) e) in omega (arith, lies-long (h .lies), ap size b)
+-- ---- the cell of a number or of a count
+module _ (body : List ℕ) (b : Body) (h : Holds body b) where
+  pub number-counts : getD body 0 0 ≡ 2 → isQuantity b ≡ true
+  unfolding isQuantity
+  number-counts e = rw (tags.is-number body b h e)
 
-pub whole-is : {value : List ℤ} {body : List ℕ} {x : Composite} → Current value body x → getD body 0 0 ≡ 2 → getD value 0 (pos 0) ≡ asWhole (x .value)
-whole-is {value} {body} {x} h e = number-cell (subst (λ (b : Body). Lies value 0 b (x .value)) (is-number (x .body) (tags.is-number body (x .body) (h .holds) e)) (h .lies))
+  pub hundredths-counts : getD body 0 0 ≡ 7 → isQuantity b ≡ true
+  unfolding isQuantity
+  hundredths-counts e = rw (tags.is-hundredths body b h e) (or-true (isNumber b))
 
-none-whole : {v : Value} {b : Body} → Fits v b → isNumber b ≡ false → pos 0 ≡ asWhole v
-unfolding asWhole isNumber
+  pub other-counts : (getD body 0 0 ≡ 2 → ⊥) → (getD body 0 0 ≡ 7 → ⊥) → isQuantity b ≡ false
+  unfolding isQuantity
+  other-counts f g = rw (tags.not-number body b h f, tags.not-hundredths body b h g)
+
+one-cell : (b : Body) → isQuantity b ≡ true → 1 ≤ size b
+unfolding isQuantity isNumber isHundredths size
+one-cell boolean e = omega arith
+one-cell number e = omega arith
+one-cell word e = omega arith
+one-cell hundredths e = omega arith
+one-cell (list-of b) e = false-is-true e
+one-cell (record-of fs) e = false-is-true e
+
+pub quantity-room : {value : List ℤ} {body : List ℕ} {x : Composite} → Current value body x → isQuantity (x .body) ≡ true → 0 < length value
+quantity-room {x = x} h e = omega (arith, lies-long (h .lies), one-cell (x .body) e)
+
+pub whole-is : {value : List ℤ} {body : List ℕ} {x : Composite} → Current value body x → isQuantity (x .body) ≡ true → getD value 0 (pos 0) ≡ asWhole (x .value)
+whole-is h e = quantity-cell e (h .lies)
+
+none-whole : {v : Value} {b : Body} → Fits v b → isQuantity b ≡ false → pos 0 ≡ asWhole v
+unfolding asWhole isQuantity isNumber isHundredths
 none-whole fit-truth e = refl
 none-whole (fit-whole r) e = false-is-true (sym e)
+none-whole (fit-hundredths r) e = false-is-true (sym e)
 none-whole (fit-text r) e = refl
 none-whole (fit-items n r) e = refl
 none-whole (fit-fields r) e = refl
 
-pub other-whole : {value : List ℤ} {body : List ℕ} {x : Composite} → Current value body x → (getD body 0 0 ≡ 2 → ⊥) → pos 0 ≡ asWhole (x .value)
-other-whole {value} {body} {x} h f = none-whole (h .lies .fit) (tags.not-number body (x .body) (h .holds) f)
+pub other-whole : {value : List ℤ} {body : List ℕ} {x : Composite} → Current value body x → isQuantity (x .body) ≡ false → pos 0 ≡ asWhole (x .value)
+other-whole h e = none-whole (h .lies .fit) e
 
 -- ---- the current yoke
 module _ {rows : List ℕ} {t : Table} {limits cells : List ℤ} {states bodies : List ℕ} {vs : List Variable} (h : Running rows t limits (lent cells states bodies) vs) (n : ℕ) (lt : n < length vs) where

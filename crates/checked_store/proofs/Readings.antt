@@ -1,36 +1,57 @@
--- A reading: a number in range on the stack. Assumes nothing.
-use mathlib.Core.Path.{_≡_, refl, sym, _∙_, subst}
-use mathlib.Core.Bool.{Bool, true, _&&_}
+-- A reading: a number or a count in range on the stack, as an evaluated value. Assumes nothing.
+use mathlib.Core.Path.{_≡_, refl, sym, ap, _∙_, subst}
+use mathlib.Core.Bool.{Bool, true, false}
 use mathlib.Core.List.{List, [], _∷_}
-use Prim.Native.Nat.{ℕ, _<_}
+use Prim.Native.Nat.{ℕ, _*_, _<_}
 use native.Mathlib.Omega.{arith}
+use lib.Dec.{eqb}
 use lib.IntN.{ℤ}
-use lib.ListN.{length, set}
-use lib.Signed.{leZ}
-use Rattle.lingua.specs.Numbers.{lowest-number, highest-number, body-bytes}
+use lib.ListN.{length, set, getD}
+use Rattle.lingua.specs.Numbers.{body-bytes}
 use Rattle.lingua.specs.Outcome.{ok}
-use Rattle.lingua.specs.Body.{number, size, nodes}
-use Rattle.lingua.specs.Value.{whole, pad, composite}
+use Rattle.lingua.specs.Body.{isHundredths, size, nodes}
+use Rattle.lingua.specs.Value.{inRangeOf, quantityBody, pad}
 use Rattle.lingua.specs.Encode.{bytes, encoded}
+use Rattle.lingua.specs.Store.{Variable, variableAt, presentBody, readingValue}
 use Rattle.body.specs.Encode.{Holds}
-use Rattle.cells.proofs.Singles.{put-number}
+use Rattle.body.proofs.Tags.{first-hundredths}
+use Rattle.cells.proofs.Singles.{put-quantity}
 use Rattle.checked_row.specs.declared.answer.Evaluated.{Evaluated}
-use Rattle.run.proofs.Readings.{in-range}
-use Rattle.checked_row.specs.Meaning.{Gives}
+use Rattle.checked_row.specs.Meaning.{Stored, Gives}
 use Rattle.checked_row.proofs.Giving.{gives-answer}
+use Rattle.checked_row.proofs.Simple.{own-first}
+use Rattle.checked_row.proofs.Storing.{present-held}
 
-number-held : Holds (pad body-bytes 0 (2 ∷ [])) number
+-- ---- the body of what is read
+pub count-held : (h : Bool) (out : List ℕ) → h ≡ true → out ≡ pad body-bytes 0 (7 ∷ []) → Holds out (quantityBody h)
 unfolding encoded bytes size nodes
-number-held = record { is = refl; few-cells = omega arith; few-nodes = omega arith }
+count-held true out e o = record { is = o; few-cells = omega arith; few-nodes = omega arith }
+count-held false out e o = absurd (let k : _≡_ {A = ℕ} 0 1 = cc in let z : ⊥ = omega arith in z)
 
-pub puts-number : {r : Evaluated} (s : List ℤ) (z y : ℤ) (t : Bool) → y ≡ z → t ≡ (leZ lowest-number z && leZ z highest-number) → t ≡ true → 0 < length s → r .error ≡ 0 → r .body ≡ pad body-bytes 0 (2 ∷ []) → r .cells ≡ 1 → Gives r (set s 0 y) (ok (composite number (whole z)))
+pub number-held : (h : Bool) (out : List ℕ) → h ≡ false → out ≡ pad body-bytes 0 (2 ∷ []) → Holds out (quantityBody h)
+unfolding encoded bytes size nodes
+number-held false out e o = record { is = o; few-cells = omega arith; few-nodes = omega arith }
+number-held true out e o = absurd (let k : _≡_ {A = ℕ} 0 1 = cc in let z : ⊥ = omega arith in z)
+
+-- the first byte of variable n's present body tells whether it is in hundredths
+pub counts-by-byte : {variables : List ℕ} {cells : List ℤ} {states : List ℕ} {vs : List Variable} → Stored variables cells states vs → (n : ℕ) → n < length vs
+    → eqb (getD variables (96 * n) 0) 7 ≡ isHundredths (presentBody (variableAt vs n))
+counts-by-byte {variables} h n lt = ap (λ (k : ℕ). eqb k 7) (sym (own-first variables n)) ∙ first-hundredths _ _ (present-held h n lt _ refl)
+
+-- ---- on the stack
+quantity-one : (h : Bool) → 1 ≡ size (quantityBody h)
 unfolding size
-puts-number {r} s z y t k q e h re rb rc =
-    subst (λ (w : ℤ). Gives r (set s 0 w) (ok (composite number (whole z)))) (sym k)
+quantity-one true = refl
+quantity-one false = refl
+
+pub puts-reading : {r : Evaluated} (h : Bool) (s : List ℤ) (z y : ℤ) (t : Bool) → y ≡ z → t ≡ inRangeOf h z → t ≡ true → 0 < length s → r .error ≡ 0 → Holds (r .body) (quantityBody h) → r .cells ≡ 1
+    → Gives r (set s 0 y) (ok (readingValue h z))
+puts-reading {r} h s z y t k q e l re rb rc =
+    subst (λ (w : ℤ). Gives r (set s 0 w) (ok (readingValue h z))) (sym k)
     (gives-answer re (record {
-      value = composite number (whole z);
+      value = readingValue h z;
       is = refl;
-      holds = subst (λ (x : List ℕ). Holds x number) (sym rb) number-held;
-      lies = put-number s z h (sym (in-range z t q) ∙ e);
-      cells = rc;
+      holds = rb;
+      lies = put-quantity h s z l (sym q ∙ e);
+      cells = rc ∙ quantity-one h;
     }))

@@ -1,6 +1,7 @@
 // A new value's checks, in order: its yoke's error, whether its body is coherent with the variable's present one, the yoke's body, the yoke and
 // the limits.
 use body::coherence::coherent;
+use body::walk::HUNDREDTHS;
 use body::walk::NUMBER;
 use checked::yoke::eval_yoke;
 use checked_row::answer::truth_of;
@@ -26,12 +27,16 @@ ghost use Rattle.run.specs.Memory.{Admits};
 ghost use Rattle.checked_row.specs.Meaning.{Current, HasCurrent};
 ghost use Rattle.checked_store.specs.Meaning.{Bounds, HasBounds, Running, Checkable};
 
-// A number's cell; for a value of another body 0 stands.
+// The cell of a number or of a count; for a value of another body 0 stands.
 fn whole(body: [u8; BODY_BYTES], value: &[i64]) -> i64
     requires { ⌜ HasCurrent (now value) body ⌝ }
     ensures { λ r. ⌜ ((x : Composite) → Current (now (value .entry)) body x → r ≡ asWhole (x .value)) ⌝ }
 {
-    if body[0] == NUMBER {
+    let tag = body[0];
+    if tag == NUMBER {
+        return value[0];
+    }
+    if tag == HUNDREDTHS {
         return value[0];
     }
     0

@@ -4,11 +4,11 @@ use mathlib.Core.Bool.{Bool, true, false}
 use mathlib.Core.List.{List, [], _∷_}
 use mathlib.Core.Option.{Option, some, none}
 use Prim.Native.Nat.{ℕ, min}
-use Rattle.lingua.specs.Body.{Body, boolean, number, word}
-use Rattle.lingua.specs.Operation.{Unary, negation, make-record, select, make-list, top, pop, remove, Binary, add, subtract, multiply, divide, less, equal, glue, expand, change, push}
+use Rattle.lingua.specs.Body.{Body, boolean, number, word, hundredths}
+use Rattle.lingua.specs.Operation.{Unary, negation, make-record, select, make-list, top, pop, remove, to-hundredths, to-number, Binary, add, subtract, multiply, divide, less, equal, glue, expand, change, push}
 use Rattle.lingua.specs.Operations.{unaryMeaning, binaryMeaning}
 use Rattle.lingua.specs.Expression.{Connective, conjunction, disjunction}
-use Rattle.lingua.specs.Rows.{kindAt, wideAt, numberAt, bytesAt, RowKind, numbered, usedOf, TypeRow, simple-type, list-type, record-type, expand-type, unknown-type, typeKinds, typeAt, Constant, boolean-constant, number-constant, word-constant, ExpressionRow, constant-row, variable-row, current-row, unary-row, binary-row, lazy-row, choice-row, all-list-row, unknown-expression, expressionKinds, expressionAt, InstructionRow, skip-row, assign-row, set-yoke-row, sequence-row, branch-row, loop-row, handle-row, call-row, unknown-instruction, instructionKinds, instructionAt}
+use Rattle.lingua.specs.Rows.{kindAt, wideAt, numberAt, bytesAt, RowKind, numbered, usedOf, TypeRow, simple-type, list-type, record-type, expand-type, unknown-type, typeKinds, typeAt, Constant, boolean-constant, number-constant, word-constant, hundredths-constant, ExpressionRow, constant-row, variable-row, current-row, unary-row, binary-row, lazy-row, choice-row, all-list-row, unknown-expression, expressionKinds, expressionAt, InstructionRow, skip-row, assign-row, set-yoke-row, sequence-row, branch-row, loop-row, handle-row, call-row, unknown-instruction, instructionKinds, instructionAt}
 use Rattle.lingua.specs.Rules.{unaryAttribute, binaryAttribute}
 use Rattle.decoder.specs.declared.decode.Simple.{Simple}
 use Rattle.decoder.specs.declared.decode.Simple.the-variants as simple
@@ -30,6 +30,7 @@ unfoldable pub simpleMeaning : Simple → Body
 simpleMeaning simple.Boolean = boolean
 simpleMeaning simple.Number = number
 simpleMeaning simple.Word = word
+simpleMeaning simple.Hundredths = hundredths
 
 unfoldable pub typeMeaning : CodeType → TypeRow
 typeMeaning (type.Simple s) = simple-type (simpleMeaning s)
@@ -60,6 +61,7 @@ unfoldable pub constantMeaning : List ℕ → ℕ → Simple → Constant
 constantMeaning rows i simple.Boolean = boolean-constant (wideAt rows i)
 constantMeaning rows i simple.Number = number-constant (numberAt rows i)
 constantMeaning rows i simple.Word = word-constant (bytesAt rows i)
+constantMeaning rows i simple.Hundredths = hundredths-constant (numberAt rows i)
 
 unfoldable pub expressionMeaning : List ℕ → ℕ → CodeRow → ExpressionRow
 expressionMeaning rows i (code.Constant s) = constant-row (constantMeaning rows i s)
@@ -97,6 +99,8 @@ unaryNaming make-list = names-none refl
 unaryNaming top = names-none refl
 unaryNaming pop = names-none refl
 unaryNaming (remove n) = names-one remove n (λ m. refl)
+unaryNaming to-hundredths = names-none refl
+unaryNaming to-number = names-none refl
 
 unfoldable pub binaryNaming : (o : Binary) → Naming binaryAttribute o
 unfolding binaryAttribute

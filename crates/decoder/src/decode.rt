@@ -16,6 +16,7 @@ pub enum Simple {
     Boolean,
     Number,
     Word,
+    Hundredths,
 }
 
 // A type row: its attribute and the types that it names are given by number.
@@ -94,6 +95,7 @@ pub fn type_at(rows: &[u8], i: usize) -> DecodedType
         4 => DecodedType::Known(2, TypeRow::List(a)),
         5 => DecodedType::Known(4, TypeRow::Record(a, b)),
         6 => DecodedType::Known(6, TypeRow::Expand(a, b, c)),
+        7 => DecodedType::Known(0, TypeRow::Simple(Simple::Hundredths)),
         _ => DecodedType::Unknown,
     }
 }
@@ -134,6 +136,9 @@ pub fn expression_at(rows: &[u8], i: usize) -> DecodedExpression
         24 => DecodedExpression::Known(0, ExpressionRow::Current),
         25 => DecodedExpression::Known(2, ExpressionRow::AllList(a)),
         26 => DecodedExpression::Known(4, ExpressionRow::Unary(Unary::Remove(byte(b)), a)),
+        27 => DecodedExpression::Known(8, ExpressionRow::Constant(Simple::Hundredths)),
+        28 => DecodedExpression::Known(2, ExpressionRow::Unary(Unary::ToHundredths, a)),
+        29 => DecodedExpression::Known(2, ExpressionRow::Unary(Unary::ToNumber, a)),
         _ => DecodedExpression::Unknown,
     }
 }

@@ -7,9 +7,9 @@ use mathlib.Core.Option.{some}
 use Prim.Native.Nat.{ℕ, suc, _+_, _*_, _≤_, _<_}
 use lib.IntN.{ℤ}
 use lib.ListN.{length, drop, getD}
-use Rattle.lingua.specs.Numbers.{body-cells, expression-section, instruction-section, scopeTable, layout-length, most-variables, limit-cells}
+use Rattle.lingua.specs.Numbers.{body-cells, expression-section, instruction-section, scopeTable, layout-length, most-variables, limit-cells, declaration-section}
 use Rattle.lingua.specs.Outcome.{ok, Result, _>>=_, allAnswers}
-use Rattle.lingua.specs.Body.{Body, boolean, number, size}
+use Rattle.lingua.specs.Body.{Body, boolean, isQuantity, size}
 use Rattle.lingua.specs.Value.{Value, asTruth, allOf}
 use Rattle.lingua.specs.Operation.{Unary, Binary, unaryBody, binaryBody}
 use Rattle.lingua.specs.Expression.{Expression, Yoke, Instruction, skip, assign, set-yoke, sequence, branch, loop, handle, call}
@@ -18,8 +18,8 @@ use Rattle.lingua.specs.Rows.{tableCount, pairCount}
 use Rattle.lingua.specs.Store.{Limit, Variable, variableAt, contents, cellsIn, statesIn}
 use Rattle.lingua.specs.Run.{Declaration, Profile, scopeDeclarations}
 use Rattle.lingua.specs.Typing.{Bodies, bodiesOf, scopeBodies, no-current-body, unarySecond, binarySecond}
-use Rattle.lingua.specs.Trees.{expressionTree, instructionTree, instructionScope}
-use Rattle.lingua.specs.Refusal.{isNumberVariable}
+use Rattle.lingua.specs.Trees.{bodyOr, declaredBody, expressionTree, instructionTree, instructionScope}
+use Rattle.lingua.specs.Refusal.{isQuantityVariable}
 use Rattle.safety.specs.Accepted.{AcceptedRows}
 use Rattle.safety.specs.Invariant.{scopeStore}
 use Rattle.safety.specs.Stored.{StoreKept}
@@ -174,7 +174,7 @@ pub record HasBinary (layout : List ℕ) (o : Binary) (row a b first second : �
 
 -- ---- what stores and tests of a run ask
 -- a store of a run, of the variables of one scope of a profile: 0 is the profile's own, 1 + k that of procedure k. What the type check found of
--- its current yokes and of every instruction row, each by its own scope, and its limits, which number variables alone have. With the world's
+-- its current yokes and of every instruction row, each by its own scope, and its limits, which number and hundredths variables alone have. With the world's
 -- bodies, this makes a state of a passed profile's run. The lent bodies are asked nothing: the erased run has none.
 pub record Running (p : Profile) (a : ℕ) (rows : List ℕ) (t : Table) (layout : List ℕ) (limits : List ℤ) (l : Lent) (vs : List Variable) : Type 0 where
   pub world : World rows t layout (l .cells) (l .states) (scopeDeclarations p a) vs
@@ -184,8 +184,9 @@ pub record Running (p : Profile) (a : ℕ) (rows : List ℕ) (t : Table) (layout
   pub passed-rows : (r : ℕ) → r < tableCount rows instruction-section → DerivedRow (HoldsIn layout) (λ k. scopeBodies p (suc k)) (scopeBodies p (instructionScope rows r)) (instructionTree rows r)
   pub room : limit-cells * length vs ≤ length limits
   pub limited : (n : ℕ) → n < length vs → LimitAt limits (limit-cells * n) (variableAt vs n .limit)
-  pub limited-numbers : (n : ℕ) (b : Limit) → n < length vs → variableAt vs n .limit ≡ some b → scopeBodies p a n ≡ number
-  pub number-variables : a ≡ 0 → (n : ℕ) → isNumberVariable rows n ≡ true → scopeBodies p 0 n ≡ number
+  pub limited-quantities : (n : ℕ) (b : Limit) → n < length vs → variableAt vs n .limit ≡ some b → isQuantity (scopeBodies p a n) ≡ true
+  pub quantity-variables : a ≡ 0 → (n : ℕ) → isQuantityVariable rows n ≡ true → isQuantity (scopeBodies p 0 n) ≡ true
+  pub own-bodies : a ≡ 0 → (n : ℕ) → n < pairCount rows declaration-section → scopeBodies p 0 n ≡ bodyOr (declaredBody rows n)
   pub yokes : (n : ℕ) → n < length vs → YokeOf rows (variableAt vs n .yoke)
 
 -- some such store, of a scope with a property

@@ -27,7 +27,7 @@ use Rattle.profile.specs.Variables.{LimitAt}
 use Rattle.profile.specs.Yokes.{always-is}
 use Rattle.decoder.specs.declared.tables.Table.{Table}
 use Rattle.cells.proofs.Operands.{lies-as}
-use Rattle.cells.proofs.Singles.{number-cell}
+use Rattle.cells.proofs.Singles.{quantity-cell}
 use Rattle.run.specs.Reached.{lent, Settles}
 use Rattle.run.specs.Memory.{Admits}
 use Rattle.run.proofs.Parts
@@ -38,6 +38,7 @@ use Rattle.erased_store.specs.Meaning.{ValueFor, StoreRoom, Satisfies, A
 use Rattle.erased_row.proofs.Cycle.{memory-of}
 use Rattle.erased_store.proofs.Values.{value-lies, value-stored}
 use Rattle.erased_store.proofs.Keeping.{content-running}
+use Rattle.lingua.specs.Body.{isQuantity}
 
 -- ---- the yoke, then the limit
 limit-behind : (o : Result Value) (b : Bool) → (o >>= λ t. require (asTruth t && b) yoke-not-satisfied) ≡ ((o >>= λ t. require (asTruth t) yoke-not-satisfied) >> require b yoke-not-satisfied)
@@ -81,7 +82,7 @@ module _ {p : Profile} {a : ℕ} {rows : List ℕ} {t : Table} {layout : List �
     first-cell : (l : Option Limit) → variableAt vs n .limit ≡ l → within l (getD value 0 (pos 0)) ≡ within l (asWhole (x .value))
     unfolding within
     first-cell none e = refl
-    first-cell (some m) e = ap (λ (z : ℤ). within (some m) z) (number-cell (lies-as (f .declared-body ∙ w .limited-numbers n m lt e) (value-lies f)))
+    first-cell (some m) e = ap (λ (z : ℤ). within (some m) z) (quantity-cell (ap isQuantity (f .declared-body) ∙ w .limited-quantities n m lt e) (value-lies f))
 
     -- what is asked of that cell
     abbrev Asked : Bool → Type 0

@@ -1,23 +1,22 @@
 -- What the type check found at an instruction row, and what its expression or its yoke then gives: the erased run's assignments, yoke changes
 -- and readings are the definition's. Assumes nothing.
 use mathlib.Core.Path.{_≡_, refl, sym, ap, _∙_, subst}
-use mathlib.Core.Bool.{Bool, true, _&&_}
+use mathlib.Core.Bool.{Bool, true, false}
 use mathlib.Core.List.{List, []}
 use Prim.Native.Nat.{ℕ, suc, _*_, _≤_, _<_}
 use native.Mathlib.Omega.{arith}
 use lib.IntN.{ℤ}
 use lib.ListN.{length, getD, set}
-use lib.Signed.{leZ}
-use Rattle.lingua.specs.Numbers.{lowest-number, highest-number, declaration-section, scopeTable}
+use Rattle.lingua.specs.Numbers.{declaration-section, scopeTable}
 use Rattle.lingua.specs.Outcome.{ok, Result, _>>=_, _>>_}
-use Rattle.lingua.specs.Body.{number, size}
-use Rattle.lingua.specs.Value.{Value, whole, Composite, composite}
+use Rattle.lingua.specs.Body.{isHundredths, isQuantity, size}
+use Rattle.lingua.specs.Value.{Value, inRangeOf, quantityBody, Composite, composite}
 use Rattle.lingua.specs.Expression.{Instruction}
 use Rattle.lingua.specs.Evaluation.{eval, no-current}
 use Rattle.lingua.specs.Rows.{pairCount}
-use Rattle.lingua.specs.Refusal.{isNumberVariable}
-use Rattle.lingua.specs.Store.{Variable, variableAt, contents, withYoke, assigned, yokeChanged, setYokeAt}
-use Rattle.lingua.specs.Trees.{expressionTree, yokeTree}
+use Rattle.lingua.specs.Refusal.{isQuantityVariable}
+use Rattle.lingua.specs.Store.{Variable, variableAt, presentBody, contents, readingValue, withYoke, assigned, yokeChanged, setYokeAt}
+use Rattle.lingua.specs.Trees.{bodyOr, declaredBody, expressionTree, yokeTree}
 use Rattle.lingua.specs.Run.{Profile, scopeDeclarations}
 use Rattle.lingua.specs.Typing.{scopeBodies, no-current-body}
 use Rattle.safety.specs.Accepted.{tree-well-made}
@@ -30,10 +29,11 @@ use Rattle.safety.specs.Invariant.{WellMade}
 use Rattle.safety.specs.Layout.{HoldsIn}
 use Rattle.decoder.specs.declared.tables.Table.{Table}
 use Rattle.cells.specs.Stack.{Leaves}
-use Rattle.cells.proofs.Singles.{put-number}
+use Rattle.cells.proofs.Singles.{put-quantity}
 use Rattle.run.specs.Reached.{Lent, lent, Settles}
 use Rattle.run.specs.Memory.{Admits}
-use Rattle.run.proofs.Readings.{in-range}
+use Rattle.laws.specs.Sound.{quantity-is}
+use Rattle.safety.specs.Programs.{present-declared}
 use Rattle.run.proofs.Settling.{keeps, stores-as, settles-as}
 use Rattle.run.proofs.Storing.{cells-kept, words-changed}
 use Rattle.erased_row.specs.Meaning.{Passed, PassedYoke, ReadyPlain, EvaluatesPlain, Running}
@@ -44,6 +44,12 @@ use Rattle.erased_row.proofs.Passing.{sizes, row-passed}
 use Rattle.erased.proofs.Yokes.{none-current}
 
 -- ---- what the type check found
+-- a number and a count take one cell
+quantity-size : (h : Bool) → 1 ≡ size (quantityBody h)
+unfolding size
+quantity-size true = refl
+quantity-size false = refl
+
 module _ {p : Profile} {a : ℕ} {rows : List ℕ} {t : Table} {layout : List ℕ} {limits cells : List ℤ} {states : List ℕ} {vs : List Variable} (w : Running p a rows t layout limits (lent cells states []) vs) where
   assign-passed : {n e : ℕ} → AssignRow rows a n e → Passed layout (scopeDeclarations p a) (expressionTree rows e) no-current-body (scopeBodies p a n)
   unfolding DerivedRow
@@ -121,8 +127,21 @@ module _ {p : Profile} {a : ℕ} {rows : List ℕ} {t : Table} {layout : List �
         words (cells-kept vs n (yokeTree rows y) (w .world .cells-are)) (q ∙ words-changed rows vs n lt y (w .world .states-are)))
 
   -- ---- a reading of one of the profile's own variables: the number lies on the stack
-  pub number-value : (n : ℕ) → a ≡ 0 → isNumberVariable rows n ≡ true → (s : List ℤ) (z y : ℤ) (b : Bool) → y ≡ z → b ≡ (leZ lowest-number z && leZ z highest-number) → b ≡ true → 0 < length s → ValueFor (scopeBodies p a n) 1 (set s 0 y) (composite number (whole z))
-  unfolding size
-  number-value n own v s z y b k q e h =
-      subst (λ (u : ℤ). ValueFor (scopeBodies p a n) 1 (set s 0 u) (composite number (whole z))) (sym k)
-      (value-exact (sym (ap (λ (c : ℕ). scopeBodies p c n) own ∙ w .number-variables own n v)) (put-number s z h (sym (in-range z b q) ∙ e)) refl (w .world .small n))
+  -- h says whether its type row is that of hundredths
+  module _ (n : ℕ) (own : a ≡ 0) (there : n < pairCount rows declaration-section) (h : Bool) (kind : h ≡ isHundredths (bodyOr (declaredBody rows n))) where
+    own-scope-body : scopeBodies p a n ≡ bodyOr (declaredBody rows n)
+    own-scope-body = ap (λ (c : ℕ). scopeBodies p c n) own ∙ w .own-bodies own n there
+
+    pub counts-as : h ≡ isHundredths (presentBody (variableAt vs n))
+    counts-as = kind ∙ sym (ap isHundredths (present-declared (scopeDeclarations p a) vs (w .kept) (w .world .fit) n ∙ own-scope-body))
+
+    reading-body : isQuantityVariable rows n ≡ true → quantityBody h ≡ scopeBodies p a n
+    reading-body v =
+        ap quantityBody (kind ∙ ap isHundredths (sym own-scope-body))
+        ∙ quantity-is (scopeBodies p a n) (ap (λ (c : ℕ). isQuantity (scopeBodies p c n)) own ∙ w .quantity-variables own n v)
+
+    pub reading-lies : isQuantityVariable rows n ≡ true → (s : List ℤ) (z y : ℤ) (b : Bool) → y ≡ z → b ≡ inRangeOf h z → b ≡ true → 0 < length s
+        → ValueFor (scopeBodies p a n) 1 (set s 0 y) (readingValue h z)
+    reading-lies v s z y b k q e l =
+        subst (λ (u : ℤ). ValueFor (scopeBodies p a n) 1 (set s 0 u) (readingValue h z)) (sym k)
+        (value-exact (reading-body v) (put-quantity h s z l (sym q ∙ e)) (quantity-size h) (w .world .small n))

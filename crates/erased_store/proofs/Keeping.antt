@@ -7,7 +7,7 @@ use native.Mathlib.Omega.{arith}
 use lib.IntN.{ℤ}
 use lib.ListN.{length, set, length-set}
 use Rattle.lingua.specs.Outcome.{ok}
-use Rattle.lingua.specs.Body.{number}
+use Rattle.lingua.specs.Body.{isQuantity}
 use Rattle.lingua.specs.Value.{Composite}
 use Rattle.lingua.specs.Expression.{Yoke}
 use Rattle.lingua.specs.Run.{Profile}
@@ -25,6 +25,7 @@ use Rattle.decoder.specs.declared.tables.Table.{Table}
 use Rattle.run.specs.Reached.{lent}
 use Rattle.run.proofs.Storing.{limits-kept, yokes-kept}
 use Rattle.erased_row.specs.Meaning.{Running}
+use mathlib.Core.Bool.{true}
 
 module _ {p : Profile} {a : ℕ} {rows : List ℕ} {t : Table} {layout : List ℕ} {limits cells : List ℤ} {states : List ℕ} {vs : List Variable} (h : Running p a rows t layout limits (lent cells states []) vs) (n : ℕ) (lt : n < length vs) where
   -- another variable n with the same limit, and every filled variable of its declared body
@@ -49,10 +50,11 @@ module _ {p : Profile} {a : ℕ} {rows : List ℕ} {t : Table} {layout : List �
         passed-rows = h .passed-rows;
         room = omega (arith, len, h .room);
         limited = limits-kept vs n v limits l (h .limited);
-        limited-numbers = λ m b i q.
-            replaced (λ j w. j < length vs → w .limit ≡ some b → scopeBodies p a j ≡ number) vs n v
-            (λ j e. h .limited-numbers n b j (sym l ∙ e)) (λ j g e. h .limited-numbers j b g e) m (omega (arith, len, i)) q;
-        number-variables = h .number-variables;
+        limited-quantities = λ m b i q.
+            replaced (λ j w. j < length vs → w .limit ≡ some b → isQuantity (scopeBodies p a j) ≡ true) vs n v
+            (λ j e. h .limited-quantities n b j (sym l ∙ e)) (λ j g e. h .limited-quantities j b g e) m (omega (arith, len, i)) q;
+        quantity-variables = h .quantity-variables;
+        own-bodies = h .own-bodies;
         yokes = yokes-kept vs n v y (h .yokes);
       }
 

@@ -6,10 +6,10 @@ use lib.ListN.{length, length-set}
 use Rattle.lingua.specs.Errors.{overflow, not-filled}
 use Rattle.lingua.specs.Outcome.{ok, _>>=_}
 use Rattle.lingua.specs.Body.{number}
-use Rattle.lingua.specs.Value.{whole, inRange, Composite, composite}
+use Rattle.lingua.specs.Value.{whole, inRange, Composite, composite, inRangeOf}
 use Rattle.lingua.specs.Expression.{Expression, Yoke}
 use Rattle.lingua.specs.Evaluation.{eval, no-current}
-use Rattle.lingua.specs.Store.{Variable, variableAt, contents, admitted, assigned, copied, yokeHolds, yokeChanged, withContent, withYoke, Reading, readingTaken}
+use Rattle.lingua.specs.Store.{Variable, variableAt, contents, admitted, assigned, copied, yokeHolds, yokeChanged, withContent, withYoke, Reading, countsHundredths, readingValue, readingTaken}
 use Rattle.safety.specs.Answers.{same-answer, bound, some-answer, demanded, after}
 
 pub assigned-long : (vs : List Variable) (n : ℕ) (x : Composite) (ws : List Variable) → assigned vs n x ≡ ok ws → length ws ≡ length vs
@@ -33,8 +33,8 @@ changed-long vs n y ws e =
 pub taken-long : (vs : List Variable) (r : Reading) (ws : List Variable) → readingTaken vs r ≡ ok ws → length ws ≡ length vs
 unfolding readingTaken
 taken-long vs r ws e =
-    let q = demanded (inRange (r .number)) overflow _ ws e in
-    assigned-long vs (r .variable) (composite number (whole (r .number))) ws (q .1)
+    let q = demanded (inRangeOf (countsHundredths vs r) (r .number)) overflow _ ws e in
+    assigned-long vs (r .variable) (readingValue (countsHundredths vs r) (r .number)) ws (q .1)
 
 pub copied-long : (vs : List Variable) (n : ℕ) (us : List Variable) (m : ℕ) (ws : List Variable) → copied assigned vs n us m ≡ ok ws → length ws ≡ length us
 unfolding copied

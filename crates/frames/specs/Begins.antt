@@ -9,7 +9,7 @@ use native.Mathlib.Omega.{arith}
 use lib.IntN.{ℤ, pos}
 use lib.ListN.{length, getD, replicate, length-replicate}
 use Rattle.lingua.specs.Numbers.{expression-section, instruction-section, variable-table, scopeTable, cells-length, layout-length, limit-cells, limit-cells-length, most-variables}
-use Rattle.lingua.specs.Body.{number}
+use Rattle.lingua.specs.Body.{number, isQuantity}
 use Rattle.lingua.specs.Rows.{tableCount, pairCount, procedureCount}
 use Rattle.lingua.specs.Store.{Limit, Variable, variableAt, presentBody, cellsIn, statesIn, bodiesIn}
 use Rattle.lingua.specs.Run.{Profile, procedureAt, begun, scopeDeclarations}
@@ -23,8 +23,8 @@ use Rattle.safety.specs.Formed.{scope-formed, scope-bodies-formed}
 use Rattle.safety.specs.Invariant.{start-kept, start-empty}
 use Rattle.safety.specs.Layout.{HoldsIn}
 use Rattle.safety.specs.Derivation.{DerivedRow}
-use Rattle.safety.specs.Passed.{reads-number}
-use Rattle.safety.specs.Programs.{TypedProfile, ReadsNumber, start-fit}
+use Rattle.safety.specs.Passed.{reads-quantity, profile-body}
+use Rattle.safety.specs.Programs.{TypedProfile, ReadsQuantity, start-fit}
 use Rattle.decoder.specs.Tables.{IsTable}
 use Rattle.decoder.specs.declared.tables.Table.{Table}
 use Rattle.profile.specs.Variables.{LimitAt}
@@ -38,6 +38,7 @@ use Rattle.checked_row.specs.Meaning.{Holdable}
 use Rattle.frames.specs.declared.way.Way.{Way}
 use Rattle.frames.specs.declared.way.Way.the-variants as way
 use Rattle.frames.specs.Meaning.{Context, context, HoldsBy, Holds, proceduresIn, CallableBy, Callable, FreshBy, Fresh}
+use mathlib.Core.Bool.{true}
 
 -- ---- memory at a scope's start
 -- cells and state words of the variables that the scope begins with, and three cells for each one's limit
@@ -130,10 +131,10 @@ module _ {rows lims : List ℕ} {a : ℕ} {kept cells : List ℤ} {states : List
         count = count;
       }
 
-  -- ---- with the layout table, of a profile that the type check passed; what has a limit is a number
+  -- ---- with the layout table, of a profile that the type check passed; what has a limit is reckoned with
   pub erased-begins : (e : Table) → IsTable rows expression-section e → {layout : List ℕ} → length layout ≡ layout-length → TypedProfile (HoldsIn layout) (profileOf rows lims)
       → ((r : ℕ) → r < tableCount rows instruction-section → DerivedRow (HoldsIn layout) (λ k. scopeBodies (profileOf rows lims) (suc k)) (scopeBodies (profileOf rows lims) (instructionScope rows r)) (instructionTree rows r))
-      → ((n : ℕ) (b : Limit) → n < length (scopeStart rows lims a) → variableAt (scopeStart rows lims a) n .limit ≡ some b → scopeBodies (profileOf rows lims) a n ≡ number)
+      → ((n : ℕ) (b : Limit) → n < length (scopeStart rows lims a) → variableAt (scopeStart rows lims a) n .limit ≡ some b → isQuantity (scopeBodies (profileOf rows lims) a n) ≡ true)
       → Holds way.Erased (profileOf rows lims) a (context rows e layout kept) (lent cells states []) (scopeStart rows lims a)
   unfolding HoldsBy
   erased-begins e table long typed derived numbers =
@@ -157,8 +158,9 @@ module _ {rows lims : List ℕ} {a : ℕ} {kept cells : List ℤ} {states : List
             passed-rows = derived;
             room = omega (arith, few, s .room);
             limited = s .limited;
-            limited-numbers = numbers;
-            number-variables = λ z n q. unfold ReadsNumber in reads-number rows lims (record { variable = n; number = pos 0 }) q;
+            limited-quantities = numbers;
+            quantity-variables = λ z n q. unfold ReadsQuantity in reads-quantity rows lims (record { variable = n; number = pos 0 }) q;
+            own-bodies = λ z n l. profile-body rows lims n l;
             yokes = start-yoke;
           };
         };

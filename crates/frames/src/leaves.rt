@@ -8,13 +8,14 @@ ghost use mathlib.Core.List.{List};
 ghost use Prim.Native.Nat.{_<_, _≤_};
 ghost use lib.IntN.{ℤ};
 ghost use lib.ListN.{length};
-ghost use Rattle.lingua.specs.Numbers.{declaration-section};
+ghost use Rattle.lingua.specs.Numbers.{declaration-section, type-section};
 ghost use Rattle.lingua.specs.Outcome.{_>>=_ as bind};
 ghost use Rattle.lingua.specs.Rows.{pairCount};
-ghost use Rattle.lingua.specs.Refusal.{isNumberVariable};
+ghost use Rattle.lingua.specs.Refusal.{isQuantityVariable};
 ghost use Rattle.lingua.specs.Evaluation.{eval as meaning, no-current};
 ghost use Rattle.lingua.specs.Store.{contents, assigned, yokeChanged, readingTaken};
 ghost use Rattle.lingua.specs.Trees.{expressionTree, yokeTree};
+ghost use Rattle.decoder.specs.Tables.{IsTable};
 ghost use Rattle.run.specs.Reached.{lent};
 ghost use Rattle.run.specs.Memory.{reading};
 ghost use Rattle.erased_row.specs.Meaning.{TestRow};
@@ -118,11 +119,13 @@ pub fn test(
     }
 }
 
-// Number variable n of the profile takes a number from outside.
+// Variable n of the profile takes a number from outside: a number, or a count of hundredths.
 pub fn take_reading(
     way: Way,
     rows: &[u8],
     t: Table,
+    declarations: Table,
+    types: Table,
     bodies: &mut [u8],
     layout: &[u16],
     kept: &[i64],
@@ -133,7 +136,8 @@ pub fn take_reading(
     stack: &mut [i64],
 ) -> u8
     requires { ⌜ Standing way (context (now rows) t (now layout) (now kept)) (lent (now cells) (now states) (now bodies)) (length (now stack)) (λ a. a ≡ 0) ⌝ }
-    requires { ⌜ (n < pairCount (now rows) declaration-section) × (isNumberVariable (now rows) n ≡ true) ⌝ }
+    requires { ⌜ (n < pairCount (now rows) declaration-section) × (isQuantityVariable (now rows) n ≡ true) ⌝ }
+    requires { ⌜ IsTable (now rows) declaration-section declarations × IsTable (now rows) type-section types ⌝ }
     ensures { λ r. ⌜ Stores way (context (now (rows .entry)) t (now (layout .entry)) (now (kept .entry))) (lent (now (cells .entry)) (now (states .entry)) (now (bodies .entry))) (lent (now (cells .exit)) (now (states .exit)) (now (bodies .exit))) r
         (λ a. a ≡ 0) (λ vs. readingTaken vs (reading n z)) ⌝ }
 {
@@ -144,6 +148,8 @@ pub fn take_reading(
         Way::Erased => erased_store::reading::take_reading(
             rows,
             t,
+            declarations,
+            types,
             layout,
             kept,
             cells,

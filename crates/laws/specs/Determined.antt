@@ -9,7 +9,7 @@ use lib.ListN.{length}
 use lib.IntN.{ℤ, pos}
 use Rattle.lingua.specs.Numbers.{word-length}
 use Rattle.lingua.specs.Body.{Body, Attributes, size}
-use Rattle.lingua.specs.Value.{Value, truth, whole, text, items, fields, Values, item, Fields, field, countValues, Fits, fit-truth, fit-whole, fit-text, fit-items, fit-fields, AllFit, fit-none, fit-item, FieldsFit, fit-end, fit-field, asTruth, asWhole, asText, asItems, asFields, pad, bit, packedIn, packed, flat, cellsOf, fieldCells}
+use Rattle.lingua.specs.Value.{Value, truth, whole, count, text, items, fields, Values, item, Fields, field, countValues, Fits, fit-truth, fit-whole, fit-hundredths, fit-text, fit-items, fit-fields, AllFit, fit-none, fit-item, FieldsFit, fit-end, fit-field, asTruth, asWhole, asText, asItems, asFields, pad, bit, packedIn, packed, flat, cellsOf, fieldCells}
 use Rattle.laws.specs.Lists.{append-left, append-right, head-same, tail-same}
 use Rattle.laws.specs.Lengths.{length-cells, length-flat}
 use Rattle.laws.specs.Words.{text-short, text-characters, packed-injective}
@@ -33,6 +33,7 @@ mutual
   pub determined : {v w : Value} {b : Body} → Fits v b → Fits w b → cellsOf b v ≡ cellsOf b w → v ≡ w
   determined (fit-truth {t}) (fit-truth {t = u}) e = ap (λ (s : Bool). truth s) (bit-same t u (head-same e))
   determined (fit-whole h) (fit-whole k) e = ap (λ (z : ℤ). whole z) (head-same e)
+  determined (fit-hundredths h) (fit-hundredths k) e = ap (λ (z : ℤ). count z) (head-same e)
   determined (fit-text {cs} h) (fit-text {cs = ds} k) e =
       ap (λ (s : List ℕ). text s)
       (packed-injective word-length cs ds (text-short cs h) (text-short ds k) (text-characters cs h) (text-characters ds k) (packed-same cs ds (head-same e)))

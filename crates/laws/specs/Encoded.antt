@@ -4,8 +4,8 @@ use Prim.Native.Nat.{ℕ, _+_, _-_, _*_, _≤_}
 use native.Mathlib.Omega.{arith}
 use lib.ListN.{length, replicate, length-append, length-replicate}
 use Rattle.lingua.specs.Numbers.{body-nodes, body-bytes}
-use Rattle.lingua.specs.Body.{Body, boolean, number, word, list-of, record-of, Attributes, end, attribute, nodes, attributeNodes}
-use Rattle.lingua.specs.Value.{pad}
+use Rattle.lingua.specs.Body.{Body, boolean, number, word, hundredths, list-of, record-of, Attributes, end, attribute, nodes, attributeNodes}
+use Rattle.lingua.specs.Value.{pad, count}
 use Rattle.lingua.specs.Encode.{bytes, attributeBytes, encoded}
 
 -- a node brings its tag, a count if it is a record, and a number if it is an attribute's: the root is no attribute's
@@ -16,6 +16,7 @@ mutual
   bytes-below boolean = omega arith
   bytes-below number = omega arith
   bytes-below word = omega arith
+  bytes-below hundredths = omega arith
   bytes-below (list-of b) = omega (arith, bytes-below b)
   bytes-below (record-of fs) = omega (arith, attribute-bytes-below fs)
 

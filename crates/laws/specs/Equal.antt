@@ -6,8 +6,8 @@ use Prim.Native.Nat.{ℕ}
 use lib.Dec.{eqb}
 use lib.IntN.{ℤ, pos, negsuc}
 use borrow.Author.Tests.{eqb-true, eq-eqb}
-use Rattle.lingua.specs.Body.{Body, isSimple, isBoolean, isNumber, isWord}
-use Rattle.lingua.specs.Value.{Value, truth, whole, text, Fits, fit-truth, fit-whole, fit-text, fit-items, fit-fields, asTruth, asWhole, asText}
+use Rattle.lingua.specs.Body.{Body, isSimple, isBoolean, isNumber, isWord, isHundredths}
+use Rattle.lingua.specs.Value.{Value, truth, whole, count, text, Fits, fit-truth, fit-whole, fit-hundredths, fit-text, fit-items, fit-fields, asTruth, asWhole, asText}
 use Rattle.lingua.specs.Compute.{sameNumber, sameText, sameValue}
 use Rattle.laws.specs.Outcomes.{false-is-true, and-left, and-right, and-both}
 
@@ -47,17 +47,19 @@ truth-same true = refl
 truth-same false = refl
 
 pub same-value : {x y : Value} {b : Body} → isSimple b ≡ true → Fits x b → Fits y b → sameValue x y ≡ true → x ≡ y
-unfolding isSimple isBoolean isNumber isWord sameValue asTruth asWhole asText
+unfolding isSimple isBoolean isNumber isWord isHundredths sameValue asTruth asWhole asText
 same-value s (fit-truth {t}) (fit-truth {t = u}) e = ap (λ (v : Bool). truth v) (same-truth t u e)
 same-value s (fit-whole {z} h) (fit-whole {z = w} k) e = ap (λ (v : ℤ). whole v) (same-number z w e)
+same-value s (fit-hundredths {z} h) (fit-hundredths {z = w} k) e = ap (λ (v : ℤ). count v) (same-number z w e)
 same-value s (fit-text {cs} h) (fit-text {cs = ds} k) e = ap (λ (v : List ℕ). text v) (same-text cs ds e)
 same-value s (fit-items le hs) y e = false-is-true s
 same-value s (fit-fields hs) y e = false-is-true s
 
 pub value-same : {x : Value} {b : Body} → isSimple b ≡ true → Fits x b → sameValue x x ≡ true
-unfolding isSimple isBoolean isNumber isWord sameValue asTruth asWhole asText
+unfolding isSimple isBoolean isNumber isWord isHundredths sameValue asTruth asWhole asText
 value-same s (fit-truth {t}) = truth-same t
 value-same s (fit-whole {z} h) = number-same z
+value-same s (fit-hundredths {z} h) = number-same z
 value-same s (fit-text {cs} h) = text-same cs
 value-same s (fit-items le hs) = false-is-true s
 value-same s (fit-fields hs) = false-is-true s

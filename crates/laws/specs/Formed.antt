@@ -11,13 +11,13 @@ use borrow.Author.Tests.{eqb-false, ltb-true, ltb-false}
 use Rattle.lingua.specs.Numbers.{attribute-numbers}
 use Rattle.lingua.specs.Outcome.{ok, isSome, if_then_else_}
 use Rattle.lingua.specs.Body.{Body, list-of, record-of, Attributes, end, attribute, size, nodes, depth, countAttributes, width, tooLarge, attributeBody, insertAttribute, removeAttribute}
-use Rattle.lingua.specs.WellFormed.{InBounds, WellFormed, formed-boolean, formed-number, formed-word, formed-list, formed-record, FormedFrom, formed-end, formed-attribute}
+use Rattle.lingua.specs.WellFormed.{InBounds, WellFormed, formed-boolean, formed-number, formed-word, formed-hundredths, formed-list, formed-record, FormedFrom, formed-end, formed-attribute}
 use Rattle.lingua.specs.Value.{allOf}
-use Rattle.lingua.specs.Operation.{Unary, negation, make-record, select, make-list, top, pop, remove, Binary, add, subtract, multiply, divide, less, equal, glue, expand, change, push, present, unaryBody, binaryBody}
+use Rattle.lingua.specs.Operation.{Unary, negation, make-record, select, make-list, top, pop, remove, to-hundredths, to-number, Binary, add, subtract, multiply, divide, less, equal, glue, expand, change, push, present, unaryBody, binaryBody}
 use Rattle.lingua.specs.Rules.{unaryAttribute, binaryAttribute, attributesFit}
 use Rattle.laws.specs.Outcomes.{false-is-true, and-left, none-is-some, some-same}
 use Rattle.laws.specs.Removal.{removed-fewer}
-use Rattle.laws.specs.Halves.{bounded-within, in-bounds, few-attributes, negation-body, make-record-body, select-body, make-list-body, top-body, pop-body, remove-body, numbers-body, equal-body, glue-body, expand-body, change-body, push-body}
+use Rattle.laws.specs.Halves.{bounded-within, in-bounds, few-attributes, negation-body, make-record-body, select-body, make-list-body, top-body, pop-body, remove-body, to-hundredths-body, to-number-body, quantities-body, equal-body, glue-body, expand-body, change-body, push-body}
 
 -- ---- what a well-formed body shows
 pub formed-bounds : {b : Body} → WellFormed b → InBounds b
@@ -25,6 +25,7 @@ unfolding size nodes depth
 formed-bounds formed-boolean = record { few-cells = omega arith; few-nodes = omega arith; shallow = omega arith }
 formed-bounds formed-number = record { few-cells = omega arith; few-nodes = omega arith; shallow = omega arith }
 formed-bounds formed-word = record { few-cells = omega arith; few-nodes = omega arith; shallow = omega arith }
+formed-bounds formed-hundredths = record { few-cells = omega arith; few-nodes = omega arith; shallow = omega arith }
 formed-bounds (formed-list h k) = h
 formed-bounds (formed-record h l m k) = h
 
@@ -129,14 +130,16 @@ unary-formed make-list {b} a h e =
 unary-formed top a h e = formed-element (formed-as (top-body e) h)
 unary-formed pop a h e = let p = pop-body e in formed-as (p .1 ∙ sym (p .2)) h
 unary-formed (remove n) a h e = let s = remove-body {n = n} e in formed-as (sym (s .result)) (removed-formed n (s .removed) (s .has) (s .several) (formed-as (s .is) h))
+unary-formed to-hundredths a h e = formed-as (sym (to-hundredths-body e .1)) formed-hundredths
+unary-formed to-number a h e = formed-as (sym (to-number-body e .1)) formed-number
 
 pub binary-formed : (o : Binary) {b c d : Body} → attributesFit (binaryAttribute o) ≡ true → WellFormed b → WellFormed c → binaryBody o b c ≡ ok d → WellFormed d
 unfolding binaryBody binaryAttribute
-binary-formed add a h k e = formed-as (sym (numbers-body e .2)) formed-number
-binary-formed subtract a h k e = formed-as (sym (numbers-body e .2)) formed-number
-binary-formed multiply a h k e = formed-as (sym (numbers-body e .2)) formed-number
-binary-formed divide a h k e = formed-as (sym (numbers-body e .2)) formed-number
-binary-formed less a h k e = formed-as (sym (numbers-body e .2)) formed-boolean
+binary-formed add a h k e = formed-as (sym (quantities-body e .2)) h
+binary-formed subtract a h k e = formed-as (sym (quantities-body e .2)) h
+binary-formed multiply a h k e = formed-as (sym (quantities-body e .2)) h
+binary-formed divide a h k e = formed-as (sym (quantities-body e .2)) h
+binary-formed less a h k e = formed-as (sym (quantities-body e .2)) formed-boolean
 binary-formed equal a h k e = formed-as (sym (equal-body e .2)) formed-boolean
 binary-formed glue a h k e = formed-as (sym (glue-body e .2)) formed-word
 binary-formed (expand n) {c = c} a h k e =

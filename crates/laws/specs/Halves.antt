@@ -10,10 +10,10 @@ use borrow.Author.Tests.{not-true, ltb-true, ltb-false, eq-eqb}
 use Rattle.lingua.specs.Numbers.{body-cells, body-nodes, body-depth, record-attributes}
 use Rattle.lingua.specs.Errors.{number-expected, boolean-expected, word-expected, list-expected, record-expected, no-such-attribute, attribute-present, no-coherence, not-comparable, body-too-large, last-attribute}
 use Rattle.lingua.specs.Outcome.{ok, orFail, isSome, if_then_else_}
-use Rattle.lingua.specs.Body.{Body, boolean, number, word, list-of, record-of, Attributes, end, attribute, size, sizes, nodes, depth, width, isBoolean, isNumber, isWord, isSimple, sameBody, elementBody, attributesOf, countAttributes, attributeBody, attributeOffset, insertAttribute, removeAttribute, tooLarge}
+use Rattle.lingua.specs.Body.{Body, boolean, number, word, hundredths, list-of, record-of, Attributes, end, attribute, size, sizes, nodes, depth, width, isBoolean, isNumber, isWord, isHundredths, isQuantity, isSimple, sameBody, elementBody, attributesOf, countAttributes, attributeBody, attributeOffset, insertAttribute, removeAttribute, tooLarge}
 use Rattle.lingua.specs.WellFormed.{InBounds}
-use Rattle.lingua.specs.Operation.{Unary, negation, make-record, select, make-list, top, pop, remove, Binary, add, subtract, multiply, divide, less, equal, glue, expand, change, push, bounded, present, unaryBody, numbersTo, binaryBody}
-use Rattle.laws.specs.Outcomes.{false-is-true, ok-same, required, orFail-ok, asked, is-some, and-left, and-right, or-left, or-right, same-body, is-boolean, is-number, is-word, is-list, is-record, none-is-some, some-same}
+use Rattle.lingua.specs.Operation.{Unary, negation, make-record, select, make-list, top, pop, remove, to-hundredths, to-number, Binary, add, subtract, multiply, divide, less, equal, glue, expand, change, push, bounded, present, unaryBody, quantitiesTo, binaryBody}
+use Rattle.laws.specs.Outcomes.{false-is-true, ok-same, required, orFail-ok, asked, is-some, and-left, and-right, or-left, or-right, same-body, is-boolean, is-number, is-word, is-hundredths, is-list, is-record, none-is-some, some-same}
 use Rattle.laws.specs.Removal.{removed-fewer}
 
 -- ---- bounds
@@ -113,12 +113,20 @@ remove-body {n} {b} {d} e =
       result = sym (ok-same (r .1));
     }
 
+pub to-hundredths-body : {b d : Body} → unaryBody to-hundredths b ≡ ok d → (b ≡ number) × (d ≡ hundredths)
+unfolding unaryBody
+to-hundredths-body {b} {d} e = let p = required (isNumber b) number-expected (ok hundredths) d e in (is-number b (p .0), sym (ok-same (p .1)))
+
+pub to-number-body : {b d : Body} → unaryBody to-number b ≡ ok d → (b ≡ hundredths) × (d ≡ number)
+unfolding unaryBody
+to-number-body {b} {d} e = let p = required (isHundredths b) number-expected (ok number) d e in (is-hundredths b (p .0), sym (ok-same (p .1)))
+
 -- ---- two operands
-pub numbers-body : {r b c d : Body} → numbersTo r b c ≡ ok d → (b ≡ number) × (c ≡ number) × (d ≡ r)
-unfolding numbersTo
-numbers-body {r} {b} {c} {d} e =
-    let p = required (isNumber b && isNumber c) number-expected (ok r) d e in
-    (is-number b (and-left (isNumber b) (isNumber c) (p .0)), is-number c (and-right (isNumber b) (isNumber c) (p .0)), sym (ok-same (p .1)))
+pub quantities-body : {r b c d : Body} → quantitiesTo r b c ≡ ok d → (isQuantity b ≡ true) × (c ≡ b) × (d ≡ r)
+unfolding quantitiesTo
+quantities-body {r} {b} {c} {d} e =
+    let p = required (isQuantity b && sameBody b c) number-expected (ok r) d e in
+    (and-left (isQuantity b) (sameBody b c) (p .0), sym (same-body b c (and-right (isQuantity b) (sameBody b c) (p .0))), sym (ok-same (p .1)))
 
 pub equal-body : {b c d : Body} → binaryBody equal b c ≡ ok d → (isSimple b ≡ true) × (c ≡ b) × (d ≡ boolean)
 unfolding binaryBody
@@ -227,6 +235,10 @@ word-small : size word ≤ body-cells
 unfolding size
 word-small = omega arith
 
+hundredths-small : size hundredths ≤ body-cells
+unfolding size
+hundredths-small = omega arith
+
 pub unary-small : (o : Unary) (b : Body) {d : Body} → size b ≤ body-cells → unaryBody o b ≡ ok d → size d ≤ body-cells
 unfolding unaryBody
 unary-small negation b h e = simple-small (negation-body e .1) boolean-small
@@ -239,14 +251,16 @@ unary-small pop b {d} h e = let p = pop-body e in simple-small (p .2 ∙ sym (p 
 unary-small (remove n) b h e =
     let s = remove-body {n = n} e in
     simple-small (s .result) (removed-small n (s .attributes) (s .removed) (s .has) (subst (λ (c : Body). size c ≤ body-cells) (s .is) h))
+unary-small to-hundredths b h e = simple-small (to-hundredths-body e .1) hundredths-small
+unary-small to-number b h e = simple-small (to-number-body e .1) number-small
 
 pub binary-small : (o : Binary) (b c : Body) {d : Body} → size b ≤ body-cells → size c ≤ body-cells → binaryBody o b c ≡ ok d → size d ≤ body-cells
 unfolding binaryBody
-binary-small add b c h k e = simple-small (numbers-body e .2) number-small
-binary-small subtract b c h k e = simple-small (numbers-body e .2) number-small
-binary-small multiply b c h k e = simple-small (numbers-body e .2) number-small
-binary-small divide b c h k e = simple-small (numbers-body e .2) number-small
-binary-small less b c h k e = simple-small (numbers-body e .2) boolean-small
+binary-small add b c h k e = simple-small (quantities-body e .2) h
+binary-small subtract b c h k e = simple-small (quantities-body e .2) h
+binary-small multiply b c h k e = simple-small (quantities-body e .2) h
+binary-small divide b c h k e = simple-small (quantities-body e .2) h
+binary-small less b c h k e = simple-small (quantities-body e .2) boolean-small
 binary-small equal b c h k e = simple-small (equal-body e .2) boolean-small
 binary-small glue b c h k e = simple-small (glue-body e .2) word-small
 binary-small (expand n) b c h k e = expand-body {n = n} e .small

@@ -7,7 +7,7 @@ use lib.ListN.{length, length-append}
 use lib.IntN.{pos}
 use Rattle.lingua.specs.Numbers.{list-places}
 use Rattle.lingua.specs.Body.{Body, Attributes, size, sizes}
-use Rattle.lingua.specs.Value.{Value, Values, Fields, countValues, Fits, fit-truth, fit-whole, fit-text, fit-items, fit-fields, AllFit, fit-none, fit-item, FieldsFit, fit-end, fit-field, asItems, asFields, flat, cellsOf, fieldCells}
+use Rattle.lingua.specs.Value.{Value, Values, Fields, countValues, Fits, fit-truth, fit-whole, fit-hundredths, fit-text, fit-items, fit-fields, AllFit, fit-none, fit-item, FieldsFit, fit-end, fit-field, asItems, asFields, flat, cellsOf, fieldCells}
 use Rattle.laws.specs.Lists.{length-pad}
 
 mutual
@@ -16,6 +16,7 @@ mutual
   pub length-cells : {v : Value} {b : Body} → Fits v b → length (cellsOf b v) ≡ size b
   length-cells fit-truth = refl
   length-cells (fit-whole h) = refl
+  length-cells (fit-hundredths h) = refl
   length-cells (fit-text h) = refl
   length-cells (fit-items {vs} {b} le hs) =
       let e : length (flat (λ x. cellsOf b x) vs) ≡ countValues vs * size b = length-flat hs in

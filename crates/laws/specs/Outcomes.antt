@@ -7,7 +7,7 @@ use lib.Dec.{eqb}
 use borrow.Author.Tests.{eqb-true, eq-eqb}
 use native.Mathlib.Omega.{arith}
 use Rattle.lingua.specs.Outcome.{ok, fail, Result, _>>=_, _>>_, require, orFail, isSome}
-use Rattle.lingua.specs.Body.{Body, boolean, number, word, list-of, record-of, Attributes, end, attribute, holds, sameBody, sameAttributes, isBoolean, isNumber, isWord, elementBody, attributesOf}
+use Rattle.lingua.specs.Body.{Body, boolean, number, word, hundredths, list-of, record-of, Attributes, end, attribute, holds, sameBody, sameAttributes, isBoolean, isNumber, isWord, elementBody, attributesOf, isHundredths}
 
 pub false-is-true {ℓ} : {A : Type ℓ} → false ≡ true → A
 false-is-true e = absurd (let z : _≡_ {A = ℕ} 0 1 = cc in let k : ⊥ = omega arith in k)
@@ -68,6 +68,7 @@ unfolding isBoolean
 is-boolean boolean e = refl
 is-boolean number e = false-is-true e
 is-boolean word e = false-is-true e
+is-boolean hundredths e = false-is-true e
 is-boolean (list-of b) e = false-is-true e
 is-boolean (record-of fs) e = false-is-true e
 
@@ -76,6 +77,7 @@ unfolding isNumber
 is-number boolean e = false-is-true e
 is-number number e = refl
 is-number word e = false-is-true e
+is-number hundredths e = false-is-true e
 is-number (list-of b) e = false-is-true e
 is-number (record-of fs) e = false-is-true e
 
@@ -84,8 +86,18 @@ unfolding isWord
 is-word boolean e = false-is-true e
 is-word number e = false-is-true e
 is-word word e = refl
+is-word hundredths e = false-is-true e
 is-word (list-of b) e = false-is-true e
 is-word (record-of fs) e = false-is-true e
+
+pub is-hundredths : (b : Body) → isHundredths b ≡ true → b ≡ hundredths
+unfolding isHundredths
+is-hundredths boolean e = false-is-true e
+is-hundredths number e = false-is-true e
+is-hundredths word e = false-is-true e
+is-hundredths hundredths e = refl
+is-hundredths (list-of b) e = false-is-true e
+is-hundredths (record-of fs) e = false-is-true e
 
 pub none-is-some {ℓ} : {A : Type 0} {B : Type ℓ} {a : A} → none ≡ some a → B
 none-is-some e = absurd (let z : _≡_ {A = ℕ} 0 1 = cc in let k : ⊥ = omega arith in k)
@@ -98,6 +110,7 @@ unfolding elementBody
 is-list boolean d e = none-is-some e
 is-list number d e = none-is-some e
 is-list word d e = none-is-some e
+is-list hundredths d e = none-is-some e
 is-list (list-of b) d e = ap (λ (c : Body). list-of c) (some-same e)
 is-list (record-of fs) d e = none-is-some e
 
@@ -106,6 +119,7 @@ unfolding attributesOf
 is-record boolean fs e = none-is-some e
 is-record number fs e = none-is-some e
 is-record word fs e = none-is-some e
+is-record hundredths fs e = none-is-some e
 is-record (list-of b) fs e = none-is-some e
 is-record (record-of gs) fs e = ap (λ (c : Attributes). record-of c) (some-same e)
 
@@ -116,6 +130,7 @@ mutual
   same-body boolean c e = sym (is-boolean c e)
   same-body number c e = sym (is-number c e)
   same-body word c e = sym (is-word c e)
+  same-body hundredths c e = sym (is-hundredths c e)
   same-body (list-of b) c e =
       let h = held (elementBody c) (λ d. sameBody b d) e in
       ap (λ (d : Body). list-of d) (same-body b (h .0) (h .2)) ∙ sym (is-list c (h .0) (h .1))
@@ -136,12 +151,13 @@ mutual
 
 -- ---- and a body is the same as itself
 mutual
-  unfolding sameBody sameAttributes isBoolean isNumber isWord elementBody attributesOf
+  unfolding sameBody sameAttributes isBoolean isNumber isWord isHundredths elementBody attributesOf
 
   pub body-same : (b : Body) → sameBody b b ≡ true
   body-same boolean = refl
   body-same number = refl
   body-same word = refl
+  body-same hundredths = refl
   body-same (list-of b) = body-same b
   body-same (record-of fs) = attributes-same fs
 

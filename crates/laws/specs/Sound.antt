@@ -1,9 +1,9 @@
 -- The two halves of an operation agree: where the bodies' half gives a body and the values' half a value, the value fits the
 -- body. `unary-sound` and `binary-sound` say so of every operation. Assumes nothing.
-use mathlib.Core.Path.{_≡_, refl, sym, subst}
-use mathlib.Core.Bool.{true, not}
+use mathlib.Core.Path.{_≡_, refl, sym, subst, _∙_}
+use mathlib.Core.Bool.{Bool, true, false, not}
 use mathlib.Core.List.{List, _++_}
-use Prim.Native.Nat.{ℕ, zero, suc, _+_, _/_, _≤_}
+use Prim.Native.Nat.{ℕ, zero, suc, _+_, _*_, _/_, _≤_}
 use native.Mathlib.Nat.{div-le-self}
 use native.Mathlib.Omega.{arith}
 use lib.Dec.{leb, ltb}
@@ -11,15 +11,17 @@ use lib.ListN.{length}
 use lib.IntN.{ℤ, pos, negsuc, negℤ, _+ℤ_, _-ℤ_, _*ℤ_}
 use lib.Signed.{leZ}
 use borrow.Author.Tests.{leb-true, le-leb, ltb-true}
-use Rattle.lingua.specs.Numbers.{lowest-number, highest-number, word-length, list-places}
+use Rattle.lingua.specs.Numbers.{lowest-number, highest-number, parts-of-one, word-length, list-places}
 use Rattle.lingua.specs.Errors.{overflow, division-by-zero, list-full, word-too-long}
 use Rattle.lingua.specs.Outcome.{ok}
-use Rattle.lingua.specs.Body.{Body, number, word, list-of, record-of, Attributes}
-use Rattle.lingua.specs.Value.{Value, whole, text, items, Values, no-items, item, countValues, inRange, Fits, fit-truth, fit-whole, fit-text, fit-items, fit-fields, AllFit, fit-item, FieldsFit, isText, asWhole, asText, asItems, asFields}
-use Rattle.lingua.specs.Operation.{Unary, negation, make-record, select, make-list, top, pop, remove, Binary, add, subtract, multiply, divide, less, equal, glue, expand, change, push, unaryBody, binaryBody}
-use Rattle.lingua.specs.Compute.{ranged, sameNumber, quotient, divided, glued, pushed, topOf, popOf, withLast, unaryValue, binaryValue}
-use Rattle.laws.specs.Outcomes.{fail-is-ok, ok-same, required, and-left, and-right, and-both}
-use Rattle.laws.specs.Halves.{negation-body, make-record-body, select-body, make-list-body, top-body, pop-body, remove-body, numbers-body, equal-body, glue-body, expand-body, change-body, push-body}
+use Rattle.lingua.specs.Body.{Body, boolean, number, word, hundredths, isNumber, isHundredths, isQuantity, list-of, record-of, Attributes}
+use Rattle.lingua.specs.Value.{Value, whole, text, items, Values, no-items, item, countValues, inRange, Fits, fit-truth, fit-whole, fit-hundredths, fit-text, fit-items, fit-fields, AllFit, fit-item, FieldsFit, isText, asWhole, asText, asItems, asFields, inCounts, quantityBody, isCount, inRangeOf, quantity}
+use Rattle.lingua.specs.Operation.{Unary, negation, make-record, select, make-list, top, pop, remove, to-hundredths, to-number, Binary, add, subtract, multiply, divide, less, equal, glue, expand, change, push, unaryBody, binaryBody}
+use Rattle.lingua.specs.Rounding.{nearest}
+use Rattle.lingua.specs.Compute.{ranged, sameNumber, quotient, product, divided, glued, pushed, topOf, popOf, withLast, unaryValue, binaryValue}
+use Rattle.arith.specs.Ranges.{counted-in-range, whole-part-in-range}
+use Rattle.laws.specs.Outcomes.{false-is-true, fail-is-ok, ok-same, required, and-left, and-right, and-both}
+use Rattle.laws.specs.Halves.{negation-body, make-record-body, select-body, make-list-body, top-body, pop-body, remove-body, to-hundredths-body, to-number-body, quantities-body, equal-body, glue-body, expand-body, change-body, push-body}
 use Rattle.laws.specs.Words.{glued-text}
 use Rattle.laws.specs.Records.{make-record-fits, select-fits, change-fits, remove-fits, expand-fits}
 use Rattle.laws.specs.Items.{push-fits, fits-lastFrom, pop-fits, single-fits}
@@ -28,6 +30,10 @@ use Rattle.laws.specs.Items.{push-fits, fits-lastFrom, pop-fits, single-
 pub fit-number : {x : Value} → Fits x number → inRange (asWhole x) ≡ true
 unfolding asWhole
 fit-number (fit-whole h) = h
+
+pub fit-counts : {x : Value} → Fits x hundredths → inCounts (asWhole x) ≡ true
+unfolding asWhole
+fit-counts (fit-hundredths h) = h
 
 pub fit-word : {x : Value} → Fits x word → isText (asText x) ≡ true
 unfolding asText
@@ -48,7 +54,51 @@ fit-record (fit-fields hs) = hs
 fits-as : {x v : Value} {b d : Body} → v ≡ x → b ≡ d → Fits v b → Fits x d
 fits-as {x} {v} {b} {d} p q h = subst (λ (w : Value). Fits w d) p (subst (λ (c : Body). Fits v c) q h)
 
--- ---- numbers
+-- ---- numbers, and hundredths
+-- what a value says of itself is what its body says
+pub quantity-body : {x : Value} {b : Body} → isQuantity b ≡ true → Fits x b → quantityBody (isCount x) ≡ b
+unfolding isQuantity isNumber isHundredths
+quantity-body s fit-truth = false-is-true s
+quantity-body s (fit-whole h) = refl
+quantity-body s (fit-hundredths h) = refl
+quantity-body s (fit-text h) = false-is-true s
+quantity-body s (fit-items le hs) = false-is-true s
+quantity-body s (fit-fields hs) = false-is-true s
+
+pub quantity-counts : {x : Value} {b : Body} → isQuantity b ≡ true → Fits x b → isCount x ≡ isHundredths b
+unfolding isQuantity isNumber isHundredths
+quantity-counts s fit-truth = false-is-true s
+quantity-counts s (fit-whole h) = refl
+quantity-counts s (fit-hundredths h) = refl
+quantity-counts s (fit-text h) = false-is-true s
+quantity-counts s (fit-items le hs) = false-is-true s
+quantity-counts s (fit-fields hs) = false-is-true s
+
+pub quantity-range : {x : Value} {b : Body} → isQuantity b ≡ true → Fits x b → inRangeOf (isCount x) (asWhole x) ≡ true
+unfolding isQuantity isNumber isHundredths inRangeOf asWhole
+quantity-range s fit-truth = false-is-true s
+quantity-range s (fit-whole h) = h
+quantity-range s (fit-hundredths h) = h
+quantity-range s (fit-text h) = false-is-true s
+quantity-range s (fit-items le hs) = false-is-true s
+quantity-range s (fit-fields hs) = false-is-true s
+
+-- a body that is reckoned with is hundredths or else number
+pub quantity-is : (b : Body) → isQuantity b ≡ true → quantityBody (isHundredths b) ≡ b
+unfolding isQuantity isNumber isHundredths
+quantity-is boolean e = false-is-true e
+quantity-is number e = refl
+quantity-is word e = false-is-true e
+quantity-is hundredths e = refl
+quantity-is (list-of b) e = false-is-true e
+quantity-is (record-of fs) e = false-is-true e
+
+-- and a number in its range is a value
+pub quantity-fits : (h : Bool) (z : ℤ) → inRangeOf h z ≡ true → Fits (quantity h z) (quantityBody h)
+unfolding inRangeOf
+quantity-fits true z e = fit-hundredths e
+quantity-fits false z e = fit-whole e
+
 within : (z : ℤ) → leZ lowest-number z ≡ true → leZ z highest-number ≡ true → inRange z ≡ true
 unfolding inRange
 within z = and-both (leZ lowest-number z) (leZ z highest-number)
@@ -72,11 +122,11 @@ quotient-in-range (negsuc a) (pos b) h =
 quotient-in-range (negsuc a) (negsuc b) h =
     let p = leb-true a 999999 (and-left (leb a 999999) true h) in pos-in-range (suc a / suc b) (omega (arith, p, div-le-self (suc a) (suc b)))
 
-pub ranged-fits : (z : ℤ) (v : Value) → ranged z ≡ ok v → Fits v number
+pub ranged-fits : (h : Bool) (z : ℤ) (v : Value) → ranged h z ≡ ok v → Fits v (quantityBody h)
 unfolding ranged
-ranged-fits z v e =
-    let p = required (inRange z) overflow (ok (whole z)) v e in
-    fits-as (ok-same (p .1)) refl (fit-whole (p .0))
+ranged-fits h z v e =
+    let p = required (inRangeOf h z) overflow (ok (quantity h z)) v e in
+    fits-as (ok-same (p .1)) refl (quantity-fits h z (p .0))
 
 as-body : {x : Value} {b c : Body} → b ≡ c → Fits x b → Fits x c
 as-body {x} q h = subst (λ (c : Body). Fits x c) q h
@@ -108,12 +158,20 @@ unary-sound pop {x} h e f =
 unary-sound (remove n) h e f =
     let s = remove-body {n = n} e in
     fits-as (ok-same f) (sym (s .result)) (fit-fields (remove-fits (fit-record (as-body (s .is) h)) n (s .removed) (s .has)))
+unary-sound to-hundredths {x} h e f =
+    let p = to-hundredths-body e in
+    fits-as (ok-same f) (sym (p .1)) (fit-hundredths (counted-in-range (asWhole x) (fit-number (as-body (p .0) h))))
+unary-sound to-number {x} h e f =
+    let p = to-number-body e in
+    fits-as (ok-same f) (sym (p .1)) (fit-whole (whole-part-in-range (asWhole x) (fit-counts (as-body (p .0) h))))
 
 -- ---- two operands
-pub divided-fits : (x y : ℤ) (v : Value) → inRange x ≡ true → divided x y ≡ ok v → Fits v number
-unfolding divided
-divided-fits x y v h e =
-    fits-as (ok-same (required (not (sameNumber y (pos 0))) division-by-zero (ok (whole (quotient x y))) v e .1)) refl (fit-whole (quotient-in-range x y h))
+pub divided-fits : (h : Bool) (x y : ℤ) (v : Value) → inRangeOf h x ≡ true → divided h x y ≡ ok v → Fits v (quantityBody h)
+unfolding divided inRangeOf
+divided-fits true x y v k e =
+    ranged-fits true (nearest (pos parts-of-one *ℤ x) y) v (required (not (sameNumber y (pos 0))) division-by-zero (ranged true (nearest (pos parts-of-one *ℤ x) y)) v e .1)
+divided-fits false x y v k e =
+    fits-as (ok-same (required (not (sameNumber y (pos 0))) division-by-zero (ok (whole (quotient x y))) v e .1)) refl (fit-whole (quotient-in-range x y k))
 
 glued-fits : (cs ds : List ℕ) (v : Value) → isText cs ≡ true → isText ds ≡ true → glued cs ds ≡ ok v → Fits v word
 unfolding glued
@@ -129,13 +187,16 @@ pushed-fits vs x {b} {v} hs k e =
 
 pub binary-sound : (o : Binary) {x y v : Value} {b c d : Body} → Fits x b → Fits y c → binaryBody o b c ≡ ok d → binaryValue o x y ≡ ok v → Fits v d
 unfolding binaryBody binaryValue
-binary-sound add {x} {y} {v} h k e f = as-body (sym (numbers-body e .2)) (ranged-fits (asWhole x +ℤ asWhole y) v f)
-binary-sound subtract {x} {y} {v} h k e f = as-body (sym (numbers-body e .2)) (ranged-fits (asWhole x -ℤ asWhole y) v f)
-binary-sound multiply {x} {y} {v} h k e f = as-body (sym (numbers-body e .2)) (ranged-fits (asWhole x *ℤ asWhole y) v f)
+binary-sound add {x} {y} {v} h k e f =
+    let p = quantities-body e in as-body (quantity-body (p .0) h ∙ sym (p .2)) (ranged-fits (isCount x) (asWhole x +ℤ asWhole y) v f)
+binary-sound subtract {x} {y} {v} h k e f =
+    let p = quantities-body e in as-body (quantity-body (p .0) h ∙ sym (p .2)) (ranged-fits (isCount x) (asWhole x -ℤ asWhole y) v f)
+binary-sound multiply {x} {y} {v} h k e f =
+    let p = quantities-body e in as-body (quantity-body (p .0) h ∙ sym (p .2)) (ranged-fits (isCount x) (product (isCount x) (asWhole x) (asWhole y)) v f)
 binary-sound divide {x} {y} {v} h k e f =
-    let p = numbers-body e in
-    as-body (sym (p .2)) (divided-fits (asWhole x) (asWhole y) v (fit-number (as-body (p .0) h)) f)
-binary-sound less h k e f = fits-as (ok-same f) (sym (numbers-body e .2)) fit-truth
+    let p = quantities-body e in
+    as-body (quantity-body (p .0) h ∙ sym (p .2)) (divided-fits (isCount x) (asWhole x) (asWhole y) v (quantity-range (p .0) h) f)
+binary-sound less h k e f = fits-as (ok-same f) (sym (quantities-body e .2)) fit-truth
 binary-sound equal h k e f = fits-as (ok-same f) (sym (equal-body e .2)) fit-truth
 binary-sound glue {x} {y} {v} h k e f =
     let p = glue-body e in

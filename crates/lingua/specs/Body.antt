@@ -8,7 +8,7 @@ use Rattle.lingua.specs.Outcome.{if_then_else_}
 
 mutual
   pub data Body : Type 0 where
-    boolean number word : Body
+    boolean number word hundredths : Body
     list-of : Body → Body
     record-of : Attributes → Body
 
@@ -23,6 +23,7 @@ unfoldable mutual
   size boolean = 1
   size number = 1
   size word = 1
+  size hundredths = 1
   size (list-of b) = 1 + list-places * size b
   size (record-of fs) = sizes fs
 
@@ -36,6 +37,7 @@ unfoldable mutual
   nodes boolean = 1
   nodes number = 1
   nodes word = 1
+  nodes hundredths = 1
   nodes (list-of b) = 1 + nodes b
   nodes (record-of fs) = 1 + attributeNodes fs
 
@@ -49,6 +51,7 @@ unfoldable mutual
   depth boolean = 1
   depth number = 1
   depth word = 1
+  depth hundredths = 1
   depth (list-of b) = 1 + depth b
   depth (record-of fs) = 1 + attributeDepth fs
 
@@ -65,6 +68,7 @@ unfoldable pub width : Body → ℕ
 width boolean = 0
 width number = 0
 width word = 0
+width hundredths = 0
 width (list-of b) = 0
 width (record-of fs) = countAttributes fs
 
@@ -77,6 +81,7 @@ unfoldable pub isBoolean : Body → Bool
 isBoolean boolean = true
 isBoolean number = false
 isBoolean word = false
+isBoolean hundredths = false
 isBoolean (list-of b) = false
 isBoolean (record-of fs) = false
 
@@ -84,6 +89,7 @@ unfoldable pub isNumber : Body → Bool
 isNumber boolean = false
 isNumber number = true
 isNumber word = false
+isNumber hundredths = false
 isNumber (list-of b) = false
 isNumber (record-of fs) = false
 
@@ -91,16 +97,30 @@ unfoldable pub isWord : Body → Bool
 isWord boolean = false
 isWord number = false
 isWord word = true
+isWord hundredths = false
 isWord (list-of b) = false
 isWord (record-of fs) = false
 
+unfoldable pub isHundredths : Body → Bool
+isHundredths boolean = false
+isHundredths number = false
+isHundredths word = false
+isHundredths hundredths = true
+isHundredths (list-of b) = false
+isHundredths (record-of fs) = false
+
+-- what is reckoned with
+unfoldable pub isQuantity : Body → Bool
+isQuantity b = isNumber b || isHundredths b
+
 unfoldable pub isSimple : Body → Bool
-isSimple b = isBoolean b || isNumber b || isWord b
+isSimple b = isBoolean b || isNumber b || isWord b || isHundredths b
 
 unfoldable pub elementBody : Body → Option Body
 elementBody boolean = none
 elementBody number = none
 elementBody word = none
+elementBody hundredths = none
 elementBody (list-of b) = some b
 elementBody (record-of fs) = none
 
@@ -108,6 +128,7 @@ unfoldable pub attributesOf : Body → Option Attributes
 attributesOf boolean = none
 attributesOf number = none
 attributesOf word = none
+attributesOf hundredths = none
 attributesOf (list-of b) = none
 attributesOf (record-of fs) = some fs
 
@@ -122,6 +143,7 @@ unfoldable mutual
   sameBody boolean c = isBoolean c
   sameBody number c = isNumber c
   sameBody word c = isWord c
+  sameBody hundredths c = isHundredths c
   sameBody (list-of b) c = holds (elementBody c) (λ d. sameBody b d)
   sameBody (record-of fs) c = holds (attributesOf c) (λ gs. sameAttributes fs gs)
 

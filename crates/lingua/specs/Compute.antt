@@ -8,17 +8,18 @@ use lib.Dec.{eqb, ltb, leb}
 use lib.ListN.{length}
 use lib.IntN.{ℤ, pos, negsuc, _+ℤ_, _-ℤ_, _*ℤ_}
 use lib.Signed.{ltZ, quotZ}
-use Rattle.lingua.specs.Numbers.{word-length, list-places}
+use Rattle.lingua.specs.Numbers.{parts-of-one, word-length, list-places}
 use Rattle.lingua.specs.Errors.{overflow, division-by-zero, list-empty, list-full, word-too-long}
 use Rattle.lingua.specs.Outcome.{ok, fail, Result, require, if_then_else_, _>>_}
-use Rattle.lingua.specs.Value.{Value, truth, whole, text, items, fields, Values, no-items, item, Fields, no-fields, field, countValues, inRange, asTruth, asWhole, asText, asItems, asFields}
-use Rattle.lingua.specs.Operation.{Unary, negation, make-record, select, make-list, top, pop, remove, Binary, add, subtract, multiply, divide, less, equal, glue, expand, change, push}
+use Rattle.lingua.specs.Value.{Value, truth, whole, count, text, items, fields, Values, no-items, item, Fields, no-fields, field, countValues, inRangeOf, isCount, quantity, asTruth, asWhole, asText, asItems, asFields}
+use Rattle.lingua.specs.Rounding.{nearest}
+use Rattle.lingua.specs.Operation.{Unary, negation, make-record, select, make-list, top, pop, remove, to-hundredths, to-number, Binary, add, subtract, multiply, divide, less, equal, glue, expand, change, push}
 
--- ---- numbers
-unfoldable pub ranged : ℤ → Result Value
-ranged z = do
-  require (inRange z) overflow
-  ok (whole z)
+-- ---- numbers, and hundredths: h says that hundredths are counted
+unfoldable pub ranged : Bool → ℤ → Result Value
+ranged h z = do
+  require (inRangeOf h z) overflow
+  ok (quantity h z)
 
 unfoldable pub sameNumber : ℤ → ℤ → Bool
 sameNumber (pos m) (pos n) = eqb m n
@@ -30,10 +31,26 @@ sameNumber (negsuc m) (negsuc n) = eqb m n
 unfoldable pub quotient : ℤ → ℤ → ℤ
 quotient x y = quotZ x y
 
-unfoldable pub divided : ℤ → ℤ → Result Value
-divided x y = do
+-- the exact product and quotient of two counts may lie between two counts; the nearest is taken before the range is asked. A quotient of numbers
+-- is in range
+unfoldable pub product : Bool → ℤ → ℤ → ℤ
+product true x y = nearest (x *ℤ y) (pos parts-of-one)
+product false x y = x *ℤ y
+
+unfoldable pub divided : Bool → ℤ → ℤ → Result Value
+divided true x y = do
+  require (not (sameNumber y (pos 0))) division-by-zero
+  ranged true (nearest (pos parts-of-one *ℤ x) y)
+divided false x y = do
   require (not (sameNumber y (pos 0))) division-by-zero
   ok (whole (quotient x y))
+
+-- a number's count of hundredths, and a count's number, cut toward zero
+unfoldable pub counted : ℤ → ℤ
+counted z = pos parts-of-one *ℤ z
+
+unfoldable pub wholePart : ℤ → ℤ
+wholePart z = quotZ z (pos parts-of-one)
 
 -- ---- words
 unfoldable pub sameText : List ℕ → List ℕ → Bool
@@ -51,6 +68,7 @@ glued cs ds = do
 unfoldable pub sameValue : Value → Value → Bool
 sameValue (truth t) y = Bool·beq t (asTruth y)
 sameValue (whole z) y = sameNumber z (asWhole y)
+sameValue (count z) y = sameNumber z (asWhole y)
 sameValue (text cs) y = sameText cs (asText y)
 sameValue (items vs) y = false
 sameValue (fields xs) y = false
@@ -108,12 +126,14 @@ unaryValue make-list x = ok (items (item x no-items))
 unaryValue top x = topOf (asItems x)
 unaryValue pop x = popOf (asItems x)
 unaryValue (remove n) x = ok (fields (removeField n (asFields x)))
+unaryValue to-hundredths x = ok (count (counted (asWhole x)))
+unaryValue to-number x = ok (whole (wholePart (asWhole x)))
 
 unfoldable pub binaryValue : Binary → Value → Value → Result Value
-binaryValue add x y = ranged (asWhole x +ℤ asWhole y)
-binaryValue subtract x y = ranged (asWhole x -ℤ asWhole y)
-binaryValue multiply x y = ranged (asWhole x *ℤ asWhole y)
-binaryValue divide x y = divided (asWhole x) (asWhole y)
+binaryValue add x y = ranged (isCount x) (asWhole x +ℤ asWhole y)
+binaryValue subtract x y = ranged (isCount x) (asWhole x -ℤ asWhole y)
+binaryValue multiply x y = ranged (isCount x) (product (isCount x) (asWhole x) (asWhole y))
+binaryValue divide x y = divided (isCount x) (asWhole x) (asWhole y)
 binaryValue less x y = ok (truth (ltZ (asWhole x) (asWhole y)))
 binaryValue equal x y = ok (truth (sameValue x y))
 binaryValue glue x y = glued (asText x) (asText y)

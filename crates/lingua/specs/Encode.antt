@@ -2,10 +2,10 @@
 use mathlib.Core.List.{List, [], _∷_, _++_}
 use Prim.Native.Nat.{ℕ}
 use Rattle.lingua.specs.Numbers.{body-bytes}
-use Rattle.lingua.specs.Body.{Body, boolean, number, word, list-of, record-of, Attributes, end, attribute, countAttributes}
+use Rattle.lingua.specs.Body.{Body, boolean, number, word, hundredths, list-of, record-of, Attributes, end, attribute, countAttributes}
 use Rattle.lingua.specs.Value.{pad}
 
--- ---- the first byte of each kind of body
+-- ---- the first byte of each kind of body, the number of a type row's kind that makes one
 abbrev pub boolean-tag : ℕ
 boolean-tag = 1
 
@@ -21,6 +21,9 @@ list-tag = 4
 abbrev pub record-tag : ℕ
 record-tag = 5
 
+abbrev pub hundredths-tag : ℕ
+hundredths-tag = 7
+
 -- a list's tag stands before its element's bytes; a record's before its number of attributes, and before each
 -- attribute's bytes stands its number
 unfoldable mutual
@@ -28,6 +31,7 @@ unfoldable mutual
   bytes boolean = boolean-tag ∷ []
   bytes number = number-tag ∷ []
   bytes word = word-tag ∷ []
+  bytes hundredths = hundredths-tag ∷ []
   bytes (list-of b) = list-tag ∷ bytes b
   bytes (record-of fs) = record-tag ∷ countAttributes fs ∷ attributeBytes fs
 

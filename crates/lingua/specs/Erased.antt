@@ -9,11 +9,11 @@ use lib.ListN.{set}
 use Rattle.lingua.specs.Numbers.{reading-place, most-calls}
 use Rattle.lingua.specs.Errors.{no-error, overflow, yoke-not-satisfied, not-filled}
 use Rattle.lingua.specs.Outcome.{ok, Result, _>>=_, _>>_, require, orFail, if_then_else_, allAnswers}
-use Rattle.lingua.specs.Value.{Value, truth, whole, inRange, asTruth, asWhole, asItems, valueList, allOf, Composite, composite}
+use Rattle.lingua.specs.Value.{Value, truth, inRangeOf, quantity, asTruth, asWhole, asItems, valueList, allOf, Composite, composite}
 use Rattle.lingua.specs.Compute.{unaryValue, binaryValue}
 use Rattle.lingua.specs.Expression.{settledBy, Expression, constant, variable, current, unary, binary, lazy, choice, all-list, Yoke, always, yoke, Instruction, skip, assign, set-yoke, sequence, branch, loop, handle, call}
 use Rattle.lingua.specs.Evaluation.{Variables}
-use Rattle.lingua.specs.Store.{Limit, Variable, variableAt, contents, withContent, withYoke, within, Reading}
+use Rattle.lingua.specs.Store.{Limit, Variable, variableAt, contents, withContent, withYoke, within, Reading, countsHundredths}
 use Rattle.lingua.specs.Run.{State, Progress, going, settled, proceed, step, act, decided, handled, repeat, Calling, called, Profile, started}
 
 -- ---- evaluation
@@ -102,10 +102,11 @@ execErased calls (loop r e i) s = repeat (suc (s .left)) (λ t. testErased e (va
 execErased calls (handle r n i) s = step s (λ t. handled (eqb (t .error) n) t (λ u. execErased calls i u))
 execErased calls (call r k vs rs) s = act s (λ t. calls r k vs rs t)
 
+-- the code tells hundredths by the kind of the variable's type row, and needs no body for it
 unfoldable pub readingErased : List Variable → Reading → Result (List Variable)
 readingErased vs r = do
-  require (inRange (r .number)) overflow
-  assignedErased vs (r .variable) (whole (r .number))
+  require (inRangeOf (countsHundredths vs r) (r .number)) overflow
+  assignedErased vs (r .variable) (quantity (countsHundredths vs r) (r .number))
 
 abbrev pub takenErased : Bool → State → ℕ → Reading → State
 takenErased true s i r = settled s (reading-place + i) (readingErased (s .store) r)

@@ -6,6 +6,7 @@ pub mod WellFormed
 pub mod Value
 pub mod Encode
 pub mod Operation
+pub mod Rounding
 pub mod Compute
 pub mod Expression
 pub mod Evaluation
@@ -31,3 +32,4 @@ pub mod Quick
 pub mod Edges
 pub mod Examples
 pub mod CallExamples
+pub mod HundredthsExamples

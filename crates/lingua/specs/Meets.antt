@@ -12,13 +12,13 @@ use lib.IntN.{pos}
 use Rattle.lingua.specs.Numbers.{record-attributes, list-places, most-calls}
 use Rattle.lingua.specs.Errors.{no-error, overflow, division-by-zero, yoke-not-satisfied, list-full, not-filled, too-deep, number-expected, boolean-expected, word-expected, list-expected, record-expected, no-such-attribute, attribute-present, no-coherence, yoke-expected, not-comparable, body-too-large}
 use Rattle.lingua.specs.Outcome.{ok, fail, Result, require, orFail, _>>=_, _>>_}
-use Rattle.lingua.specs.Body.{Body, number, sameBody, coherent, isNumber, isWord, isSimple, elementBody, attributesOf, attributeBody, countAttributes}
-use Rattle.lingua.specs.Value.{whole, asWhole, asItems, countValues, inRange, Composite, composite}
+use Rattle.lingua.specs.Body.{Body, sameBody, coherent, isQuantity, isWord, isSimple, elementBody, attributesOf, attributeBody, countAttributes}
+use Rattle.lingua.specs.Value.{asWhole, asItems, countValues, inRangeOf, Composite}
 use Rattle.lingua.specs.Operation.{Binary, add, subtract, multiply, divide, less, equal, glue, expand, change, push, present}
 use Rattle.lingua.specs.Compute.{sameNumber}
 use Rattle.lingua.specs.Expression.{settledBy, Expression, constant, variable, current, unary, binary, lazy, choice, all-list, Yoke, always, yoke, Instruction, skip, assign, set-yoke, sequence, branch, loop, handle, call}
 use Rattle.lingua.specs.Evaluation.{Variables, eval, evalYoke, evalTest, applyUnary, applyBinary, truthOr, elementsOf, no-current}
-use Rattle.lingua.specs.Store.{Variable, variableAt, presentBody, contents, within, assigned, copied, copiedIn, Reading}
+use Rattle.lingua.specs.Store.{Variable, variableAt, presentBody, contents, within, assigned, copied, copiedIn, Reading, countsHundredths, readingValue}
 use Rattle.lingua.specs.Run.{State, Progress, going, out, withStore, withLeft, withError, settled, Calling, exec, Procedure, procedureAt, begun, carried, called, Profile, started, takenUnless, takeReadings}
 use Rattle.lingua.specs.Typing.{joined}
 
@@ -59,11 +59,11 @@ pushMet x = do
   require (ltb (countValues (asItems (x .value))) list-places) list-full
 
 unfoldable pub firstMet : Binary → Composite → List ℕ
-firstMet add x = unlessMet (isNumber (x .body)) number-expected
-firstMet subtract x = unlessMet (isNumber (x .body)) number-expected
-firstMet multiply x = unlessMet (isNumber (x .body)) number-expected
-firstMet divide x = unlessMet (isNumber (x .body)) number-expected
-firstMet less x = unlessMet (isNumber (x .body)) number-expected
+firstMet add x = unlessMet (isQuantity (x .body)) number-expected
+firstMet subtract x = unlessMet (isQuantity (x .body)) number-expected
+firstMet multiply x = unlessMet (isQuantity (x .body)) number-expected
+firstMet divide x = unlessMet (isQuantity (x .body)) number-expected
+firstMet less x = unlessMet (isQuantity (x .body)) number-expected
 firstMet equal x = unlessMet (isSimple (x .body)) not-comparable
 firstMet glue x = unlessMet (isWord (x .body)) word-expected
 firstMet (expand n) x = errorIn (expandMet n (x .body))
@@ -73,15 +73,15 @@ firstMet push x = errorIn (pushMet x)
 -- a divisor that is 0 divides nothing
 unfoldable pub divisorMet : Composite → Result (Unit {0})
 divisorMet y = do
-  require (isNumber (y .body)) number-expected
+  require (isQuantity (y .body)) number-expected
   require (not (sameNumber (asWhole (y .value)) (pos 0))) division-by-zero
 
 unfoldable pub secondMet : Binary → Composite → List ℕ
-secondMet add y = unlessMet (isNumber (y .body)) number-expected
-secondMet subtract y = unlessMet (isNumber (y .body)) number-expected
-secondMet multiply y = unlessMet (isNumber (y .body)) number-expected
+secondMet add y = unlessMet (isQuantity (y .body)) number-expected
+secondMet subtract y = unlessMet (isQuantity (y .body)) number-expected
+secondMet multiply y = unlessMet (isQuantity (y .body)) number-expected
 secondMet divide y = errorIn (divisorMet y)
-secondMet less y = unlessMet (isNumber (y .body)) number-expected
+secondMet less y = unlessMet (isQuantity (y .body)) number-expected
 secondMet equal y = unlessMet (isSimple (y .body)) not-comparable
 secondMet glue y = unlessMet (isWord (y .body)) word-expected
 secondMet (expand n) y = []
@@ -226,8 +226,8 @@ calledMet ps (suc n) r k vs rs s =
 -- ---- readings, then the program
 unfoldable pub readingMet : List Variable → Reading → List ℕ
 readingMet vs r =
-    unlessMet (inRange (r .number)) overflow
-    ++ onTrue (inRange (r .number)) (assignMet vs (r .variable) (composite number (whole (r .number))))
+    unlessMet (inRangeOf (countsHundredths vs r) (r .number)) overflow
+    ++ onTrue (inRangeOf (countsHundredths vs r) (r .number)) (assignMet vs (r .variable) (readingValue (countsHundredths vs r) (r .number)))
 
 unfoldable pub readingsMet : ℕ → List Reading → State → List ℕ
 readingsMet i [] s = []

@@ -9,6 +9,17 @@ lowest-number = negsuc 999999
 abbrev pub highest-number : ℤ
 highest-number = pos 1000000
 
+-- a count of hundredths
+abbrev pub lowest-count : ℤ
+lowest-count = negsuc 99999999
+
+abbrev pub highest-count : ℤ
+highest-count = pos 100000000
+
+-- the hundredths in a whole
+abbrev pub parts-of-one : ℕ
+parts-of-one = 100
+
 abbrev pub word-length : ℕ
 word-length = 8
 

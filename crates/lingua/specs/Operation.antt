@@ -1,19 +1,20 @@
--- The operations of expression kinds 5 to 23 but and, or, if, and of 26, and their half on bodies: the operands' bodies give the
+-- The operations of expression kinds 5 to 23 but and, or, if, and of 26, 28 and 29, and their half on bodies: the operands' bodies give the
 -- result's body, or the lowest type error that applies (document 01, Evaluation). Assumes nothing: these are definitions.
 use mathlib.Core.Bool.{Bool, not, _&&_}
 use Prim.Native.Nat.{ℕ}
 use lib.Dec.{ltb}
 use Rattle.lingua.specs.Errors.{number-expected, boolean-expected, word-expected, list-expected, record-expected, no-such-attribute, attribute-present, no-coherence, not-comparable, body-too-large, last-attribute}
 use Rattle.lingua.specs.Outcome.{ok, Result, require, orFail, isSome, _>>=_, _>>_}
-use Rattle.lingua.specs.Body.{Body, boolean, number, word, list-of, record-of, Attributes, end, attribute, sameBody, isBoolean, isNumber, isWord, isSimple, elementBody, attributesOf, countAttributes, attributeBody, insertAttribute, removeAttribute, tooLarge}
+use Rattle.lingua.specs.Body.{Body, boolean, number, word, hundredths, list-of, record-of, Attributes, end, attribute, sameBody, isBoolean, isNumber, isWord, isHundredths, isQuantity, isSimple, elementBody, attributesOf, countAttributes, attributeBody, insertAttribute, removeAttribute, tooLarge}
 
--- of one operand: kinds 14, 16, 18, 20, 22, 23, 26; a record's operations name an attribute
+-- of one operand: kinds 14, 16, 18, 20, 22, 23, 26, 28, 29; a record's operations name an attribute
 pub data Unary : Type 0 where
   negation : Unary
   make-record : ℕ → Unary
   select : ℕ → Unary
   make-list top pop : Unary
   remove : ℕ → Unary
+  to-hundredths to-number : Unary
 
 -- of two operands: kinds 5 to 10, 13, 17, 19, 21
 pub data Binary : Type 0 where
@@ -49,19 +50,25 @@ unaryBody (remove n) b = do
   require (present n fs) no-such-attribute
   require (ltb 1 (countAttributes fs)) last-attribute
   ok (record-of (removeAttribute n fs))
+unaryBody to-hundredths b = do
+  require (isNumber b) number-expected
+  ok hundredths
+unaryBody to-number b = do
+  require (isHundredths b) number-expected
+  ok number
 
--- two numbers
-unfoldable pub numbersTo : Body → Body → Body → Result Body
-numbersTo d b c = do
-  require (isNumber b && isNumber c) number-expected
+-- two numbers, or two hundredths; a pair of one and the other is neither
+unfoldable pub quantitiesTo : Body → Body → Body → Result Body
+quantitiesTo d b c = do
+  require (isQuantity b && sameBody b c) number-expected
   ok d
 
 unfoldable pub binaryBody : Binary → Body → Body → Result Body
-binaryBody add b c = numbersTo number b c
-binaryBody subtract b c = numbersTo number b c
-binaryBody multiply b c = numbersTo number b c
-binaryBody divide b c = numbersTo number b c
-binaryBody less b c = numbersTo boolean b c
+binaryBody add b c = quantitiesTo b b c
+binaryBody subtract b c = quantitiesTo b b c
+binaryBody multiply b c = quantitiesTo b b c
+binaryBody divide b c = quantitiesTo b b c
+binaryBody less b c = quantitiesTo boolean b c
 binaryBody equal b c = do
   require (isSimple b && sameBody b c) not-comparable
   ok boolean

@@ -1,7 +1,7 @@
 -- What the code's operations mean. Assumes nothing: these are definitions.
-use Rattle.lingua.specs.Operation.{Unary, negation, make-record, select, make-list, top, pop, remove, Binary, add, subtract, multiply, divide, less, equal, glue, expand, change, push}
+use Rattle.lingua.specs.Operation.{Unary, negation, make-record, select, make-list, top, pop, remove, to-hundredths, to-number, Binary, add, subtract, multiply, divide, less, equal, glue, expand, change, push}
 use Rattle.lingua.specs.declared.operations.UnaryOperation.{UnaryOperation}
-use Rattle.lingua.specs.declared.operations.UnaryOperation.the-variants.{Negation, MakeRecord, Select, MakeList, Top, Pop, Remove}
+use Rattle.lingua.specs.declared.operations.UnaryOperation.the-variants.{Negation, MakeRecord, Select, MakeList, Top, Pop, Remove, ToHundredths, ToNumber}
 use Rattle.lingua.specs.declared.operations.BinaryOperation.{BinaryOperation}
 use Rattle.lingua.specs.declared.operations.BinaryOperation.the-variants.{Add, Subtract, Multiply, Divide, Less, Equal, Glue, Expand, Change, Push}
 
@@ -13,6 +13,8 @@ unaryMeaning MakeList = make-list
 unaryMeaning Top = top
 unaryMeaning Pop = pop
 unaryMeaning (Remove n) = remove n
+unaryMeaning ToHundredths = to-hundredths
+unaryMeaning ToNumber = to-number
 
 unfoldable pub binaryMeaning : BinaryOperation → Binary
 binaryMeaning Add = add

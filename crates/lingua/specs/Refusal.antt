@@ -8,11 +8,12 @@ use lib.Signed.{leZ}
 use Rattle.lingua.specs.Numbers.{row-bytes, rows-length, cells-length, states-length, layout-length, open-cells-length, open-states-length, present-bodies-length, most-readings, declaration-section, limit-section}
 use Rattle.lingua.specs.Errors.{no-error, bad-buffer, bad-length, bad-marker, bad-header, bad-check, bad-form, bad-count, bad-name, bad-constant, bad-reference, bad-use, misplaced, bad-type, models-differ, bad-limit, bad-reading, type-error-found, bad-parameters, repeated-reference, refusal-order}
 use Rattle.lingua.specs.Outcome.{ok, fail, Result, isOk, if_then_else_}
-use Rattle.lingua.specs.Body.{Body, isNumber}
-use Rattle.lingua.specs.Value.{inRange, allOf}
+use Rattle.lingua.specs.Body.{Body, isHundredths, isQuantity}
+use Rattle.lingua.specs.Value.{inRangeOf, allOf}
 use Rattle.lingua.specs.Compute.{sameText}
 use Rattle.lingua.specs.Typing.{checkProfile}
 use Rattle.lingua.specs.Rows.{rowCount, pairCount}
+use Rattle.lingua.specs.Store.{Limit}
 use Rattle.lingua.specs.Trees.{declaredBody, limitRow, nameAt, profileOf}
 use Rattle.lingua.specs.Format.{File, profile, limits, modelOf, rowsOf, fileLength, everyBelow, lengthWrong, markerWrong, headerWrong, blockCheckWrong}
 use Rattle.lingua.specs.Inputs.{Inputs, Buffers}
@@ -79,25 +80,31 @@ unfoldable pub wholeFileRules : File → List ℕ → List Rule
 wholeFileRules f file = fileRules f file ++ rowRules f (rowsOf file)
 
 -- ---- both files
-abbrev pub isNumberBody : Result Body → Bool
-isNumberBody (ok b) = isNumber b
-isNumberBody (fail n) = false
+abbrev pub bodyHas : (Body → Bool) → Result Body → Bool
+bodyHas p (ok b) = p b
+bodyHas p (fail n) = false
 
--- whether declaration d is a number variable
-unfoldable pub isNumberVariable : List ℕ → ℕ → Bool
-isNumberVariable rows d = ltb d (pairCount rows declaration-section) && isNumberBody (declaredBody rows d)
+-- whether declaration d is a variable whose body has the property
+unfoldable pub isVariableOf : (Body → Bool) → List ℕ → ℕ → Bool
+isVariableOf p rows d = ltb d (pairCount rows declaration-section) && bodyHas p (declaredBody rows d)
 
--- some declaration has the name and is a number variable
-unfoldable pub namesNumber : List ℕ → List ℕ → Bool
-namesNumber rows name =
-    not (everyBelow (pairCount rows declaration-section) (λ d. not (sameText (nameAt rows declaration-section d) name && isNumberVariable rows d)))
+-- a number variable, or one in hundredths
+unfoldable pub isQuantityVariable : List ℕ → ℕ → Bool
+isQuantityVariable rows d = isVariableOf isQuantity rows d
+
+-- a value of the body may have either end
+unfoldable pub endsFit : Limit → Body → Bool
+endsFit l b = isQuantity b && inRangeOf (isHundredths b) (l .low) && inRangeOf (isHundredths b) (l .high)
+
+-- some declaration has the name and is a variable whose body has the property
+unfoldable pub namesOne : (Body → Bool) → List ℕ → List ℕ → Bool
+namesOne p rows name =
+    not (everyBelow (pairCount rows declaration-section) (λ d. not (sameText (nameAt rows declaration-section d) name && isVariableOf p rows d)))
 
 unfoldable pub limitFits : List ℕ → List ℕ → ℕ → Bool
 limitFits rows limitRows l =
     leZ (limitRow limitRows l .low) (limitRow limitRows l .high)
-    && inRange (limitRow limitRows l .low)
-    && inRange (limitRow limitRows l .high)
-    && namesNumber rows (nameAt limitRows limit-section l)
+    && namesOne (endsFit (limitRow limitRows l)) rows (nameAt limitRows limit-section l)
 
 unfoldable pub limitWrong : List ℕ → List ℕ → Bool
 limitWrong rows limitRows = not (everyBelow (pairCount limitRows limit-section) (λ l. limitFits rows limitRows l))
@@ -114,7 +121,7 @@ pairRules prof lims =
 -- ---- readings
 unfoldable pub readingWrong : List ℕ → List ℕ → Bool
 readingWrong rows variables =
-    ltb most-readings (length variables) || not (allOf (λ v. isNumberVariable rows v) variables)
+    ltb most-readings (length variables) || not (allOf (λ v. isQuantityVariable rows v) variables)
 
 -- ---- the calls
 unfoldable pub readRefusal : File → List ℕ → List ℕ → ℕ

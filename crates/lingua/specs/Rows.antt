@@ -11,9 +11,9 @@ use mir.Syntax.{w32, w64}
 use mir.Val.{toZ}
 use Rattle.lingua.specs.Numbers.{row-bytes, type-section, expression-section, instruction-section, procedure-section, header-table}
 use Rattle.lingua.specs.Outcome.{if_then_else_}
-use Rattle.lingua.specs.Body.{Body, boolean, number, word}
-use Rattle.lingua.specs.Value.{truth, whole, text, Composite, composite}
-use Rattle.lingua.specs.Operation.{Unary, negation, make-record, select, make-list, top, pop, remove, Binary, add, subtract, multiply, divide, less, equal, glue, expand, change, push}
+use Rattle.lingua.specs.Body.{Body, boolean, number, word, hundredths}
+use Rattle.lingua.specs.Value.{truth, whole, count, text, Composite, composite}
+use Rattle.lingua.specs.Operation.{Unary, negation, make-record, select, make-list, top, pop, remove, to-hundredths, to-number, Binary, add, subtract, multiply, divide, less, equal, glue, expand, change, push}
 use Rattle.lingua.specs.Expression.{Connective, conjunction, disjunction}
 
 -- ---- fields
@@ -174,6 +174,7 @@ typeKinds =
     ∷ field-kind 4 2 (λ a b c. list-type a)
     ∷ field-kind 5 4 (λ a b c. record-type a b)
     ∷ field-kind 6 6 (λ a b c. expand-type a b c)
+    ∷ field-kind 7 0 (λ a b c. simple-type hundredths)
     ∷ []
 
 unfoldable pub typeAt : List ℕ → ℕ → TypeRow
@@ -188,11 +189,13 @@ pub data Constant : Type 0 where
   boolean-constant : ℕ → Constant
   number-constant : ℤ → Constant
   word-constant : List ℕ → Constant
+  hundredths-constant : ℤ → Constant
 
 unfoldable pub constantValue : Constant → Composite
 constantValue (boolean-constant n) = composite boolean (truth (not (eqb n 0)))
 constantValue (number-constant z) = composite number (whole z)
 constantValue (word-constant cs) = composite word (text (untilZero cs))
+constantValue (hundredths-constant z) = composite hundredths (count z)
 
 pub data ExpressionRow : Type 0 where
   constant-row : Constant → ExpressionRow
@@ -237,6 +240,9 @@ expressionKinds =
     ∷ field-kind 24 0 (λ a b c. current-row)
     ∷ field-kind 25 2 (λ a b c. all-list-row a)
     ∷ field-kind 26 4 (λ a b c. unary-row (remove b) a)
+    ∷ constant-kind 27 (λ rows i. hundredths-constant (numberAt rows i))
+    ∷ field-kind 28 2 (λ a b c. unary-row to-hundredths a)
+    ∷ field-kind 29 2 (λ a b c. unary-row to-number a)
     ∷ []
 
 unfoldable pub expressionAt : List ℕ → ℕ → ExpressionRow

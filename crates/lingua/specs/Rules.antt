@@ -9,10 +9,10 @@ use lib.ListN.{length, getD, drop}
 use Rattle.lingua.specs.Numbers.{attribute-numbers, word-length, most-variables, most-types, most-expressions, most-instructions, most-limits, most-procedures, declaration-section, type-section, expression-section, instruction-section, limit-section, procedure-section, scopeTable}
 use Rattle.lingua.specs.Errors.{isError}
 use Rattle.lingua.specs.Outcome.{if_then_else_}
-use Rattle.lingua.specs.Value.{inRange, isCharacter, allOf}
-use Rattle.lingua.specs.Operation.{Unary, negation, make-record, select, make-list, top, pop, remove, Binary, add, subtract, multiply, divide, less, equal, glue, expand, change, push}
+use Rattle.lingua.specs.Value.{inRange, inCounts, isCharacter, allOf}
+use Rattle.lingua.specs.Operation.{Unary, negation, make-record, select, make-list, top, pop, remove, to-hundredths, to-number, Binary, add, subtract, multiply, divide, less, equal, glue, expand, change, push}
 use Rattle.lingua.specs.Compute.{sameText}
-use Rattle.lingua.specs.Rows.{rowCount, sectionAt, kindAt, bytesAt, rowIn, procedureKind, tableCount, pairCount, procedureCount, numbered, usedOf, TypeRow, simple-type, list-type, record-type, expand-type, unknown-type, typeKinds, typeRow, Constant, boolean-constant, number-constant, word-constant, ExpressionRow, constant-row, variable-row, current-row, unary-row, binary-row, lazy-row, choice-row, all-list-row, unknown-expression, expressionKinds, expressionRow, InstructionRow, skip-row, assign-row, set-yoke-row, sequence-row, branch-row, loop-row, handle-row, call-row, unknown-instruction, instructionKinds, instructionRow}
+use Rattle.lingua.specs.Rows.{rowCount, sectionAt, kindAt, bytesAt, rowIn, procedureKind, tableCount, pairCount, procedureCount, numbered, usedOf, TypeRow, simple-type, list-type, record-type, expand-type, unknown-type, typeKinds, typeRow, Constant, boolean-constant, number-constant, word-constant, hundredths-constant, ExpressionRow, constant-row, variable-row, current-row, unary-row, binary-row, lazy-row, choice-row, all-list-row, unknown-expression, expressionKinds, expressionRow, InstructionRow, skip-row, assign-row, set-yoke-row, sequence-row, branch-row, loop-row, handle-row, call-row, unknown-instruction, instructionKinds, instructionRow}
 use Rattle.lingua.specs.Trees.{nameAt}
 use Rattle.lingua.specs.Format.{File, profile, limits, allZero, everyBelow}
 
@@ -108,6 +108,7 @@ nameWrong limits rows = not (namesFit rows limit-section)
 unfoldable pub constantFits : Constant → Bool
 constantFits (boolean-constant n) = leb n 1
 constantFits (number-constant z) = inRange z
+constantFits (hundredths-constant z) = inCounts z
 constantFits (word-constant cs) = leb (length cs) word-length && paddedBy isCharacter cs
 
 -- other rows have no constant
@@ -130,6 +131,8 @@ unaryAttribute make-list = []
 unaryAttribute top = []
 unaryAttribute pop = []
 unaryAttribute (remove n) = n ∷ []
+unaryAttribute to-hundredths = []
+unaryAttribute to-number = []
 
 unfoldable pub binaryAttribute : Binary → List ℕ
 binaryAttribute add = []

@@ -11,8 +11,8 @@ use lib.Signed.{leZ}
 use Rattle.lingua.specs.Numbers.{body-cells, cells-length, state-words, states-length, variable-bodies-length, open-cells-length, open-states-length, open-bodies-length}
 use Rattle.lingua.specs.Errors.{overflow, yoke-not-satisfied, not-filled, no-coherence, yoke-expected}
 use Rattle.lingua.specs.Outcome.{ok, Result, require, orFail, _>>=_, _>>_}
-use Rattle.lingua.specs.Body.{Body, boolean, number, coherent}
-use Rattle.lingua.specs.Value.{whole, inRange, asWhole, pad, cellsOf, Composite, composite}
+use Rattle.lingua.specs.Body.{Body, boolean, isHundredths, coherent}
+use Rattle.lingua.specs.Value.{inRangeOf, asWhole, pad, cellsOf, Composite, composite, quantity, quantityBody}
 use Rattle.lingua.specs.Encode.{encoded}
 use Rattle.lingua.specs.Expression.{Yoke, always, yokeNumber}
 use Rattle.lingua.specs.Evaluation.{Variables, truthOr, evalYoke}
@@ -107,10 +107,17 @@ pub record Reading : Type 0 where
   pub variable : ℕ
   pub number : ℤ
 
+-- a hundredths variable's reading is a count. Such a variable's present body is the declared one: no other is coherent with it
+abbrev pub countsHundredths : List Variable → Reading → Bool
+countsHundredths vs r = isHundredths (presentBody (variableAt vs (r .variable)))
+
+abbrev pub readingValue : Bool → ℤ → Composite
+readingValue h z = composite (quantityBody h) (quantity h z)
+
 unfoldable pub readingTaken : List Variable → Reading → Result (List Variable)
 readingTaken vs r = do
-  require (inRange (r .number)) overflow
-  assigned vs (r .variable) (composite number (whole (r .number)))
+  require (inRangeOf (countsHundredths vs r) (r .number)) overflow
+  assigned vs (r .variable) (readingValue (countsHundredths vs r) (r .number))
 
 -- ---- the store as lent memory: variable v's cells from 64 v on, its state words from 2 v on, and its present body's bytes from 96 v on
 unfoldable pub contentCells : Option Composite → List ℤ

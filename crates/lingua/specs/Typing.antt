@@ -9,8 +9,8 @@ use lib.ListN.{getD, set, replicate}
 use Rattle.lingua.specs.Numbers.{layout-length, instruction-place, declaration-place}
 use Rattle.lingua.specs.Errors.{boolean-expected, list-expected, no-coherence, yoke-expected}
 use Rattle.lingua.specs.Outcome.{Outcome, ok, fail, Result, require, if_then_else_, orFail, orElse, answerOf, both, allAnswers, _>>=_, _>>_}
-use Rattle.lingua.specs.Body.{Body, boolean, Attributes, size, sameBody, isBoolean, elementBody, attributesOf, attributeOffset}
-use Rattle.lingua.specs.Operation.{Unary, negation, make-record, select, make-list, top, pop, remove, Binary, add, subtract, multiply, divide, less, equal, glue, expand, change, push, unaryBody, binaryBody}
+use Rattle.lingua.specs.Body.{Body, boolean, Attributes, size, sameBody, isBoolean, isHundredths, elementBody, attributesOf, attributeOffset}
+use Rattle.lingua.specs.Operation.{Unary, negation, make-record, select, make-list, top, pop, remove, to-hundredths, to-number, Binary, add, subtract, multiply, divide, less, equal, glue, expand, change, push, unaryBody, binaryBody}
 use Rattle.lingua.specs.Expression.{Expression, constant, variable, current, unary, binary, lazy, choice, all-list, Yoke, always, yoke, Instruction, skip, assign, set-yoke, sequence, branch, loop, handle, call}
 use Rattle.lingua.specs.Evaluation.{no-current}
 use Rattle.lingua.specs.Run.{Declaration, Scoped, Profile, scopeDeclarations}
@@ -77,14 +77,20 @@ unarySecond make-list b = 0
 unarySecond top b = 0
 unarySecond pop b = 0
 unarySecond (remove n) b = offsetIn n b
+unarySecond to-hundredths b = 0
+unarySecond to-number b = 0
 
--- from the operands' bodies b and c and the result's d: the offset in the result, of a new attribute in the widened record, of a changed
--- one where it was
+-- 1 for hundredths
+unfoldable pub hundredthsFlag : Body → ℕ
+hundredthsFlag b = if isHundredths b then 1 else 0
+
+-- from the operands' bodies b and c and the result's d: whether hundredths are reckoned with; the offset in the result, of a new attribute in
+-- the widened record, of a changed one where it was
 unfoldable pub binarySecond : Binary → Body → Body → Body → ℕ
-binarySecond add b c d = 0
-binarySecond subtract b c d = 0
-binarySecond multiply b c d = 0
-binarySecond divide b c d = 0
+binarySecond add b c d = hundredthsFlag d
+binarySecond subtract b c d = hundredthsFlag d
+binarySecond multiply b c d = hundredthsFlag d
+binarySecond divide b c d = hundredthsFlag d
 binarySecond less b c d = 0
 binarySecond equal b c d = 0
 binarySecond glue b c d = 0

@@ -8,13 +8,15 @@ use lib.Dec.{leb}
 use lib.ListN.{length, replicate}
 use lib.IntN.{ℤ, pos}
 use lib.Signed.{leZ}
-use Rattle.lingua.specs.Numbers.{lowest-number, highest-number, word-length, lowest-character, highest-character, list-places}
-use Rattle.lingua.specs.Body.{Body, boolean, number, word, list-of, record-of, Attributes, end, attribute, size}
+use Rattle.lingua.specs.Numbers.{lowest-number, highest-number, lowest-count, highest-count, word-length, lowest-character, highest-character, list-places}
+use Rattle.lingua.specs.Body.{Body, boolean, number, word, hundredths, list-of, record-of, Attributes, end, attribute, size}
 
 mutual
   pub data Value : Type 0 where
     truth : Bool → Value
     whole : ℤ → Value
+    -- so many hundredths
+    count : ℤ → Value
     -- character codes
     text : List ℕ → Value
     items : Values → Value
@@ -43,6 +45,14 @@ valueList (item v vs) = v ∷ valueList vs
 unfoldable pub inRange : ℤ → Bool
 inRange z = leZ lowest-number z && leZ z highest-number
 
+unfoldable pub inCounts : ℤ → Bool
+inCounts z = leZ lowest-count z && leZ z highest-count
+
+-- in the range of a count of hundredths, or of a number
+unfoldable pub inRangeOf : Bool → ℤ → Bool
+inRangeOf true z = inCounts z
+inRangeOf false z = inRange z
+
 unfoldable pub isCharacter : ℕ → Bool
 isCharacter c = leb lowest-character c && leb c highest-character
 
@@ -58,6 +68,7 @@ mutual
   pub data Fits : Value → Body → Type 0 where
     fit-truth : {t : Bool} → Fits (truth t) boolean
     fit-whole : {z : ℤ} → inRange z ≡ true → Fits (whole z) number
+    fit-hundredths : {z : ℤ} → inCounts z ≡ true → Fits (count z) hundredths
     fit-text : {cs : List ℕ} → isText cs ≡ true → Fits (text cs) word
     fit-items : {vs : Values} {b : Body} → countValues vs ≤ list-places → AllFit vs b → Fits (items vs) (list-of b)
     fit-fields : {xs : Fields} {fs : Attributes} → FieldsFit xs fs → Fits (fields xs) (record-of fs)
@@ -74,13 +85,16 @@ mutual
 unfoldable pub asTruth : Value → Bool
 asTruth (truth t) = t
 asTruth (whole z) = false
+asTruth (count z) = false
 asTruth (text cs) = false
 asTruth (items vs) = false
 asTruth (fields xs) = false
 
+-- a number, or a count
 unfoldable pub asWhole : Value → ℤ
 asWhole (truth t) = pos 0
 asWhole (whole z) = z
+asWhole (count z) = z
 asWhole (text cs) = pos 0
 asWhole (items vs) = pos 0
 asWhole (fields xs) = pos 0
@@ -88,6 +102,7 @@ asWhole (fields xs) = pos 0
 unfoldable pub asText : Value → List ℕ
 asText (truth t) = []
 asText (whole z) = []
+asText (count z) = []
 asText (text cs) = cs
 asText (items vs) = []
 asText (fields xs) = []
@@ -95,6 +110,7 @@ asText (fields xs) = []
 unfoldable pub asItems : Value → Values
 asItems (truth t) = no-items
 asItems (whole z) = no-items
+asItems (count z) = no-items
 asItems (text cs) = no-items
 asItems (items vs) = vs
 asItems (fields xs) = no-items
@@ -102,6 +118,7 @@ asItems (fields xs) = no-items
 unfoldable pub asFields : Value → Fields
 asFields (truth t) = no-fields
 asFields (whole z) = no-fields
+asFields (count z) = no-fields
 asFields (text cs) = no-fields
 asFields (items vs) = no-fields
 asFields (fields xs) = xs
@@ -143,6 +160,7 @@ unfoldable mutual
   cellsOf boolean v = bit (asTruth v) ∷ []
   cellsOf number v = asWhole v ∷ []
   cellsOf word v = packed (asText v) ∷ []
+  cellsOf hundredths v = asWhole v ∷ []
   cellsOf (list-of b) v = pos (countValues (asItems v)) ∷ pad (list-places * size b) (pos 0) (flat (λ x. cellsOf b x) (asItems v))
   cellsOf (record-of fs) v = fieldCells fs (asFields v)
 
@@ -157,3 +175,20 @@ pub record Composite : Type 0 where
 
 abbrev pub composite : Body → Value → Composite
 composite b v = record { body = b; value = v }
+
+-- ---- what is reckoned with: a count of hundredths, or a number
+abbrev pub isCount : Value → Bool
+isCount (truth t) = false
+isCount (whole z) = false
+isCount (count z) = true
+isCount (text cs) = false
+isCount (items vs) = false
+isCount (fields xs) = false
+
+abbrev pub quantity : Bool → ℤ → Value
+quantity true z = count z
+quantity false z = whole z
+
+abbrev pub quantityBody : Bool → Body
+quantityBody true = hundredths
+quantityBody false = number

@@ -2,7 +2,7 @@
 -- within its bounds; and all of it holds of every body inside. Assumes nothing: these are definitions.
 use Prim.Native.Nat.{ℕ, suc, _≤_, _<_}
 use Rattle.lingua.specs.Numbers.{body-cells, body-nodes, body-depth, record-attributes, attribute-numbers}
-use Rattle.lingua.specs.Body.{Body, boolean, number, word, list-of, record-of, Attributes, end, attribute, size, nodes, depth, countAttributes}
+use Rattle.lingua.specs.Body.{Body, boolean, number, word, hundredths, list-of, record-of, Attributes, end, attribute, size, nodes, depth, countAttributes}
 
 -- at most 64 cells, 32 nodes and depth 4
 pub record InBounds (b : Body) : Type 0 where
@@ -15,6 +15,7 @@ mutual
     formed-boolean : WellFormed boolean
     formed-number : WellFormed number
     formed-word : WellFormed word
+    formed-hundredths : WellFormed hundredths
     formed-list : {b : Body} → InBounds (list-of b) → WellFormed b → WellFormed (list-of b)
     formed-record : {fs : Attributes} → InBounds (record-of fs) → 1 ≤ countAttributes fs → countAttributes fs ≤ record-attributes → FormedFrom 0 fs → WellFormed (record-of fs)
 

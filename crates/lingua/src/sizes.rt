@@ -4,6 +4,13 @@ pub const LOWEST_NUMBER: i64 = -1000000;
 
 pub const HIGHEST_NUMBER: i64 = 1000000;
 
+// of a count of hundredths, and how many there are in a whole
+pub const LOWEST_COUNT: i64 = -100000000;
+
+pub const HIGHEST_COUNT: i64 = 100000000;
+
+pub const PARTS_OF_ONE: i64 = 100;
+
 pub const LOWEST_CHARACTER: u8 = 32;
 
 pub const HIGHEST_CHARACTER: u8 = 126;

@@ -1,7 +1,7 @@
 -- Rules 15 and 16: the order of signed numbers, tests of every limit and every reading, and the limits' owners. Assumes nothing.
 use mathlib.Core.Path.{_≡_, refl, sym, ap, subst, _∙_}
 use mathlib.Core.Logic.{⊎-elim}
-use mathlib.Core.Bool.{Bool, true, false, not, _&&_, _||_, and-false}
+use mathlib.Core.Bool.{Bool, true, false, not, _&&_, and-false}
 use mathlib.Core.List.{List, [], _∷_}
 use mathlib.Core.Option.{some}
 use Prim.Native.Nat.{ℕ, zero, suc, _+_, _/_, _≤_, _<_}
@@ -11,24 +11,27 @@ use lib.ListN.{length, getD, set}
 use lib.Seq.{getD-set-same, getD-set-other}
 use lib.IntN.{ℤ, pos, negsuc}
 use lib.Signed.{ltZ, leZ}
-use borrow.Author.Tests.{ltb-true, ltb-false, lt-ltb, le-ltb, le-leb, lt-leb}
-use Rattle.lingua.specs.Numbers.{lowest-number, highest-number, most-variables, most-readings, declaration-section, limit-section}
-use Rattle.lingua.specs.Value.{inRange, allOf}
-use Rattle.lingua.specs.Compute.{sameText}
+use borrow.Author.Tests.{ltb-true, ltb-false, lt-ltb, le-ltb, le-leb, lt-leb, eq-eqb, ne-eqb}
+use Rattle.lingua.specs.Numbers.{most-variables, most-readings, limit-section}
+use Rattle.lingua.specs.Body.{Body, isHundredths, isQuantity}
+use Rattle.lingua.specs.Value.{inRangeOf, allOf}
 use Rattle.lingua.specs.Rows.{pairCount}
 use Rattle.lingua.specs.Trees.{limitRow, nameAt}
 use Rattle.lingua.specs.Lookup.{lookUp}
 use Rattle.lingua.specs.Format.{everyBelow}
-use Rattle.lingua.specs.Refusal.{isNumberVariable, namesNumber, limitFits, limitWrong, readingWrong}
+use Rattle.lingua.specs.Refusal.{isQuantityVariable, endsFit, namesOne, limitFits, limitWrong, readingWrong}
 use Rattle.laws.specs.Outcomes.{and-both}
 use Rattle.laws.specs.Tests.{below-suc, every-at, every-more, every-false}
 use Rattle.laws.specs.Lookup.{found-first}
 use Rattle.safety.specs.Accepted.{AcceptedRows}
 use Rattle.rules.specs.Accepted.{counts}
+use Rattle.body.specs.Encode.{Holds}
+use Rattle.body.proofs.Tags.{is-hundredths, not-hundredths}
 use Rattle.decoder.specs.declared.tables.Table.{Table}
-use Rattle.profile.specs.Find.{NumberNamed, OwnerIs, LimitsRead, OwnersBelow, LimitsOwned}
+use Rattle.profile.specs.Find.{limit, OneNamed, OwnerIs, LimitsRead, OwnersBelow, LimitsOwned}
 use Rattle.profile.specs.declared.agreement.Owner.{Owner}
 use Rattle.profile.specs.declared.agreement.Owner.the-variants as owner
+use Rattle.profile.proofs.Declaring.{hundredths-first, number-first}
 
 -- ---- order
 nat-order : (a b : ℕ) → leb b a ≡ not (ltb a b)
@@ -44,18 +47,6 @@ order (pos a) (negsuc b) = refl
 order (negsuc a) (pos b) = refl
 order (negsuc a) (negsuc b) = nat-order b a
 
-pub below-range : (z : ℤ) → ltZ z lowest-number ≡ true → false ≡ inRange z
-unfolding inRange
-below-range z e = sym (ap (λ (t : Bool). t && leZ z highest-number) (order z lowest-number ∙ ap not e))
-
-pub above-range : (z : ℤ) → ltZ highest-number z ≡ true → false ≡ inRange z
-unfolding inRange
-above-range z e = sym (ap (λ (t : Bool). leZ lowest-number z && t) (order highest-number z ∙ ap not e) ∙ and-false (leZ lowest-number z))
-
-pub in-its-range : (z : ℤ) → ltZ z lowest-number ≡ false → ltZ highest-number z ≡ false → true ≡ inRange z
-unfolding inRange
-in-its-range z e f = sym (and-both (leZ lowest-number z) (leZ z highest-number) (order z lowest-number ∙ ap not e) (order highest-number z ∙ ap not f))
-
 -- ---- tests one after another
 pub one-wrong : (n : ℕ) (p : ℕ → Bool) (k : ℕ) → p k ≡ false → k < n → true ≡ not (everyBelow n p)
 one-wrong n p k e h = ap not (sym (every-false n p k e h))
@@ -68,28 +59,36 @@ unfolding everyBelow
 every-begins p = refl
 
 -- ---- a limit
+-- the ends that a body may have, by its first byte
+module _ (x : List ℕ) (low high : ℤ) (b : Body) (held : Holds x b) where
+  fits-by : (s t : Bool) → isQuantity b ≡ s → isHundredths b ≡ t → endsFit (limit low high) b ≡ (s && inRangeOf t low && inRangeOf t high)
+  unfolding endsFit
+  fits-by s t p q = rw (p, q)
+
+  pub counts-fit : getD x 0 0 ≡ 7 → (inRangeOf true low && inRangeOf true high) ≡ endsFit (limit low high) b
+  counts-fit e = sym (fits-by true true (hundredths-first x b held e) (is-hundredths x b held e))
+
+  pub numbers-fit : (getD x 0 0 ≡ 7 → ⊥) → getD x 0 0 ≡ 2 → (inRangeOf false low && inRangeOf false high) ≡ endsFit (limit low high) b
+  numbers-fit f e = sym (fits-by true false (sym (number-first x b held f) ∙ eq-eqb (getD x 0 0) 2 e) (not-hundredths x b held f))
+
+  pub others-fit : (getD x 0 0 ≡ 7 → ⊥) → (getD x 0 0 ≡ 2 → ⊥) → false ≡ endsFit (limit low high) b
+  others-fit f g = sym (fits-by false false (sym (number-first x b held f) ∙ ne-eqb (getD x 0 0) 2 g) (not-hundredths x b held f))
+
+-- whose the limit is
 module _ (rows limits : List ℕ) (l : ℕ) (low high : ℤ) (el : low ≡ limitRow limits l .low) (eh : high ≡ limitRow limits l .high) where
-  fits-by : (a b c d : Bool) → leZ low high ≡ a → inRange low ≡ b → inRange high ≡ c → namesNumber rows (nameAt limits limit-section l) ≡ d → limitFits rows limits l ≡ (a && b && c && d)
-  unfolding limitFits
-  fits-by a b c d p q r s = rw (← el, ← eh, p, q, r, s)
+  limit-by : (a d : Bool) → leZ low high ≡ a → namesOne (endsFit (limit low high)) rows (nameAt limits limit-section l) ≡ d → limitFits rows limits l ≡ (a && d)
+  unfolding limitFits endsFit
+  limit-by a d p s = rw (← el, ← eh, p, s)
 
   pub ends-crossed : ltZ high low ≡ true → OwnerIs owner.Nobody rows limits l
   unfolding OwnerIs
-  ends-crossed e = fits-by false (inRange low) (inRange high) _ (order high low ∙ ap not e) refl refl refl
+  ends-crossed e = limit-by false _ (order high low ∙ ap not e) refl
 
-  pub low-outside : (b : Bool) → ltZ high low ≡ false → b ≡ inRange low → b ≡ false → OwnerIs owner.Nobody rows limits l
-  unfolding OwnerIs
-  low-outside b e q h = fits-by true false (inRange high) _ (order high low ∙ ap not e) (sym q ∙ h) refl refl
-
-  pub high-outside : (b c : Bool) → ltZ high low ≡ false → b ≡ inRange low → b ≡ true → c ≡ inRange high → c ≡ false → OwnerIs owner.Nobody rows limits l
-  unfolding OwnerIs
-  high-outside b c e q h r k = fits-by true true false _ (order high low ∙ ap not e) (sym q ∙ h) (sym r ∙ k) refl
-
-  -- ends that are right: whose the limit is, its name decides
-  pub name-decides : (o : Owner) (b c : Bool) → ltZ high low ≡ false → b ≡ inRange low → b ≡ true → c ≡ inRange high → c ≡ true → NumberNamed o rows (nameAt limits limit-section l) → OwnerIs o rows limits l
-  unfolding NumberNamed OwnerIs
-  name-decides (owner.Of d) b c e q h r k (s, t) = (s, fits-by true true true true (order high low ∙ ap not e) (sym q ∙ h) (sym r ∙ k) t)
-  name-decides owner.Nobody b c e q h r k s = fits-by true true true false (order high low ∙ ap not e) (sym q ∙ h) (sym r ∙ k) s
+  -- ends in order: whose the limit is, its name decides
+  pub name-decides : (o : Owner) → ltZ high low ≡ false → OneNamed (endsFit (limit low high)) o rows (nameAt limits limit-section l) → OwnerIs o rows limits l
+  unfolding OneNamed OwnerIs
+  name-decides (owner.Of d) e (s, t) = (s, limit-by true true (order high low ∙ ap not e) t)
+  name-decides owner.Nobody e s = limit-by true false (order high low ∙ ap not e) s
 
 -- ---- all limits
 module _ (rows limits : List ℕ) where
@@ -153,12 +152,12 @@ module _ (rows vs : List ℕ) where
   unfolding readingWrong
   too-many h = rw (lt-ltb most-readings (length vs) h)
 
-  pub reading-fails : (i : ℕ) (b : Bool) → length vs ≤ most-readings → i < length vs → b ≡ isNumberVariable rows (getD vs i 0) → b ≡ false → true ≡ readingWrong rows vs
+  pub reading-fails : (i : ℕ) (b : Bool) → length vs ≤ most-readings → i < length vs → b ≡ isQuantityVariable rows (getD vs i 0) → b ≡ false → true ≡ readingWrong rows vs
   unfolding readingWrong
   reading-fails i b n h e f =
-      rw (le-ltb most-readings (length vs) n, all-fails (λ v. isNumberVariable rows v) vs i h (sym e ∙ f))
+      rw (le-ltb most-readings (length vs) n, all-fails (λ v. isQuantityVariable rows v) vs i h (sym e ∙ f))
 
-  pub readings-right : (i : ℕ) → length vs ≤ most-readings → everyBelow i (λ k. isNumberVariable rows (getD vs k 0)) ≡ true → length vs ≤ i → false ≡ readingWrong rows vs
+  pub readings-right : (i : ℕ) → length vs ≤ most-readings → everyBelow i (λ k. isQuantityVariable rows (getD vs k 0)) ≡ true → length vs ≤ i → false ≡ readingWrong rows vs
   unfolding readingWrong
   readings-right i n h l =
-      rw (le-ltb most-readings (length vs) n, all-by (λ v. isNumberVariable rows v) vs (λ k q. every-at i (λ j. isNumberVariable rows (getD vs j 0)) k h (omega arith)))
+      rw (le-ltb most-readings (length vs) n, all-by (λ v. isQuantityVariable rows v) vs (λ k q. every-at i (λ j. isQuantityVariable rows (getD vs j 0)) k h (omega arith)))

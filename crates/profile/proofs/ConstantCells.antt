@@ -12,7 +12,7 @@ use mir.Syntax.{w64}
 use mir.Val.{toZ}
 use borrow.Author.Tests.{eq-eqb, ne-eqb}
 use Rattle.lingua.specs.Numbers.{expression-section, word-length, body-bytes}
-use Rattle.lingua.specs.Body.{Body, boolean, number, word, size, nodes}
+use Rattle.lingua.specs.Body.{Body, boolean, number, word, hundredths, size, nodes}
 use Rattle.lingua.specs.Value.{asTruth, asWhole, asText, isCharacter, isText, bit, packed, cellsOf, pad, Composite}
 use Rattle.lingua.specs.Encode.{bytes, encoded}
 use Rattle.lingua.specs.Rows.{wideAt, numberAt, bytesAt, untilZero, constantValue, ExpressionRow, constant-row, variable-row, current-row, unary-row, binary-row, lazy-row, choice-row, all-list-row, unknown-expression, expressionAt, expressionRow}
@@ -50,6 +50,7 @@ unfolding constantValue constantMeaning simpleMeaning
 body-is rows i simple.Boolean = refl
 body-is rows i simple.Number = refl
 body-is rows i simple.Word = refl
+body-is rows i simple.Hundredths = refl
 
 pub simple-constant : (rows : List ℕ) (i : ℕ) (s : Simple) → SimpleIn (constant-row (constantMeaning rows i s)) rows i s
 unfolding valueOf
@@ -117,6 +118,11 @@ module _ (rows : List ℕ) (t : Table) (r : ℕ) (h : IsTable rows expression-se
     cell-number n z p q k row =
         cell-is z _ (value-is simple.Number p row) (ap (λ (y : ℤ). y ∷ []) (ap (λ (m : ℕ). toZ w64 m) (sym q) ∙ sym k))
 
+    pub cell-count : (n : ℕ) (z : ℤ) → s ≡ simple.Hundredths → n ≡ wideAt rows (t .start + r) → z ≡ toZ w64 n → ConstantRow rows r → IsCell z (constantOf rows r)
+    unfolding cellsOf asWhole numberAt constantValue constantMeaning
+    cell-count n z p q k row =
+        cell-is z _ (value-is simple.Hundredths p row) (ap (λ (y : ℤ). y ∷ []) (ap (λ (m : ℕ). toZ w64 m) (sym q) ∙ sym k))
+
     pub cell-word : (cs : List ℕ) (z : ℤ) → s ≡ simple.Word → cs ≡ bytesAt rows (t .start + r) → z ≡ packed (untilZero cs) → ConstantRow rows r → IsCell z (constantOf rows r)
     unfolding cellsOf asText constantValue constantMeaning
     cell-word cs z p k w row =
@@ -153,3 +159,7 @@ module _ (rows : List ℕ) (t : Table) (r : ℕ) (h : IsTable rows expression-se
     pub body-word : (out : List ℕ) → s ≡ simple.Word → out ≡ pad body-bytes 0 (3 ∷ []) → Holds out (constantOf rows r .body)
     unfolding encoded bytes size nodes simpleMeaning
     body-word out p k = held simple.Word word out p refl k refl refl
+
+    pub body-hundredths : (out : List ℕ) → s ≡ simple.Hundredths → out ≡ pad body-bytes 0 (7 ∷ []) → Holds out (constantOf rows r .body)
+    unfolding encoded bytes size nodes simpleMeaning
+    body-hundredths out p k = held simple.Hundredths hundredths out p refl k refl refl

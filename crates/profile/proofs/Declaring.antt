@@ -1,7 +1,7 @@
 -- Declarations and limits: their rows, and a variable's body. Assumes nothing.
 use mathlib.Core.Path.{_≡_, refl, sym, ap, ap₂, _∙_, subst}
 use mathlib.Core.Logic.{_≢_}
-use mathlib.Core.Bool.{Bool, true, false, _&&_}
+use mathlib.Core.Bool.{Bool, true, false, or-true, or-false}
 use mathlib.Core.List.{List}
 use Prim.Native.Nat.{ℕ, zero, suc, _+_, _-_, _*_, _/_, _≤_, _<_}
 use native.Mathlib.Omega.{arith}
@@ -10,23 +10,24 @@ use lib.ListN.{length, getD}
 use lib.IntN.{ℤ}
 use mir.Syntax.{w32}
 use mir.Val.{toZ}
-use borrow.Author.Tests.{eqb-true, eqb-false, lt-ltb, le-ltb}
+use borrow.Author.Tests.{lt-ltb, le-ltb}
 use Rattle.lingua.specs.Numbers.{declaration-section, type-section, limit-section, row-bytes, scopeTable}
 use Rattle.lingua.specs.Outcome.{ok, Result}
-use Rattle.lingua.specs.Body.{Body, isNumber}
+use Rattle.lingua.specs.Body.{Body, isNumber, isHundredths, isQuantity}
 use Rattle.lingua.specs.Compute.{sameText}
 use Rattle.lingua.specs.Store.{Limit}
-use Rattle.lingua.specs.Rows.{word32, aAt, bAt, bytesAt, tableStart, tableCount, rowIn, pairCount, nameRow, detailRow}
-use Rattle.lingua.specs.Trees.{typeBody, bodyIn, nameAt}
+use Rattle.lingua.specs.Rows.{word32, aAt, bAt, bytesAt, tableStart, tableCount, rowIn, pairCount, nameRow, detailRow, typeRow}
+use Rattle.lingua.specs.Trees.{typeBody, bodyIn, declaredBody, bodyOr, nameAt}
 use Rattle.lingua.specs.References.{yokeIn}
-use Rattle.lingua.specs.Refusal.{isNumberBody, isNumberVariable}
+use Rattle.lingua.specs.Refusal.{isVariableOf}
 use Rattle.safety.specs.Accepted.{AcceptedRows, scope-type}
 use Rattle.decoder.specs.Tables.{IsTable}
 use Rattle.decoder.specs.declared.tables.Table.{Table}
 use Rattle.body.specs.Encode.{Holds}
-use Rattle.body.proofs.Tags.{is-number, not-number}
+use Rattle.body.proofs.Tags.{is-hundredths, not-hundredths, first-number}
 use Rattle.rules.specs.Accepted.{counts}
 use Rattle.rules.specs.Types.{bodyAt, BodiesBelow}
+use Rattle.profile.specs.Hundredths.{hundredthsRow, type-hundredths}
 use Rattle.profile.specs.Variables.{HasScope, own-table, DeclaredIs, declared-in}
 
 -- ---- rows of pairs
@@ -77,23 +78,40 @@ module _ (rows bodies : List ℕ) (accepted : AcceptedRows rows) (t : Table) (sc
       let h = held .each (aAt rows (detailRow rows (t .section) d)) type-there in
       record { body = h .body; is = h .is; holds = subst (λ (y : List ℕ). Holds y (h .body)) (sym (q ∙ ap (bodyAt bodies) e)) (h .holds) }
 
-number-flag : (x : List ℕ) (b : Body) → Holds x b → eqb (getD x 0 0) 2 ≡ isNumber b
-number-flag x b h = by (eqb (getD x 0 0) 2) refl
-  where
-    by : (f : Bool) → eqb (getD x 0 0) 2 ≡ f → f ≡ isNumber b
-    by true e = sym (is-number x b h (eqb-true (getD x 0 0) 2 e))
-    by false e = sym (not-number x b h (eqb-false (getD x 0 0) 2 e))
+-- the same without the bodies: its type row is there, and says whether it is hundredths
+module _ (rows : List ℕ) (accepted : AcceptedRows rows) (t types : Table) (is : IsTable rows declaration-section t) (has : IsTable rows type-section types) (d : ℕ) (l : d < t .count / 2)
+    (r : ℕ) (e : r ≡ aAt rows (detailRow rows (t .section) d)) where
+  own-type : r ≡ aAt rows (detailRow rows declaration-section d)
+  own-type = e ∙ ap (λ (s : ℕ). aAt rows (detailRow rows s d)) (is .section)
 
-pub no-variable-there : (rows : List ℕ) (t : Table) (d : ℕ) → IsTable rows declaration-section t → t .count / 2 ≤ d → false ≡ isNumberVariable rows d
-unfolding isNumberVariable
-no-variable-there rows t d is h = rw (le-ltb d (pairCount rows declaration-section) (omega (arith, pairs rows declaration-section t is)))
+  pub type-below : r < types .count
+  type-below = omega (arith, own-type, has .count, scope-type rows accepted 0 (omega arith) d (omega (arith, pairs rows declaration-section t is)))
 
-pub number-there : (rows : List ℕ) (t : Table) (d : ℕ) (x : List ℕ) → IsTable rows declaration-section t → d < t .count / 2 → DeclaredIs rows (t .section) d x → eqb (getD x 0 0) 2 ≡ isNumberVariable rows d
-unfolding isNumberVariable
-number-there rows t d x is h w =
-    let v = declared-in is w in
-    number-flag x (v .body) (v .holds)
-    ∙ rw (lt-ltb d (pairCount rows declaration-section) (omega (arith, pairs rows declaration-section t is)), v .is)
+  pub says-declared : (f : Bool) → f ≡ hundredthsRow (typeRow rows r) → f ≡ isHundredths (bodyOr (declaredBody rows d))
+  unfolding bodyIn
+  says-declared f q = q ∙ sym (type-hundredths rows r) ∙ ap (λ (n : ℕ). isHundredths (bodyOr (typeBody rows n))) own-type
+
+-- a variable that is there has a property if its body has
+module _ (p : Body → Bool) (rows : List ℕ) (t : Table) (d : ℕ) (is : IsTable rows declaration-section t) where
+  pub no-variable-there : t .count / 2 ≤ d → false ≡ isVariableOf p rows d
+  unfolding isVariableOf
+  no-variable-there h = rw (le-ltb d (pairCount rows declaration-section) (omega (arith, pairs rows declaration-section t is)))
+
+  pub variable-there : (x : List ℕ) (f : Bool) → d < t .count / 2 → DeclaredIs rows (t .section) d x → ((b : Body) → Holds x b → f ≡ p b) → f ≡ isVariableOf p rows d
+  unfolding isVariableOf
+  variable-there x f h w g =
+      let v = declared-in is w in
+      g (v .body) (v .holds) ∙ rw (lt-ltb d (pairCount rows declaration-section) (omega (arith, pairs rows declaration-section t is)), v .is)
+
+-- which bodies are reckoned with, by the first byte
+module _ (x : List ℕ) (b : Body) (h : Holds x b) where
+  pub hundredths-first : getD x 0 0 ≡ 7 → isQuantity b ≡ true
+  unfolding isQuantity
+  hundredths-first e = rw (is-hundredths x b h e) (or-true (isNumber b))
+
+  pub number-first : (getD x 0 0 ≡ 7 → ⊥) → eqb (getD x 0 0) 2 ≡ isQuantity b
+  unfolding isQuantity
+  number-first f = first-number x b h ∙ sym (rw (not-hundredths x b h f) (or-false (isNumber b)))
 
 -- ---- limits
 pub end-is : (limits : List ℕ) (t : Table) (l from n : ℕ) (z : ℤ) → IsTable limits limit-section t → n ≡ word32 limits (10 * (t .start + (2 * l + 1)) + from) → z ≡ toZ w32 n

@@ -1,15 +1,18 @@
 -- What the search for a variable by its name gives, and whose each limit is. Assumes nothing.
 use mathlib.Core.Path.{_≡_, subst}
-use mathlib.Core.Bool.{true, false}
+use mathlib.Core.Bool.{Bool, true, false}
 use mathlib.Core.List.{List}
 use mathlib.Core.Option.{some, none}
 use Prim.Native.Nat.{ℕ, _≤_, _<_}
 use lib.ListN.{getD}
+use lib.IntN.{ℤ}
 use Rattle.lingua.specs.Numbers.{most-limits, limit-section}
+use Rattle.lingua.specs.Body.{Body}
+use Rattle.lingua.specs.Store.{Limit}
 use Rattle.lingua.specs.Rows.{pairCount}
 use Rattle.lingua.specs.Trees.{nameAt}
 use Rattle.lingua.specs.Lookup.{Lookup, lookup, lookUp}
-use Rattle.lingua.specs.Refusal.{namesNumber, limitFits}
+use Rattle.lingua.specs.Refusal.{namesOne, limitFits}
 use Rattle.decoder.specs.Tables.{IsTable}
 use Rattle.decoder.specs.declared.tables.Table.{Table}
 use Rattle.profile.specs.declared.find.Found.{Found}
@@ -22,10 +25,13 @@ foundMeaning (At d n) = lookup (some d) n
 foundMeaning (Nothing n) = lookup none n
 
 -- ---- whose a limit is
--- the number variable that the search for a name finds, or that there is none
-unfoldable pub NumberNamed : Owner → List ℕ → List ℕ → Type 0
-NumberNamed (owner.Of d) rows name = (lookUp rows name .found ≡ some d) × (namesNumber rows name ≡ true)
-NumberNamed owner.Nobody rows name = namesNumber rows name ≡ false
+abbrev pub limit : ℤ → ℤ → Limit
+limit low high = record { low = low; high = high }
+
+-- the variable that the search for a name finds, where its body has a property, or that there is none
+unfoldable pub OneNamed : (Body → Bool) → Owner → List ℕ → List ℕ → Type 0
+OneNamed p (owner.Of d) rows name = (lookUp rows name .found ≡ some d) × (namesOne p rows name ≡ true)
+OneNamed p owner.Nobody rows name = namesOne p rows name ≡ false
 
 -- the same of limit l, where its ends are right too
 unfoldable pub OwnerIs : Owner → List ℕ → List ℕ → ℕ → Type 0

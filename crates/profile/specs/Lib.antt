@@ -5,3 +5,4 @@ pub mod Facts
 pub mod Variables
 pub mod Yokes
 pub mod Find
+pub mod Hundredths

@@ -1,6 +1,7 @@
 // A constant's body and its cell, from the row's eight bytes.
 use body::make::simple;
 use body::walk::BOOLEAN;
+use body::walk::HUNDREDTHS;
 use body::walk::NUMBER;
 use body::walk::WORD;
 use decoder::decode::DecodedExpression;
@@ -123,6 +124,7 @@ pub fn constant_cell(rows: &[u8], t: Table, r: usize) -> i64
         }
         Simple::Number => signed64(wide_at(rows, i)),
         Simple::Word => word_cell(bytes_at(rows, i)),
+        Simple::Hundredths => signed64(wide_at(rows, i)),
     }
 }
 
@@ -137,5 +139,6 @@ pub fn constant_body(rows: &[u8], t: Table, r: usize) -> [u8; BODY_BYTES]
         Simple::Boolean => simple(BOOLEAN),
         Simple::Number => simple(NUMBER),
         Simple::Word => simple(WORD),
+        Simple::Hundredths => simple(HUNDREDTHS),
     }
 }

@@ -1,3 +1,4 @@
 pub mod Every
 pub mod Forms
 pub mod Pairing
+pub mod Ranges

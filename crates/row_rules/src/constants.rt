@@ -29,21 +29,28 @@ ghost use mir.Val.{toZ};
 ghost use Rattle.lingua.specs.Numbers.{type-section, expression-section, instruction-section};
 ghost use Rattle.lingua.specs.Errors.{isError};
 ghost use Rattle.lingua.specs.Answers.{fileMeaning};
-ghost use Rattle.lingua.specs.Value.{inRange, allOf};
+ghost use Rattle.lingua.specs.Value.{allOf};
 ghost use Rattle.lingua.specs.Rows.{tableCount, typeRow, expressionRow, instructionRow};
 ghost use Rattle.lingua.specs.Format.{profile, everyBelow};
 ghost use Rattle.lingua.specs.Rules.{constantFits, rowConstantFits, attributesFit, typeAttributes, expressionAttributes, handledErrors, constantWrong};
 ghost use Rattle.decoder.specs.Tables.{IsTable, AreTables};
 ghost use Rattle.decoder.specs.Decoded.{constantMeaning, expressionMeaning};
+ghost use Rattle.row_rules.specs.Range.{about};
 
-// Whether the 64 bits, read with a sign, are a number's: from -1,000,000 to 1,000,000.
-fn number_fits(n: usize) -> bool
-    ensures { λ r. ⌜ r ≡ inRange (toZ w64 n) ⌝ }
+// the highest number and the highest count of hundredths, each less one
+const BELOW_NUMBER: usize = 999999;
+
+const BELOW_COUNT: usize = 99999999;
+
+// Whether the 64 bits, read with a sign, are a number from -(k + 1) to k + 1.
+fn is_about(k: usize, n: usize) -> bool
+    requires { ⌜ k < 9223372036854775807 ⌝ }
+    ensures { λ r. ⌜ r ≡ about k (toZ w64 n) ⌝ }
 {
-    if n <= 1000000 {
+    if n <= k + 1 {
         return true;
     }
-    18446744073708551616 <= n
+    18446744073709551615 - k <= n
 }
 
 // Row i, a constant's.
@@ -53,8 +60,9 @@ fn constant_fits(s: Simple, rows: &[u8], i: usize) -> bool
 {
     match s {
         Simple::Boolean => wide_at(rows, i) <= 1,
-        Simple::Number => number_fits(wide_at(rows, i)),
+        Simple::Number => is_about(BELOW_NUMBER, wide_at(rows, i)),
         Simple::Word => padded(bytes_at(rows, i), LOWEST_CHARACTER, HIGHEST_CHARACTER),
+        Simple::Hundredths => is_about(BELOW_COUNT, wide_at(rows, i)),
     }
 }
 

@@ -2,6 +2,7 @@
 use body::typed::Typed;
 use body::typed::scalar;
 use body::walk::BOOLEAN;
+use body::walk::HUNDREDTHS;
 use body::walk::NUMBER;
 use body::walk::WORD;
 use body_half::binary::expand;
@@ -66,6 +67,7 @@ fn simple_body(s: Simple) -> Typed
         Simple::Boolean => scalar(BOOLEAN),
         Simple::Number => scalar(NUMBER),
         Simple::Word => scalar(WORD),
+        Simple::Hundredths => scalar(HUNDREDTHS),
     }
 }
 

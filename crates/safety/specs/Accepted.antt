@@ -15,12 +15,12 @@ use Rattle.lingua.specs.Numbers.{word-length, most-variables, most-types, most-
 use Rattle.lingua.specs.Errors.{isError}
 use Rattle.lingua.specs.Outcome.{ok, fail, Result, isOk, if_then_else_}
 use Rattle.lingua.specs.Body.{Body, size}
-use Rattle.lingua.specs.Value.{whole, fit-truth, fit-whole, fit-text, isCharacter, allOf, isText, Composite}
+use Rattle.lingua.specs.Value.{whole, fit-truth, fit-whole, fit-text, isCharacter, allOf, isText, Composite, fit-hundredths}
 use Rattle.lingua.specs.Expression.{Instruction, skip}
 use Rattle.lingua.specs.Store.{Reading, contents, variableAt}
 use Rattle.lingua.specs.Run.{scopeProgram, run, lastState, openCalls}
 use Rattle.lingua.specs.Typing.{joined}
-use Rattle.lingua.specs.Rows.{kindAt, aAt, bytesAt, untilZero, sectionAt, rowCount, rowIn, tableCount, pairCount, detailRow, procedureCount, bodyRow, valueCount, referenceCount, groups, RowKind, numbered, usedOf, typeKinds, typeRow, Constant, boolean-constant, number-constant, word-constant, constantValue, ExpressionRow, constant-row, variable-row, current-row, unary-row, binary-row, lazy-row, choice-row, all-list-row, unknown-expression, expressionKinds, expressionRow, InstructionRow, skip-row, assign-row, set-yoke-row, sequence-row, branch-row, loop-row, handle-row, call-row, unknown-instruction, operands, instructionKinds, instructionRow, parts, evaluated, yokeRoot, yokeSet}
+use Rattle.lingua.specs.Rows.{kindAt, aAt, bytesAt, untilZero, sectionAt, rowCount, rowIn, tableCount, pairCount, detailRow, procedureCount, bodyRow, valueCount, referenceCount, groups, RowKind, numbered, usedOf, typeKinds, typeRow, Constant, boolean-constant, number-constant, word-constant, constantValue, ExpressionRow, constant-row, variable-row, current-row, unary-row, binary-row, lazy-row, choice-row, all-list-row, unknown-expression, expressionKinds, expressionRow, InstructionRow, skip-row, assign-row, set-yoke-row, sequence-row, branch-row, loop-row, handle-row, call-row, unknown-instruction, operands, instructionKinds, instructionRow, parts, evaluated, yokeRoot, yokeSet, hundredths-constant}
 use Rattle.lingua.specs.Trees.{tabulate, typeBody, expressionTree, yokeTree, givenValues, givenReferences, instructionOf, instructionIn, instructionTree, instructionScope, expressionScope, bodyIn, declaredBody, bodyOr, declarationIn, declarationAt, profileOf}
 use Rattle.lingua.specs.Format.{profile, everyBelow, allZero, rowsOf}
 use Rattle.lingua.specs.Rules.{usedBytes, sectionBelongs, bytesFit, rowFits, ascending, paired, procedurePairs, formWrong, between, countWrong, nameWrong, paddedBy, constantFits, rowConstantFits, attributesFit, expressionAttributes, typeAttributes, handledErrors, constantWrong}
@@ -136,6 +136,7 @@ constant-plain : (c : Constant) → constantFits c ≡ true → Plain (constantV
 unfolding size constantFits constantValue
 constant-plain (boolean-constant n) e = (fit-truth, refl)
 constant-plain (number-constant z) e = (fit-whole e, refl)
+constant-plain (hundredths-constant z) e = (fit-hundredths e, refl)
 constant-plain (word-constant cs) e = (fit-text (word-fits cs e), refl)
 
 row-plain : (row : ExpressionRow) → rowConstantFits row ≡ true → ConstantHas Plain row

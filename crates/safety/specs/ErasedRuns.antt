@@ -11,16 +11,16 @@ use Rattle.lingua.specs.Numbers.{reading-place, most-calls}
 use Rattle.lingua.specs.Errors.{no-error, overflow, not-filled}
 use Rattle.lingua.specs.Outcome.{ok, fail, Result, _>>=_, _>>_, require, orFail}
 use Rattle.lingua.specs.Body.{Body, number, sameBody}
-use Rattle.lingua.specs.Value.{Value, truth, whole, inRange, Composite, composite}
+use Rattle.lingua.specs.Value.{Value, truth, whole, Composite, composite, inRangeOf, quantity}
 use Rattle.lingua.specs.Expression.{Expression, Yoke, Instruction, skip, assign, set-yoke, sequence, branch, loop, handle, call}
 use Rattle.lingua.specs.Evaluation.{eval, evalTest, no-current}
-use Rattle.lingua.specs.Store.{Variable, variableAt, contents, withContent, withYoke, assigned, Assigning, copied, copiedIn, Reading, readingTaken}
+use Rattle.lingua.specs.Store.{Variable, variableAt, contents, withContent, withYoke, assigned, Assigning, copied, copiedIn, Reading, readingTaken, countsHundredths}
 use Rattle.lingua.specs.Run.{State, Progress, going, out, withStore, withLeft, withError, settled, proceed, stepWith, step, unlessError, act, decided, handled, repeat, Calling, exec, Declaration, Procedure, procedureAt, begun, cleanOnly, copiedOut, carried, returned, opened, called, Profile, scopeDeclarations, scopeProgram, started, takenUnless, takeReadings, run, lastState}
 use Rattle.lingua.specs.Typing.{Entry, no-current-body, givenFit, bodiesOf, scopeBodies, checkProfile}
 use Rattle.lingua.specs.Erased.{valuesOf, evalErased, testErased, admittedErased, assignedErased, changedErased, copyErased, execErased, readingErased, takenErased, readingsErased, runErased}
 use Rattle.lingua.specs.Trees.{profileOf}
 use Rattle.lingua.specs.Format.{rowsOf}
-use Rattle.lingua.specs.Refusal.{lowest, pairRules, isNumberVariable}
+use Rattle.lingua.specs.Refusal.{lowest, pairRules, isQuantityVariable}
 use Rattle.laws.specs.Outcomes.{and-left, and-right, same-body}
 use Rattle.safety.specs.Every.{Every, every-more, every-implies}
 use Rattle.safety.specs.Everywhere.{Everywhere, at-assign, at-set-yoke, at-sequence, at-branch, at-loop, at-handle, at-call}
@@ -28,9 +28,9 @@ use Rattle.safety.specs.Runs.{Stable, Family, Pairwise, Passes, KeepsCal
 use Rattle.safety.specs.Invariant.{WellMadeProfile}
 use Rattle.safety.specs.Derivation.{anything, Derived, DerivedRow}
 use Rattle.safety.specs.TypeSound.{VariablesFit}
-use Rattle.safety.specs.Programs.{TypedProfile, StateTyped, typed-stable, kept-body, given-pairs, given-behind, ScopesTyped, typed-copy, typed-family, ReadsNumber, typed-reading, start-typed, readings-typed, program-keeps}
+use Rattle.safety.specs.Programs.{TypedProfile, StateTyped, typed-stable, kept-body, given-pairs, given-behind, ScopesTyped, typed-copy, typed-family, ReadsQuantity, own-body, typed-reading, start-typed, readings-typed, program-keeps}
 use Rattle.safety.specs.Accepted.{accepted-pair, profile-well-made}
-use Rattle.safety.specs.Passed.{profile-derives, reads-number}
+use Rattle.safety.specs.Passed.{profile-derives, reads-quantity}
 use Rattle.safety.specs.Erasure.{withBody, eval-erased}
 use Rattle.safety.specs.ErasedSteps.{test-erased, assigned-erased, changed-erased}
 
@@ -117,17 +117,19 @@ module _ (H : Entry → Type 0) (ds : List Declaration) where
       go (fail m) = refl
 
   -- ---- readings
-  pub reading-same : (s : State) → StateTyped H ds s → (r : Reading) → ReadsNumber ds r → readingErased (s .store) r ≡ readingTaken (s .store) r
-  unfolding readingErased readingTaken ReadsNumber
+  pub reading-same : (s : State) → StateTyped H ds s → (r : Reading) → ReadsQuantity ds r → readingErased (s .store) r ≡ readingTaken (s .store) r
+  unfolding readingErased readingTaken ReadsQuantity
   reading-same s h r e =
-      ap (λ (o : Result (List Variable)). require (inRange (r .number)) overflow >> o)
-      (assigned-as s h (r .variable) (whole (r .number)) ∙ ap (λ (b : Body). assigned (s .store) (r .variable) (composite b (whole (r .number)))) e)
+      let c = countsHundredths (s .store) r in
+      ap (λ (o : Result (List Variable)). require (inRangeOf c (r .number)) overflow >> o)
+      (assigned-as s h (r .variable) (quantity c (r .number))
+      ∙ ap (λ (b : Body). assigned (s .store) (r .variable) (composite b (quantity c (r .number)))) (sym (own-body ds (s .store) r (h .kept) (h .fit) e)))
 
-  taken-same : (b : Bool) (s : State) → StateTyped H ds s → (i : ℕ) (r : Reading) → ReadsNumber ds r → takenErased b s i r ≡ takenUnless b s i r
+  taken-same : (b : Bool) (s : State) → StateTyped H ds s → (i : ℕ) (r : Reading) → ReadsQuantity ds r → takenErased b s i r ≡ takenUnless b s i r
   taken-same true s h i r e = ap (λ (o : Result (List Variable)). settled s (reading-place + i) o) (reading-same s h r e)
   taken-same false s h i r e = refl
 
-  pub readings-erased : (i : ℕ) (rs : List Reading) → Every (ReadsNumber ds) rs → (s : State) → StateTyped H ds s → readingsErased i rs s ≡ takeReadings i rs s
+  pub readings-erased : (i : ℕ) (rs : List Reading) → Every (ReadsQuantity ds) rs → (s : State) → StateTyped H ds s → readingsErased i rs s ≡ takeReadings i rs s
   unfolding readingsErased takeReadings
   readings-erased i [] ns s h = refl
   readings-erased i (r ∷ rs) (every-more n ns) s h =
@@ -228,7 +230,7 @@ module _ {H : Entry → Type 0} (p : Profile) (made : WellMadeProfile p) (passed
       (scopeProgram p a) (program-keeps p made passed a) (passed a .instructions) s h
 
 -- ---- whole runs
-pub run-erased : {H : Entry → Type 0} (p : Profile) → WellMadeProfile p → TypedProfile H p → (readings : List Reading) → Every (ReadsNumber (p .declarations)) readings → (budget : ℕ)
+pub run-erased : {H : Entry → Type 0} (p : Profile) → WellMadeProfile p → TypedProfile H p → (readings : List Reading) → Every (ReadsQuantity (p .declarations)) readings → (budget : ℕ)
     → runErased p readings budget ≡ run p readings budget
 unfolding runErased run
 run-erased {H} p made passed readings ns budget =
@@ -237,9 +239,9 @@ run-erased {H} p made passed readings ns budget =
 
 -- a pair of files that no rule refuses and the type check passes
 pub accepted-erased : (prof lims : List ℕ) → lowest (pairRules prof lims) ≡ 0 → (es : List Entry) → checkProfile (profileOf (rowsOf prof) (rowsOf lims)) ≡ ok es
-    → (readings : List Reading) → Every (λ r. isNumberVariable (rowsOf prof) (r .variable) ≡ true) readings → (budget : ℕ)
+    → (readings : List Reading) → Every (λ r. isQuantityVariable (rowsOf prof) (r .variable) ≡ true) readings → (budget : ℕ)
     → runErased (profileOf (rowsOf prof) (rowsOf lims)) readings budget ≡ run (profileOf (rowsOf prof) (rowsOf lims)) readings budget
 accepted-erased prof lims e es passed readings ns budget =
     let rows = rowsOf prof in
     let accepted = accepted-pair prof lims e in
-    run-erased (profileOf rows (rowsOf lims)) (profile-well-made rows accepted (rowsOf lims)) (profile-derives rows accepted (rowsOf lims) es passed (anything es)) readings (every-implies (reads-number rows (rowsOf lims)) ns) budget
+    run-erased (profileOf rows (rowsOf lims)) (profile-well-made rows accepted (rowsOf lims)) (profile-derives rows accepted (rowsOf lims) es passed (anything es)) readings (every-implies (reads-quantity rows (rowsOf lims)) ns) budget

@@ -11,7 +11,7 @@ use Rattle.lingua.specs.Numbers.{declaration-section, type-section, expression-
 use Rattle.lingua.specs.Errors.{boolean-expected, yoke-expected, not-filled, record-expected}
 use Rattle.lingua.specs.Outcome.{ok, fail, Result, _>>=_, if_then_else_, allAnswers}
 use Rattle.lingua.specs.Body.{Body, isBoolean}
-use Rattle.lingua.specs.WellFormed.{WellFormed, formed-boolean, formed-number, formed-word}
+use Rattle.lingua.specs.WellFormed.{WellFormed, formed-boolean, formed-number, formed-word, formed-hundredths}
 use Rattle.lingua.specs.Value.{Composite, allOf}
 use Rattle.lingua.specs.Operation.{make-record, make-list, expand, unaryBody, binaryBody}
 use Rattle.lingua.specs.Compute.{unaryValue, binaryValue}
@@ -19,7 +19,7 @@ use Rattle.lingua.specs.Expression.{settledBy, Expression, constant, variable, 
 use Rattle.lingua.specs.Evaluation.{Variables, applyUnary, applyBinary, truthOr, booleanOf, allTrue, elementsOf, eval}
 use Rattle.lingua.specs.Run.{Declaration, scopeDeclarations}
 use Rattle.lingua.specs.Typing.{bodiesOf, scopeBodies}
-use Rattle.lingua.specs.Rows.{kindAt, aAt, rowIn, tableCount, pairCount, detailRow, procedureCount, RowKind, numbered, said, TypeRow, simple-type, list-type, record-type, expand-type, unknown-type, typeKinds, typeAt, typeRow, Constant, boolean-constant, number-constant, word-constant, constantValue, ExpressionRow, constant-row, variable-row, current-row, unary-row, binary-row, lazy-row, choice-row, all-list-row, unknown-expression, expressionRow}
+use Rattle.lingua.specs.Rows.{kindAt, aAt, rowIn, tableCount, pairCount, detailRow, procedureCount, RowKind, numbered, said, TypeRow, simple-type, list-type, record-type, expand-type, unknown-type, typeKinds, typeAt, typeRow, Constant, boolean-constant, number-constant, word-constant, constantValue, ExpressionRow, constant-row, variable-row, current-row, unary-row, binary-row, lazy-row, choice-row, all-list-row, unknown-expression, expressionRow, hundredths-constant}
 use Rattle.lingua.specs.Trees.{no-expression, typeBodyOf, typeBodyIn, typeBody, expressionOf, expressionIn, expressionTree, bodyIn, bodyOr, declarationIn, declarationAt, profileOf}
 use Rattle.lingua.specs.Rules.{unaryAttribute, binaryAttribute, attributesFit, expressionAttributes, typeAttributes}
 use Rattle.laws.specs.Outcomes.{ok-same, orFail-ok}
@@ -54,7 +54,7 @@ unfolding SimpleFormed typeRow typeAt typeKinds
 simple-row rows r =
     let i : ℕ = rowIn rows type-section r in
     said-has SimpleFormed unknown-type typeKinds (kindAt rows i) rows i tt
-    (every-more formed-boolean (every-more formed-number (every-more formed-word (every-more tt (every-more tt (every-more tt every-none))))))
+    (every-more formed-boolean (every-more formed-number (every-more formed-word (every-more tt (every-more tt (every-more tt (every-more formed-hundredths every-none)))))))
 
 -- an outcome whose body, if it has one, is well-formed
 abbrev GivesFormed : Result Body → Type 0
@@ -130,12 +130,13 @@ NamesFormed (lazy r k e f) = NamesFormed e × NamesFormed f
 NamesFormed (choice r p e f) = NamesFormed p × NamesFormed e × NamesFormed f
 NamesFormed (all-list r e) = NamesFormed e
 
--- a constant of a row is a Boolean, a number or a word
+-- a constant of a row is a Boolean, a number, a word or hundredths
 value-formed : (c : Constant) → WellFormed (constantValue c .body)
 unfolding constantValue
 value-formed (boolean-constant n) = formed-boolean
 value-formed (number-constant z) = formed-number
 value-formed (word-constant cs) = formed-word
+value-formed (hundredths-constant z) = formed-hundredths
 
 constant-formed : (row : ExpressionRow) → ConstantHas (λ c. WellFormed (c .body)) row
 unfolding ConstantHas

@@ -7,11 +7,11 @@ use Rattle.lingua.specs.Numbers.{most-calls, instruction-section}
 use Rattle.lingua.specs.Errors.{overflow, not-filled}
 use Rattle.lingua.specs.Outcome.{ok}
 use Rattle.lingua.specs.Body.{number}
-use Rattle.lingua.specs.WellFormed.{WellFormed, formed-boolean, formed-number}
-use Rattle.lingua.specs.Value.{whole, inRange, composite}
+use Rattle.lingua.specs.WellFormed.{WellFormed, formed-boolean, formed-number, formed-hundredths}
+use Rattle.lingua.specs.Value.{inRangeOf, quantityBody}
 use Rattle.lingua.specs.Expression.{Instruction, skip, assign, set-yoke, sequence, branch, loop, handle, call}
 use Rattle.lingua.specs.Evaluation.{eval, no-current}
-use Rattle.lingua.specs.Store.{Variable, contents, assigned, copied, Reading, readingTaken}
+use Rattle.lingua.specs.Store.{Variable, contents, assigned, copied, Reading, readingTaken, countsHundredths, readingValue}
 use Rattle.lingua.specs.Run.{State, Procedure, procedureAt, unfilled, begun, exec, called, scopeProgram, started, takeReadings, run, lastState, openCalls}
 use Rattle.lingua.specs.Rows.{tableCount, procedureCount}
 use Rattle.lingua.specs.Trees.{instructionTree, profileOf}
@@ -29,6 +29,7 @@ use Rattle.safety.specs.Forest.{tree-everywhere}
 use Rattle.safety.specs.Accepted.{AcceptedRows, accepted-pair, program-row, body-row}
 use Rattle.safety.specs.Formed.{ContentsFormed, eval-formed}
 use Rattle.safety.specs.FormedEntries.{RowNames, row-names}
+use mathlib.Core.Bool.{Bool, true, false}
 
 -- a state whose filled variables have well-formed bodies
 unfoldable StateFormed : State → Type 0
@@ -59,11 +60,15 @@ names-keep a (handle r n i) h = tt
 names-keep a (call r k vs rs) h =
     record { in-all = pairwise-all (λ n m. formed-copy a n (suc k) m) _ 0; out-all = pairwise-all (λ n m. formed-copy (suc k) m a n) rs _ }
 
+quantity-formed : (h : Bool) → WellFormed (quantityBody h)
+quantity-formed true = formed-hundredths
+quantity-formed false = formed-number
+
 reading-formed : (r : Reading) → KeepsReading StateFormed r
 unfolding KeepsReading StateFormed ContentsFormed readingTaken
 reading-formed r s k ws e =
-    let p = demanded (inRange (r .number)) overflow _ ws e in
-    assigned-each (λ m z. WellFormed (z .body)) (s .store) k (r .variable) (composite number (whole (r .number))) formed-number ws (p .1)
+    let p = demanded (inRangeOf (countsHundredths (s .store) r) (r .number)) overflow _ ws e in
+    assigned-each (λ m z. WellFormed (z .body)) (s .store) k (r .variable) (readingValue (countsHundredths (s .store) r) (r .number)) (quantity-formed (countsHundredths (s .store) r)) ws (p .1)
 
 module _ (rows : List ℕ) (accepted : AcceptedRows rows) (lims : List ℕ) (readings : List Reading) (budget : ℕ) where
   start-formed : StateFormed (started (profileOf rows lims) budget)

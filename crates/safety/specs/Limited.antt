@@ -1,5 +1,5 @@
--- A variable that has a limit is a number variable: rule 15 wants a number variable of the limit's name, and by rule 8 no other variable of
--- the profile has that name (`limited-number`, `accepted-limited`). Procedures' variables have no limits (`scope-limited`). Assumes nothing.
+-- A variable that has a limit is a number or a hundredths variable: rule 15 wants such a variable of the limit's name, and by rule 8 no other variable of
+-- the profile has that name (`limited-quantity`, `accepted-limited`). Procedures' variables have no limits (`scope-limited`). Assumes nothing.
 use mathlib.Core.Path.{_≡_, refl, sym, ap, _∙_, subst}
 use mathlib.Core.Bool.{Bool, true, false, not, _&&_}
 use mathlib.Core.List.{List, _∷_}
@@ -7,12 +7,11 @@ use mathlib.Core.Option.{some}
 use Prim.Native.Nat.{ℕ, zero, suc, _+_, _≤_, _<_}
 use native.Mathlib.Omega.{arith}
 use lib.Dec.{ltb}
-use lib.IntN.{pos}
 use lib.Signed.{leZ}
 use borrow.Author.Tests.{ltb-true, ltb-false, not-true, not-false}
 use Rattle.lingua.specs.Numbers.{declaration-section, limit-section, scopeTable}
-use Rattle.lingua.specs.Body.{number}
-use Rattle.lingua.specs.Value.{inRange}
+use Rattle.lingua.specs.Body.{Body, isHundredths, isQuantity}
+use Rattle.lingua.specs.Value.{inRangeOf}
 use Rattle.lingua.specs.Compute.{sameText}
 use Rattle.lingua.specs.Store.{Limit}
 use Rattle.lingua.specs.Rows.{pairCount, procedureCount}
@@ -20,13 +19,12 @@ use Rattle.lingua.specs.Trees.{limitIf, limitFrom, limitOf, limitRow, nameAt, d
 use Rattle.lingua.specs.Typing.{bodiesOf, scopeBodies}
 use Rattle.lingua.specs.Format.{profile, rowsOf, everyBelow}
 use Rattle.lingua.specs.Rules.{isName, isNew, namesFit, nameWrong}
-use Rattle.lingua.specs.Refusal.{Rule, rule, lowest, fileRules, rowRules, wholeFileRules, pairRules, isNumberVariable, namesNumber, limitFits, limitWrong}
+use Rattle.lingua.specs.Refusal.{Rule, rule, lowest, fileRules, rowRules, wholeFileRules, pairRules, isVariableOf, endsFit, namesOne, limitFits, limitWrong}
 use Rattle.laws.specs.Outcomes.{and-left, and-right, none-is-some}
 use Rattle.laws.specs.Equal.{same-text, text-same}
 use Rattle.safety.specs.Answers.{true-is-false}
 use Rattle.safety.specs.Every.{below-true}
-use Rattle.safety.specs.Programs.{ReadsNumber}
-use Rattle.safety.specs.Passed.{reads-number}
+use Rattle.safety.specs.Passed.{variable-has}
 use Rattle.safety.specs.ProfileScopes.{scopeLimit}
 use Rattle.safety.specs.Accepted.{none-applies}
 
@@ -93,33 +91,37 @@ module _ (rows : List ℕ) (right : nameWrong profile rows ≡ false) where
   pub one-variable : (c d : ℕ) → c < pairCount rows declaration-section → d < pairCount rows declaration-section → nameAt rows declaration-section c ≡ nameAt rows declaration-section d → c ≡ d
   one-variable c d k l e = one-in-scope 0 (omega arith) c d k l e
 
-  pub number-named : (n : ℕ) → n < pairCount rows declaration-section → (name : List ℕ) → sameText name (nameAt rows declaration-section n) ≡ true → namesNumber rows name ≡ true → isNumberVariable rows n ≡ true
-  unfolding namesNumber
-  number-named n inside name e h =
-      let f = some-fails (pairCount rows declaration-section) (λ d. not (sameText (nameAt rows declaration-section d) name && isNumberVariable rows d)) (not-true _ h) in
-      let both : (sameText (nameAt rows declaration-section (f .at)) name && isNumberVariable rows (f .at)) ≡ true = not-false _ (f .fails) in
+  pub variable-named : (p : Body → Bool) (n : ℕ) → n < pairCount rows declaration-section → (name : List ℕ) → sameText name (nameAt rows declaration-section n) ≡ true → namesOne p rows name ≡ true → isVariableOf p rows n ≡ true
+  unfolding namesOne
+  variable-named p n inside name e h =
+      let f = some-fails (pairCount rows declaration-section) (λ d. not (sameText (nameAt rows declaration-section d) name && isVariableOf p rows d)) (not-true _ h) in
+      let both : (sameText (nameAt rows declaration-section (f .at)) name && isVariableOf p rows (f .at)) ≡ true = not-false _ (f .fails) in
       let same : nameAt rows declaration-section (f .at) ≡ nameAt rows declaration-section n =
-      same-text _ _ (and-left (sameText (nameAt rows declaration-section (f .at)) name) (isNumberVariable rows (f .at)) both) ∙ same-text _ _ e in
-      subst (λ (d : ℕ). isNumberVariable rows d ≡ true) (one-variable (f .at) n (f .below) inside same)
-      (and-right (sameText (nameAt rows declaration-section (f .at)) name) (isNumberVariable rows (f .at)) both)
+      same-text _ _ (and-left (sameText (nameAt rows declaration-section (f .at)) name) (isVariableOf p rows (f .at)) both) ∙ same-text _ _ e in
+      subst (λ (d : ℕ). isVariableOf p rows d ≡ true) (one-variable (f .at) n (f .below) inside same)
+      (and-right (sameText (nameAt rows declaration-section (f .at)) name) (isVariableOf p rows (f .at)) both)
 
   -- ---- the theorem
   module _ (limits : List ℕ) (fits : limitWrong rows limits ≡ false) (n : ℕ) (inside : n < pairCount rows declaration-section) where
-    names-number : (l : ℕ) → l < pairCount limits limit-section → namesNumber rows (nameAt limits limit-section l) ≡ true
+    names-one : (l : ℕ) → l < pairCount limits limit-section → namesOne (endsFit (limitRow limits l)) rows (nameAt limits limit-section l) ≡ true
     unfolding limitWrong limitFits
-    names-number l k =
-        and-right (leZ (limitRow limits l .low) (limitRow limits l .high) && inRange (limitRow limits l .low) && inRange (limitRow limits l .high)) (namesNumber rows (nameAt limits limit-section l)) (below-true (pairCount limits limit-section) (λ j. limitFits rows limits j) (not-false _ fits) l k)
+    names-one l k =
+        and-right (leZ (limitRow limits l .low) (limitRow limits l .high)) (namesOne (endsFit (limitRow limits l)) rows (nameAt limits limit-section l)) (below-true (pairCount limits limit-section) (λ j. limitFits rows limits j) (not-false _ fits) l k)
 
-    pub limited-number : (l : Limit) → limitOf limits (nameAt rows declaration-section n) ≡ some l → bodiesOf (profileOf rows limits .declarations) n ≡ number
-    unfolding limitOf ReadsNumber
-    limited-number l e =
+    pub limited-quantity : (l : Limit) → limitOf limits (nameAt rows declaration-section n) ≡ some l → isQuantity (bodiesOf (profileOf rows limits .declarations) n) ≡ true
+    unfolding limitOf endsFit
+    limited-quantity l e =
         let f = limit-named 0 (pairCount limits limit-section) limits (nameAt rows declaration-section n) l e in
         let within : f .at < pairCount limits limit-section = omega (arith, f .below) in
-        reads-number rows limits (record { variable = n; number = pos 0 }) (number-named n inside (nameAt limits limit-section (f .at)) (f .named) (names-number (f .at) within))
+        let ends = limitRow limits (f .at) in
+        let own : Body = bodiesOf (profileOf rows limits .declarations) n in
+        and-left (isQuantity own) (inRangeOf (isHundredths own) (ends .low))
+        (and-left (isQuantity own && inRangeOf (isHundredths own) (ends .low)) (inRangeOf (isHundredths own) (ends .high))
+        (variable-has (endsFit ends) rows limits n (variable-named (endsFit ends) n inside (nameAt limits limit-section (f .at)) (f .named) (names-one (f .at) within))))
 
 -- a pair of files that no rule refuses
 pub accepted-limited : (prof lims : List ℕ) → lowest (pairRules prof lims) ≡ 0 → (n : ℕ) → n < pairCount (rowsOf prof) declaration-section → (l : Limit)
-    → declarationAt (rowsOf prof) (rowsOf lims) n .limit ≡ some l → bodiesOf (profileOf (rowsOf prof) (rowsOf lims) .declarations) n ≡ number
+    → declarationAt (rowsOf prof) (rowsOf lims) n .limit ≡ some l → isQuantity (bodiesOf (profileOf (rowsOf prof) (rowsOf lims) .declarations) n) ≡ true
 unfolding pairRules wholeFileRules fileRules rowRules declarationAt declarationIn
 accepted-limited prof lims e n inside l q =
     let profile-file = past _ _ _ refl (past _ _ _ refl (past _ _ _ refl (past _ _ _ refl e))) in
@@ -129,7 +131,7 @@ accepted-limited prof lims e n inside l q =
     let limits-file = past _ _ _ refl (past _ _ _ refl (past _ _ _ refl (past _ _ _ refl profile-rows))) in
     let limits-rows = past _ _ _ refl (past _ _ _ refl (past _ _ _ refl (past _ _ _ refl limits-file))) in
     let limit = none-applies _ _ _ refl (past _ _ _ refl limits-rows) in
-    limited-number (rowsOf prof) (names .0) (rowsOf lims) (limit .0) n inside l q
+    limited-quantity (rowsOf prof) (names .0) (rowsOf lims) (limit .0) n inside l q
   where
     -- the rules behind one that does not apply
     past : (k : ℕ) (b : Bool) (rs : List Rule) → ltb 0 k ≡ true → lowest (rule k b ∷ rs) ≡ 0 → lowest rs ≡ 0
@@ -137,6 +139,6 @@ accepted-limited prof lims e n inside l q =
 
 -- of each scope
 pub scope-limited : (prof lims : List ℕ) → lowest (pairRules prof lims) ≡ 0 → (a n : ℕ) → n < pairCount (rowsOf prof) (scopeTable a) → (l : Limit)
-    → scopeLimit (rowsOf prof) (rowsOf lims) a n ≡ some l → scopeBodies (profileOf (rowsOf prof) (rowsOf lims)) a n ≡ number
+    → scopeLimit (rowsOf prof) (rowsOf lims) a n ≡ some l → isQuantity (scopeBodies (profileOf (rowsOf prof) (rowsOf lims)) a n) ≡ true
 scope-limited prof lims e zero n inside l q = accepted-limited prof lims e n inside l (unfold declarationAt declarationIn in q)
 scope-limited prof lims e (suc k) n inside l q = none-is-some q

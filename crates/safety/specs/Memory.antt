@@ -16,17 +16,17 @@ use Rattle.lingua.specs.Errors.{overflow, not-filled}
 use Rattle.lingua.specs.Outcome.{ok}
 use Rattle.lingua.specs.Body.{Body, number, size, attributesOf}
 use Rattle.lingua.specs.WellFormed.{WellFormed}
-use Rattle.lingua.specs.Value.{Value, whole, inRange, Fits, asWhole, pad, cellsOf, Composite, composite}
+use Rattle.lingua.specs.Value.{Value, Fits, asWhole, pad, cellsOf, Composite, composite, inRangeOf}
 use Rattle.lingua.specs.Encode.{encoded}
 use Rattle.lingua.specs.Expression.{Yoke, yokeNumber, Instruction, skip, assign, set-yoke, sequence, branch, loop, handle, call}
 use Rattle.lingua.specs.Evaluation.{Variables, eval, evalYoke, booleanOf, no-current}
-use Rattle.lingua.specs.Store.{Variable, no-variable, variableAt, presentOf, presentBody, contents, within, admitted, assigned, copied, yokeHolds, yokeChanged, withContent, withYoke, Reading, readingTaken, contentCells, filledFlag, cellsIn, statesIn, bodiesIn, callCells, callStates, callBodies, openCellsIn, openStatesIn, presentIn, flagAt, yokeAt}
+use Rattle.lingua.specs.Store.{Variable, no-variable, variableAt, presentOf, presentBody, contents, within, admitted, assigned, copied, yokeHolds, yokeChanged, withContent, withYoke, Reading, readingTaken, contentCells, filledFlag, cellsIn, statesIn, bodiesIn, callCells, callStates, callBodies, openCellsIn, openStatesIn, presentIn, flagAt, yokeAt, countsHundredths, readingValue}
 use Rattle.lingua.specs.Run.{State, Progress, Declaration, Procedure, procedureAt, unfilled, begun, exec, called, Profile, scopeDeclarations, scopeProgram, started, takeReadings, run, lastState, openCalls}
 use Rattle.lingua.specs.Typing.{Entry, bodiesOf, scopeBodies, checkProfile}
 use Rattle.lingua.specs.Rows.{pairCount, procedureCount}
 use Rattle.lingua.specs.Trees.{tabulate, yokeTree, declarationIn, declarationAt, procedureOf, profileOf}
 use Rattle.lingua.specs.Format.{rowsOf}
-use Rattle.lingua.specs.Refusal.{lowest, pairRules, isNumberVariable}
+use Rattle.lingua.specs.Refusal.{lowest, pairRules, isQuantityVariable}
 use Rattle.laws.specs.Lengths.{length-cells}
 use Rattle.laws.specs.Formed.{formed-bounds, formed-as}
 use Rattle.laws.specs.Every.{every-by}
@@ -45,7 +45,7 @@ use Rattle.safety.specs.TypeSound.{VariablesFit}
 use Rattle.safety.specs.Programs.{TypedProfile, StateTyped, ScopesTyped, typed-family, program-keeps, readings-typed, kept-body, present-declared, start-fit}
 use Rattle.safety.specs.Stored.{StoreKept}
 use Rattle.safety.specs.Steps.{run-shallow}
-use Rattle.safety.specs.Passed.{profile-derives, reads-number}
+use Rattle.safety.specs.Passed.{profile-derives, reads-quantity}
 use Rattle.safety.specs.Formed.{ContentsFormed, declared-formed, scope-bodies-formed}
 use Rattle.safety.specs.FormedRuns.{run-formed, open-formed}
 use Rattle.safety.specs.Named.{AllNamed, run-named, open-named}
@@ -100,8 +100,8 @@ module _ (p : Profile) where
   long-reading : (r : Reading) → KeepsReading (ScopesLong 0) r
   unfolding KeepsReading ScopesLong readingTaken
   long-reading r s h ws e =
-      let q = demanded (inRange (r .number)) overflow _ ws e in
-      assigned-long (s .store) (r .variable) (composite number (whole (r .number))) ws (q .1) ∙ h
+      let q = demanded (inRangeOf (countsHundredths (s .store) r) (r .number)) overflow _ ws e in
+      assigned-long (s .store) (r .variable) (readingValue (countsHundredths (s .store) r) (r .number)) ws (q .1) ∙ h
 
   readings-long : (readings : List Reading) (budget : ℕ) → ScopesLong 0 (takeReadings 0 readings (started p budget))
   readings-long readings budget =
@@ -433,7 +433,7 @@ module _ (rows : List ℕ) (ds : List Declaration) (vs : List Variable) (known :
       }
 
 module _ (prof lims : List ℕ) (e : lowest (pairRules prof lims) ≡ 0) (es : List Entry) (passed : checkProfile (profileOf (rowsOf prof) (rowsOf lims)) ≡ ok es)
-    (readings : List Reading) (numeric : Every (λ r. isNumberVariable (rowsOf prof) (r .variable) ≡ true) readings) (budget : ℕ) where
+    (readings : List Reading) (numeric : Every (λ r. isQuantityVariable (rowsOf prof) (r .variable) ≡ true) readings) (budget : ℕ) where
   typed-long : Done (Both (ScopesTyped Anything (profileOf (rowsOf prof) (rowsOf lims))) (ScopesLong (profileOf (rowsOf prof) (rowsOf lims)))) 0 (lastRun prof lims readings budget)
   typed-long =
       let rows = rowsOf prof in
@@ -442,7 +442,7 @@ module _ (prof lims : List ℕ) (e : lowest (pairRules prof lims) ≡ 0) (es : L
       let made = profile-well-made rows a (rowsOf lims) in
       let typed = profile-derives rows a (rowsOf lims) es passed (anything es) in
       with-long p (ScopesTyped Anything p) (typed-family p made typed) (program-keeps p made typed) readings budget
-      (unfold ScopesTyped in readings-typed p made typed readings (every-implies (reads-number rows (rowsOf lims)) numeric) budget)
+      (unfold ScopesTyped in readings-typed p made typed readings (every-implies (reads-quantity rows (rowsOf lims)) numeric) budget)
 
   fresh-kept : (a : ℕ) → StoreKept (scopeStore (profileOf (rowsOf prof) (rowsOf lims)) a) (scopeStore (profileOf (rowsOf prof) (rowsOf lims)) a)
   fresh-kept a = start-kept (profile-well-made (rowsOf prof) (accepted-pair prof lims e) (rowsOf lims) a .yokes)

@@ -8,10 +8,10 @@ use Rattle.lingua.specs.Numbers.{most-calls, declaration-section, instruction-s
 use Rattle.lingua.specs.Errors.{overflow, not-filled}
 use Rattle.lingua.specs.Outcome.{ok}
 use Rattle.lingua.specs.Body.{number}
-use Rattle.lingua.specs.Value.{whole, inRange, Composite, composite}
+use Rattle.lingua.specs.Value.{whole, Composite, inRangeOf}
 use Rattle.lingua.specs.Expression.{Expression, rowOf, Yoke, yokeNumber, Instruction, skip, assign, set-yoke, sequence, branch, loop, handle, call}
 use Rattle.lingua.specs.Evaluation.{eval, no-current}
-use Rattle.lingua.specs.Store.{Variable, variableAt, contents, admitted, assigned, copied, yokeHolds, yokeChanged, withContent, withYoke, Reading, readingTaken}
+use Rattle.lingua.specs.Store.{Variable, variableAt, contents, admitted, assigned, copied, yokeHolds, yokeChanged, withContent, withYoke, Reading, readingTaken, countsHundredths, readingValue}
 use Rattle.lingua.specs.Run.{State, Declaration, Procedure, procedureAt, unfilled, begun, exec, called, scopeDeclarations, scopeProgram, started, takeReadings, run, lastState, openCalls}
 use Rattle.lingua.specs.Rows.{tableCount, pairCount, procedureCount, ExpressionRow, constant-row, variable-row, current-row, unary-row, binary-row, lazy-row, choice-row, all-list-row, unknown-expression, expressionRow, InstructionRow, skip-row, assign-row, set-yoke-row, sequence-row, branch-row, loop-row, handle-row, call-row, unknown-instruction, instructionRow}
 use Rattle.lingua.specs.Trees.{expressionOf, expressionIn, expressionTree, yokeTree, instructionOf, instructionIn, instructionTree, bodyTree, declarationIn, declarationAt, procedureOf, profileOf}
@@ -108,8 +108,8 @@ module _ (rows : List ℕ) where
   named-reading : (r : Reading) → KeepsReading StateNamed r
   unfolding KeepsReading StateNamed readingTaken
   named-reading r s h ws e =
-      let p = demanded (inRange (r .number)) overflow _ ws e in
-      assigned-named (s .store) h (r .variable) (composite number (whole (r .number))) ws (p .1)
+      let p = demanded (inRangeOf (countsHundredths (s .store) r) (r .number)) overflow _ ws e in
+      assigned-named (s .store) h (r .variable) (readingValue (countsHundredths (s .store) r) (r .number)) ws (p .1)
 
   -- ---- the profile's yokes: those that its rows set, and those that it declares
   node-named : (r : ℕ) (row : InstructionRow) (look : ℕ → Instruction) → SetsNamed (instructionOf rows r row look)

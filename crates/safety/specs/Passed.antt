@@ -14,7 +14,7 @@ use lib.IntN.{ℤ}
 use borrow.Author.Tests.{ltb-true, not-false}
 use Rattle.lingua.specs.Numbers.{layout-length, declaration-section, instruction-section, declaration-place, most-readings}
 use Rattle.lingua.specs.Outcome.{Outcome, ok, fail, Result, isOk, allAnswers}
-use Rattle.lingua.specs.Body.{Body, boolean, number}
+use Rattle.lingua.specs.Body.{Body, boolean, number, isQuantity}
 use Rattle.lingua.specs.Value.{allOf}
 use Rattle.lingua.specs.Expression.{Instruction, skip}
 use Rattle.lingua.specs.Store.{variableAt, Reading}
@@ -25,9 +25,9 @@ use Rattle.lingua.specs.Rows.{tableCount, pairCount, procedureCount, bodyRow}
 use Rattle.lingua.specs.Trees.{tabulateFrom, tabulate, instructionTree, instructionRows, instructionScope, declaredBody, bodyOr, declarationIn, declarationAt, profileOf}
 use Rattle.lingua.specs.Format.{rowsOf}
 use Rattle.lingua.specs.Inputs.{Inputs, Buffers}
-use Rattle.lingua.specs.Refusal.{lowest, pairRules, isNumberBody, isNumberVariable, readingWrong, runFits, runRules, runRefusal, erasedRefusal}
+use Rattle.lingua.specs.Refusal.{lowest, pairRules, bodyHas, isVariableOf, isQuantityVariable, readingWrong, runFits, runRules, runRefusal, erasedRefusal}
 use Rattle.lingua.specs.Calls.{readingsOf}
-use Rattle.laws.specs.Outcomes.{and-left, and-right, is-number, false-is-true, or-right}
+use Rattle.laws.specs.Outcomes.{and-left, and-right, false-is-true, or-right}
 use Rattle.laws.specs.Tests.{below-or}
 use Rattle.safety.specs.Answers.{same-answer, bound, all-answered}
 use Rattle.safety.specs.Every.{Every, every-none, every-more, every-left, every-right, every-joined-part, every-implies, every-unmap, every-getD, tabulated, all-true}
@@ -42,7 +42,7 @@ use Rattle.safety.specs.NodeRows.{nodeRow, tree-row, rows-everywhere}
 use Rattle.safety.specs.Scoped.{body-scope, program-scope}
 use Rattle.safety.specs.RunRules.{unfit-refused, none-refuses, erased-none}
 use Rattle.safety.specs.RunErrors.{RunErrors}
-use Rattle.safety.specs.Programs.{YokesDerived, TypedScope, TypedProfile, ReadsNumber, run-safe}
+use Rattle.safety.specs.Programs.{YokesDerived, TypedScope, TypedProfile, ReadsQuantity, run-safe}
 
 -- ---- declared yokes
 module _ (H : Entry → Type 0) (vars : Bodies) where
@@ -173,42 +173,47 @@ profile-body rows lims d l =
     tabulated-at (λ (c : Declaration). c .body) (λ k. declarationAt rows lims k) boolean 0 (pairCount rows declaration-section) d l
     ∙ ap (λ (k : ℕ). bodyOr (declaredBody rows k)) (let e : 0 + d ≡ d = omega arith in e)
 
-number-body : (o : Result Body) → isNumberBody o ≡ true → bodyOr o ≡ number
-number-body (ok b) e = is-number b e
-number-body (fail n) e = false-is-true e
+body-has : (p : Body → Bool) (o : Result Body) → bodyHas p o ≡ true → p (bodyOr o) ≡ true
+body-has p (ok b) e = e
+body-has p (fail n) e = false-is-true e
 
-pub reads-number : (rows lims : List ℕ) (r : Reading) → isNumberVariable rows (r .variable) ≡ true → ReadsNumber (profileOf rows lims .declarations) r
-unfolding isNumberVariable ReadsNumber
-reads-number rows lims r e =
-    let v = r .variable in
-    let l = ltb-true v (pairCount rows declaration-section) (and-left (ltb v (pairCount rows declaration-section)) (isNumberBody (declaredBody rows v)) e) in
-    profile-body rows lims v l ∙ number-body (declaredBody rows v) (and-right (ltb v (pairCount rows declaration-section)) (isNumberBody (declaredBody rows v)) e)
+pub variable-has : (p : Body → Bool) (rows lims : List ℕ) (v : ℕ) → isVariableOf p rows v ≡ true → p (bodiesOf (profileOf rows lims .declarations) v) ≡ true
+unfolding isVariableOf
+variable-has p rows lims v e =
+    let inside = ltb v (pairCount rows declaration-section) in
+    let has = bodyHas p (declaredBody rows v) in
+    ap p (profile-body rows lims v (ltb-true v (pairCount rows declaration-section) (and-left inside has e)))
+    ∙ body-has p (declaredBody rows v) (and-right inside has e)
+
+pub reads-quantity : (rows lims : List ℕ) (r : Reading) → isQuantityVariable rows (r .variable) ≡ true → ReadsQuantity (profileOf rows lims .declarations) r
+unfolding isQuantityVariable ReadsQuantity
+reads-quantity rows lims r e = variable-has isQuantity rows lims (r .variable) e
 
 -- ---- accepted pairs
 pub accepted-safe : (prof lims : List ℕ) → lowest (pairRules prof lims) ≡ 0 → (es : List Entry) → checkProfile (profileOf (rowsOf prof) (rowsOf lims)) ≡ ok es
-    → (readings : List Reading) → Every (λ r. isNumberVariable (rowsOf prof) (r .variable) ≡ true) readings → (budget : ℕ)
+    → (readings : List Reading) → Every (λ r. isQuantityVariable (rowsOf prof) (r .variable) ≡ true) readings → (budget : ℕ)
     → RunErrors (runMet (profileOf (rowsOf prof) (rowsOf lims)) readings budget)
 accepted-safe prof lims e es passed readings ns budget =
     let rows = rowsOf prof in
     let accepted = accepted-pair prof lims e in
     run-safe (profileOf rows (rowsOf lims)) (profile-well-made rows accepted (rowsOf lims)) (profile-derives rows accepted (rowsOf lims) es passed (anything es))
-    readings (every-implies (reads-number rows (rowsOf lims)) ns) budget
+    readings (every-implies (reads-quantity rows (rowsOf lims)) ns) budget
 
 -- ---- calls that are not refused
-readings-of-numbers : (rows variables : List ℕ) (numbers : List ℤ) → Every (λ v. isNumberVariable rows v ≡ true) variables → Every (λ r. isNumberVariable rows (r .variable) ≡ true) (readingsOf variables numbers)
+readings-of-numbers : (rows variables : List ℕ) (numbers : List ℤ) → Every (λ v. isQuantityVariable rows v ≡ true) variables → Every (λ r. isQuantityVariable rows (r .variable) ≡ true) (readingsOf variables numbers)
 unfolding readingsOf
 readings-of-numbers rows [] zs h = every-none
 readings-of-numbers rows (v ∷ vs) [] h = every-none
 readings-of-numbers rows (v ∷ vs) (z ∷ zs) (every-more h hs) = every-more h (readings-of-numbers rows vs zs hs)
 
-reading-rule : (rows variables : List ℕ) → readingWrong rows variables ≡ false → Every (λ v. isNumberVariable rows v ≡ true) variables
+reading-rule : (rows variables : List ℕ) → readingWrong rows variables ≡ false → Every (λ v. isQuantityVariable rows v ≡ true) variables
 unfolding readingWrong
 reading-rule rows variables e =
-    all-true (λ v. isNumberVariable rows v) variables (not-false _ (or-right (ltb most-readings (length variables)) (not (allOf (λ v. isNumberVariable rows v) variables)) e))
+    all-true (λ v. isQuantityVariable rows v) variables (not-false _ (or-right (ltb most-readings (length variables)) (not (allOf (λ v. isQuantityVariable rows v) variables)) e))
 
 -- a run that is not refused takes readings of number variables
 pub rules-readings : (i : Inputs) (b : Buffers) → runRefusal i b ≡ 0
-    → Every (λ r. isNumberVariable (rowsOf (i .profile)) (r .variable) ≡ true) (readingsOf (i .variables) (i .numbers))
+    → Every (λ r. isQuantityVariable (rowsOf (i .profile)) (r .variable) ≡ true) (readingsOf (i .variables) (i .numbers))
 unfolding runRefusal
 rules-readings i b e = readings-of-numbers (rowsOf (i .profile)) (i .variables) (i .numbers) (reading-rule (rowsOf (i .profile)) (i .variables) (none-refuses i _ e .1))
 

@@ -10,11 +10,11 @@ use lib.ListN.{length}
 use Rattle.lingua.specs.Numbers.{most-calls}
 use Rattle.lingua.specs.Errors.{not-filled, overflow, yoke-not-satisfied, boolean-expected, no-coherence, yoke-expected}
 use Rattle.lingua.specs.Outcome.{ok, orFail}
-use Rattle.lingua.specs.Body.{Body, boolean, number, sameBody, coherent}
-use Rattle.lingua.specs.Value.{whole, fit-truth, fit-whole, inRange, asWhole, Composite, composite}
+use Rattle.lingua.specs.Body.{Body, boolean, isHundredths, isQuantity, sameBody, coherent}
+use Rattle.lingua.specs.Value.{whole, fit-truth, asWhole, Composite, quantityBody, inRangeOf}
 use Rattle.lingua.specs.Expression.{Expression, Yoke, always, yoke, Instruction, skip, assign, set-yoke, sequence, branch, loop, handle, call}
 use Rattle.lingua.specs.Evaluation.{eval, evalYoke, no-current}
-use Rattle.lingua.specs.Store.{Variable, variableAt, presentOf, presentBody, contents, withContent, withYoke, within, admitted, assigned, copied, yokeHolds, yokeChanged, Reading, readingTaken}
+use Rattle.lingua.specs.Store.{Variable, variableAt, presentOf, presentBody, contents, withContent, withYoke, within, admitted, assigned, copied, yokeHolds, yokeChanged, Reading, readingTaken, countsHundredths, readingValue}
 use Rattle.lingua.specs.Run.{State, withStore, Declaration, Procedure, procedureAt, unfilled, begun, exec, called, Profile, scopeDeclarations, scopeProgram, started, takeReadings, run, lastState, openCalls}
 use Rattle.lingua.specs.Typing.{Entry, Bodies, no-current-body, givenFit, bodiesOf, scopeBodies}
 use Rattle.lingua.specs.Meets.{yokeMet, yokeChecksMet, assignMet, testMet, errorIn, onFilled, copyMet, calledMet, readingMet, runMet}
@@ -32,6 +32,7 @@ use Rattle.safety.specs.RunErrors.{RunErrors, gives, good-answer, answer
 use Rattle.safety.specs.TypeSound.{VariablesFit, Safe, derived-sound}
 use Rattle.safety.specs.Derivation.{Derived, DerivedYoke, DerivedRow}
 use Rattle.safety.specs.Quiet.{QuietCopy, QuietCall, Quiet, QuietReading, on-true-met, exec-quiet, called-quiet, readings-quiet}
+use Rattle.laws.specs.Sound.{quantity-is, quantity-fits}
 
 -- ---- what the type check passes
 -- every yoke of a store, on its variable's declared body
@@ -212,22 +213,29 @@ module _ (H : Entry → Type 0) (p : Profile) where
   derived-quiet a (call r k vs rs) h =
       record { in-all = given-pairs (scopeBodies p a) (scopeBodies p (suc k)) (λ n m e. quiet-copy a n (suc k) m e) (vs ++ rs) 0 (h .1); out-all = given-pairs (scopeBodies p a) (scopeBodies p (suc k)) (λ n m e. quiet-copy (suc k) m a n (sym e)) rs (length vs) (given-behind (scopeBodies p a) (scopeBodies p (suc k)) vs rs (h .1)) }
 
--- ---- readings of number variables
-unfoldable pub ReadsNumber : List Declaration → Reading → Type 0
-ReadsNumber ds r = bodiesOf ds (r .variable) ≡ number
+-- ---- readings of variables that are reckoned with
+unfoldable pub ReadsQuantity : List Declaration → Reading → Type 0
+ReadsQuantity ds r = isQuantity (bodiesOf ds (r .variable)) ≡ true
+
+-- its value is one of the declared body
+pub own-body : (ds : List Declaration) (vs : List Variable) (r : Reading) → StoreKept (map unfilled ds) vs → VariablesFit (bodiesOf ds) (contents vs) → ReadsQuantity ds r
+    → quantityBody (countsHundredths vs r) ≡ bodiesOf ds (r .variable)
+unfolding ReadsQuantity
+own-body ds vs r k fit h =
+    ap (λ (b : Body). quantityBody (isHundredths b)) (present-declared ds vs k fit (r .variable)) ∙ quantity-is (bodiesOf ds (r .variable)) h
 
 module _ (H : Entry → Type 0) (ds : List Declaration) (r : Reading) where
-  pub typed-reading : ReadsNumber ds r → KeepsReading (StateTyped H ds) r
-  unfolding KeepsReading StateKept readingTaken ReadsNumber
+  pub typed-reading : ReadsQuantity ds r → KeepsReading (StateTyped H ds) r
+  unfolding KeepsReading StateKept readingTaken ReadsQuantity
   typed-reading h s k ws e =
-      let p = demanded (inRange (r .number)) overflow _ ws e in
-      record { kept = reading-keeps (map unfilled ds) r s (k .kept) ws e; yokes = assigned-yokes H (bodiesOf ds) (s .store) (k .yokes) (r .variable) (composite number (whole (r .number))) ws (p .1); fit = assigned-fit (bodiesOf ds) (s .store) (k .fit) (r .variable) (composite number (whole (r .number))) (sym h) (fit-whole (p .0)) ws (p .1) }
+      let p = demanded (inRangeOf (countsHundredths (s .store) r) (r .number)) overflow _ ws e in
+      record { kept = reading-keeps (map unfilled ds) r s (k .kept) ws e; yokes = assigned-yokes H (bodiesOf ds) (s .store) (k .yokes) (r .variable) (readingValue (countsHundredths (s .store) r) (r .number)) ws (p .1); fit = assigned-fit (bodiesOf ds) (s .store) (k .fit) (r .variable) (readingValue (countsHundredths (s .store) r) (r .number)) (own-body ds (s .store) r (k .kept) (k .fit) h) (quantity-fits (countsHundredths (s .store) r) (r .number) (p .0)) ws (p .1) }
 
-  quiet-reading : ReadsNumber ds r → QuietReading (StateTyped H ds) r
-  unfolding QuietReading ReadsNumber readingMet
+  quiet-reading : ReadsQuantity ds r → QuietReading (StateTyped H ds) r
+  unfolding QuietReading ReadsQuantity readingMet
   quiet-reading h s k =
-      every-append (unless-run-error (inRange (r .number)) overflow overflow-runs)
-      (on-true-met (inRange (r .number)) _ (λ e. assign-safe H ds (s .store) (k .kept) (k .fit) (k .yokes) (r .variable) (composite number (whole (r .number))) (fit-whole e) (sym h)))
+      every-append (unless-run-error (inRangeOf (countsHundredths (s .store) r) (r .number)) overflow overflow-runs)
+      (on-true-met (inRangeOf (countsHundredths (s .store) r) (r .number)) _ (λ e. assign-safe H ds (s .store) (k .kept) (k .fit) (k .yokes) (r .variable) (readingValue (countsHundredths (s .store) r) (r .number)) (quantity-fits (countsHundredths (s .store) r) (r .number) e) (own-body ds (s .store) r (k .kept) (k .fit) h)))
 
 -- ---- whole runs
 module _ {H : Entry → Type 0} (p : Profile) (made : WellMadeProfile p) (passed : TypedProfile H p) where
@@ -243,7 +251,7 @@ module _ {H : Entry → Type 0} (p : Profile) (made : WellMadeProfile p) (passed
   unfolding started begun
   start-typed budget = record { kept = start-kept (made 0 .yokes); yokes = passed 0 .yokes; fit = start-fit (p .declarations) }
 
-  pub readings-typed : (readings : List Reading) → Every (ReadsNumber (p .declarations)) readings → (budget : ℕ) → StateTyped H (p .declarations) (takeReadings 0 readings (started p budget))
+  pub readings-typed : (readings : List Reading) → Every (ReadsQuantity (p .declarations)) readings → (budget : ℕ) → StateTyped H (p .declarations) (takeReadings 0 readings (started p budget))
   readings-typed readings ns budget =
       readings-keep (StateTyped H (p .declarations)) (typed-stable H (p .declarations)) 0 readings (every-implies (typed-reading H (p .declarations)) ns) (started p budget) (start-typed budget)
 
@@ -251,14 +259,14 @@ module _ {H : Entry → Type 0} (p : Profile) (made : WellMadeProfile p) (passed
   pub program-keeps : (a : ℕ) → Everywhere (Keeps (ScopesTyped H p) a) (scopeProgram p a)
   program-keeps a = everywhere-implies (derived-keeps H p a) (both a)
 
-  pub run-typed : (readings : List Reading) → Every (ReadsNumber (p .declarations)) readings → (budget : ℕ) → Done (ScopesTyped H p) 0 (run p readings budget)
+  pub run-typed : (readings : List Reading) → Every (ReadsQuantity (p .declarations)) readings → (budget : ℕ) → Done (ScopesTyped H p) 0 (run p readings budget)
   unfolding run
   run-typed readings ns budget =
       exec-keeps (ScopesTyped H p) (p .procedures) typed-family 0 (called assigned exec (p .procedures) most-calls)
       (called-keeps (ScopesTyped H p) (p .procedures) typed-family (λ k. program-keeps (suc k)) most-calls 0) (p .program) (program-keeps 0)
       (takeReadings 0 readings (started p budget)) (unfold ScopesTyped in readings-typed readings ns budget)
 
-  pub run-safe : (readings : List Reading) → Every (ReadsNumber (p .declarations)) readings → (budget : ℕ) → RunErrors (runMet p readings budget)
+  pub run-safe : (readings : List Reading) → Every (ReadsQuantity (p .declarations)) readings → (budget : ℕ) → RunErrors (runMet p readings budget)
   unfolding runMet
   run-safe readings ns budget =
       let ds = p .declarations in

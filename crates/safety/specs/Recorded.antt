@@ -12,16 +12,16 @@ use Rattle.lingua.specs.Numbers.{reading-place, most-calls}
 use Rattle.lingua.specs.Errors.{no-error, overflow, not-filled, too-deep, isAmong, isRunError, isTypeError}
 use Rattle.lingua.specs.Outcome.{ok, fail, Result, _>>=_, orFail}
 use Rattle.lingua.specs.Body.{number}
-use Rattle.lingua.specs.Value.{whole, inRange, Composite, composite}
+use Rattle.lingua.specs.Value.{whole, Composite, inRangeOf}
 use Rattle.lingua.specs.Expression.{Expression, variable, Instruction, skip, assign, set-yoke, sequence, branch, loop, handle, call}
 use Rattle.lingua.specs.Evaluation.{eval, evalTest, no-current}
-use Rattle.lingua.specs.Store.{Variable, contents, assigned, copied, copiedIn, Reading, readingTaken}
+use Rattle.lingua.specs.Store.{Variable, contents, assigned, copied, copiedIn, Reading, readingTaken, readingValue, countsHundredths}
 use Rattle.lingua.specs.Run.{State, Progress, going, out, withStore, withLeft, withError, settled, proceed, stepWith, step, unlessError, act, decided, handled, repeat, Calling, exec, Procedure, procedureAt, begun, cleanOnly, copiedOut, carried, returned, opened, called, Profile, started, takenUnless, takeReadings, run, lastState}
 use Rattle.lingua.specs.Typing.{Entry, checkProfile}
 use Rattle.lingua.specs.Meets.{errorIn, onAnswer, onTrue, unlessMet, met, assignMet, testMet, stepMet, actMet, onActing, onGoing, onDecided, onHandled, onFilled, repeatMet, CallingMet, execMet, copyMet, copiesInMet, copiesOutMet, calledMet, readingMet, readingsMet, runMet}
 use Rattle.lingua.specs.Trees.{profileOf}
 use Rattle.lingua.specs.Format.{rowsOf}
-use Rattle.lingua.specs.Refusal.{lowest, pairRules, isNumberVariable}
+use Rattle.lingua.specs.Refusal.{lowest, pairRules, isQuantityVariable}
 use Rattle.laws.specs.Classes.{run-no-type-error}
 use Rattle.safety.specs.Every.{Every, every-at}
 use Rattle.safety.specs.Passed.{accepted-safe}
@@ -187,17 +187,17 @@ exec-recorded ps n i s = exec-recorded-by (called assigned exec ps n) (calledMet
 -- ---- readings
 reading-met : (vs : List Variable) (r : Reading) (n : ℕ) → readingTaken vs r ≡ fail n → In n (readingMet vs r)
 unfolding readingTaken readingMet
-reading-met vs r n e = go (required-fails (inRange (r .number)) overflow _ n e)
+reading-met vs r n e = go (required-fails (inRangeOf (countsHundredths vs r) (r .number)) overflow _ n e)
   where
     next : List ℕ
-    next = assignMet vs (r .variable) (composite number (whole (r .number)))
+    next = assignMet vs (r .variable) (readingValue (countsHundredths vs r) (r .number))
 
-    go : ((inRange (r .number) ≡ false) × (overflow ≡ n)) ⊎ ((inRange (r .number) ≡ true) × (assigned vs (r .variable) (composite number (whole (r .number))) ≡ fail n))
-        → In n (unlessMet (inRange (r .number)) overflow ++ onTrue (inRange (r .number)) next)
-    go (inl q) = Memᴰ·append-left (onTrue (inRange (r .number)) next) (unless-in (inRange (r .number)) overflow n (q .0) (q .1))
+    go : ((inRangeOf (countsHundredths vs r) (r .number) ≡ false) × (overflow ≡ n)) ⊎ ((inRangeOf (countsHundredths vs r) (r .number) ≡ true) × (assigned vs (r .variable) (readingValue (countsHundredths vs r) (r .number)) ≡ fail n))
+        → In n (unlessMet (inRangeOf (countsHundredths vs r) (r .number)) overflow ++ onTrue (inRangeOf (countsHundredths vs r) (r .number)) next)
+    go (inl q) = Memᴰ·append-left (onTrue (inRangeOf (countsHundredths vs r) (r .number)) next) (unless-in (inRangeOf (countsHundredths vs r) (r .number)) overflow n (q .0) (q .1))
     go (inr q) =
-        Memᴰ·append-right (unlessMet (inRange (r .number)) overflow)
-        (true-in (inRange (r .number)) next n (q .0) (assign-met vs (r .variable) (composite number (whole (r .number))) n (q .1)))
+        Memᴰ·append-right (unlessMet (inRangeOf (countsHundredths vs r) (r .number)) overflow)
+        (true-in (inRangeOf (countsHundredths vs r) (r .number)) next n (q .0) (assign-met vs (r .variable) (readingValue (countsHundredths vs r) (r .number)) n (q .1)))
 
 taken-recorded : (b : Bool) (s : State) (i : ℕ) (r : Reading) → Recorded (s .error) (takenUnless b s i r .error) (onTrue b (readingMet (s .store) r))
 taken-recorded true s i r = settled-recorded s (reading-place + i) (readingTaken (s .store) r) (readingMet (s .store) r) (reading-met (s .store) r)
@@ -232,7 +232,7 @@ no-type-error n (inr e) = run-no-type-error n e
 
 -- a passed pair of files: no type error is recorded at the end
 pub accepted-error : (prof lims : List ℕ) → lowest (pairRules prof lims) ≡ 0 → (es : List Entry) → checkProfile (profileOf (rowsOf prof) (rowsOf lims)) ≡ ok es
-    → (readings : List Reading) → Every (λ r. isNumberVariable (rowsOf prof) (r .variable) ≡ true) readings → (budget : ℕ)
+    → (readings : List Reading) → Every (λ r. isQuantityVariable (rowsOf prof) (r .variable) ≡ true) readings → (budget : ℕ)
     → NoTypeError (lastState (run (profileOf (rowsOf prof) (rowsOf lims)) readings budget) .error)
 accepted-error prof lims e es passed readings ns budget = by (run-recorded (profileOf (rowsOf prof) (rowsOf lims)) readings budget)
   where

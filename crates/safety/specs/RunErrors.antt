@@ -10,13 +10,13 @@ use lib.Dec.{ltb, leb}
 use lib.ListN.{length}
 use lib.IntN.{ℤ, pos, _+ℤ_, _-ℤ_, _*ℤ_}
 use borrow.Author.Tests.{ltb-false, lt-ltb, not-true}
-use Rattle.lingua.specs.Numbers.{word-length, list-places, body-cells, body-nodes, body-depth, record-attributes}
+use Rattle.lingua.specs.Numbers.{word-length, list-places, body-cells, body-nodes, body-depth, record-attributes, parts-of-one}
 use Rattle.lingua.specs.Errors.{isRunError, overflow, division-by-zero, list-full, word-too-long, number-expected, word-expected, list-expected, record-expected, no-such-attribute, attribute-present, not-comparable, body-too-large}
 use Rattle.lingua.specs.Outcome.{ok, fail, Result, _>>=_, _>>_, require, orFail, if_then_else_}
-use Rattle.lingua.specs.Body.{Body, boolean, number, record-of, Attributes, end, attribute, size, nodes, depth, countAttributes, width, tooLarge, isBoolean, isNumber, isWord, isSimple, sameBody, elementBody, attributesOf, attributeBody, insertAttribute}
-use Rattle.lingua.specs.Value.{Value, Fits, Values, no-items, item, countValues, inRange, asTruth, asWhole, asText, asItems, Composite, composite}
-use Rattle.lingua.specs.Operation.{Unary, negation, make-record, select, make-list, top, pop, remove, Binary, add, subtract, multiply, divide, less, equal, glue, expand, change, push, bounded, present, unaryBody, numbersTo, binaryBody}
-use Rattle.lingua.specs.Compute.{ranged, sameNumber, divided, glued, pushed, topOf, popOf, unaryValue, binaryValue}
+use Rattle.lingua.specs.Body.{Body, boolean, record-of, Attributes, end, attribute, size, nodes, depth, countAttributes, width, tooLarge, isBoolean, isQuantity, isWord, isSimple, sameBody, elementBody, attributesOf, attributeBody, insertAttribute}
+use Rattle.lingua.specs.Value.{Value, Fits, Values, no-items, item, countValues, asTruth, asWhole, asText, asItems, Composite, composite, inRangeOf, isCount}
+use Rattle.lingua.specs.Operation.{Unary, negation, make-record, select, make-list, top, pop, remove, to-hundredths, to-number, Binary, add, subtract, multiply, divide, less, equal, glue, expand, change, push, bounded, present, unaryBody, quantitiesTo, binaryBody}
+use Rattle.lingua.specs.Compute.{ranged, sameNumber, product, divided, glued, pushed, topOf, popOf, unaryValue, binaryValue}
 use Rattle.lingua.specs.Evaluation.{applyUnary, applyBinary, truthOr}
 use Rattle.lingua.specs.Meets.{errorIn, onAnswer, unlessMet, expandMet, changeMet, pushMet, firstMet, divisorMet, secondMet, binaryMet}
 use Rattle.laws.specs.Outcomes.{false-is-true, required, asked, and-left, and-right, same-body, or-right}
@@ -25,6 +25,8 @@ use Rattle.laws.specs.Classes.{overflow-runs, division-runs, empty-runs, full-r
 use Rattle.safety.specs.Answers.{same-answer, never-ok}
 use Rattle.safety.specs.Every.{Every, every-none, every-append, every-one}
 use Rattle.safety.specs.Constants.{Fitting}
+use Rattle.lingua.specs.Rounding.{nearest}
+use Rattle.laws.specs.Halves.{quantities-body}
 
 -- run errors only, no type error
 abbrev pub RunErrors : List ℕ → Type 0
@@ -113,18 +115,24 @@ unary-only make-list x = tt
 unary-only top x = top-only (asItems x)
 unary-only pop x = pop-only (asItems x)
 unary-only (remove n) x = tt
+unary-only to-hundredths x = tt
+unary-only to-number x = tt
 
-ranged-only : (z : ℤ) → RunErrorOnly (ranged z)
+ranged-only : (h : Bool) (z : ℤ) → RunErrorOnly (ranged h z)
 unfolding ranged
-ranged-only z = required-only (inRange z) overflow _ overflow-runs (unfold RunErrorOnly in tt)
+ranged-only h z = required-only (inRangeOf h z) overflow _ overflow-runs (unfold RunErrorOnly in tt)
+
+divided-only : (h : Bool) (x y : ℤ) → RunErrorOnly (divided h x y)
+unfolding divided
+divided-only true x y = required-only (not (sameNumber y (pos 0))) division-by-zero _ division-runs (ranged-only true (nearest (pos parts-of-one *ℤ x) y))
+divided-only false x y = required-only (not (sameNumber y (pos 0))) division-by-zero _ division-runs (unfold RunErrorOnly in tt)
 
 binary-only : (o : Binary) (x y : Value) → RunErrorOnly (binaryValue o x y)
 unfolding binaryValue
-binary-only add x y = ranged-only (asWhole x +ℤ asWhole y)
-binary-only subtract x y = ranged-only (asWhole x -ℤ asWhole y)
-binary-only multiply x y = ranged-only (asWhole x *ℤ asWhole y)
-binary-only divide x y =
-    unfold divided in required-only (not (sameNumber (asWhole y) (pos 0))) division-by-zero _ division-runs (unfold RunErrorOnly in tt)
+binary-only add x y = ranged-only (isCount x) (asWhole x +ℤ asWhole y)
+binary-only subtract x y = ranged-only (isCount x) (asWhole x -ℤ asWhole y)
+binary-only multiply x y = ranged-only (isCount x) (product (isCount x) (asWhole x) (asWhole y))
+binary-only divide x y = divided-only (isCount x) (asWhole x) (asWhole y)
 binary-only less x y = unfold RunErrorOnly in tt
 binary-only equal x y = unfold RunErrorOnly in tt
 binary-only glue x y =
@@ -151,11 +159,8 @@ binary-good o x y d h k e =
     halves-good (binaryBody o (x .body) (y .body)) (binaryValue o (x .value) (y .value)) d e (λ v q. binary-sound o h k e q) (binary-only o (x .value) (y .value))
 
 -- ---- the checks of one operand alone
-numbers-both : (r b c d : Body) → numbersTo r b c ≡ ok d → (isNumber b ≡ true) × (isNumber c ≡ true)
-unfolding numbersTo
-numbers-both r b c d e =
-    let p = required (isNumber b && isNumber c) number-expected (ok r) d e in
-    (and-left (isNumber b) (isNumber c) (p .0), and-right (isNumber b) (isNumber c) (p .0))
+quantities-both : (r b c d : Body) → quantitiesTo r b c ≡ ok d → (isQuantity b ≡ true) × (isQuantity c ≡ true)
+quantities-both r b c d e = let p = quantities-body e in (p .0, ap isQuantity (p .1) ∙ p .0)
 
 count-insert : (n : ℕ) (b : Body) (fs : Attributes) → countAttributes (insertAttribute n b fs) ≡ suc (countAttributes fs)
 unfolding countAttributes insertAttribute
@@ -211,11 +216,11 @@ answered-met e = subst (λ r. RunErrors (errorIn r)) (sym e) every-none
 
 pub first-met : (o : Binary) (x : Composite) (c d : Body) → binaryBody o (x .body) c ≡ ok d → RunErrors (firstMet o x)
 unfolding firstMet binaryBody
-first-met add x c d e = unless-met (isNumber (x .body)) number-expected (numbers-both number (x .body) c d e .0)
-first-met subtract x c d e = unless-met (isNumber (x .body)) number-expected (numbers-both number (x .body) c d e .0)
-first-met multiply x c d e = unless-met (isNumber (x .body)) number-expected (numbers-both number (x .body) c d e .0)
-first-met divide x c d e = unless-met (isNumber (x .body)) number-expected (numbers-both number (x .body) c d e .0)
-first-met less x c d e = unless-met (isNumber (x .body)) number-expected (numbers-both boolean (x .body) c d e .0)
+first-met add x c d e = unless-met (isQuantity (x .body)) number-expected (quantities-both (x .body) (x .body) c d e .0)
+first-met subtract x c d e = unless-met (isQuantity (x .body)) number-expected (quantities-both (x .body) (x .body) c d e .0)
+first-met multiply x c d e = unless-met (isQuantity (x .body)) number-expected (quantities-both (x .body) (x .body) c d e .0)
+first-met divide x c d e = unless-met (isQuantity (x .body)) number-expected (quantities-both (x .body) (x .body) c d e .0)
+first-met less x c d e = unless-met (isQuantity (x .body)) number-expected (quantities-both boolean (x .body) c d e .0)
 first-met equal x c d e =
     unless-met (isSimple (x .body)) not-comparable (and-left (isSimple (x .body)) (sameBody (x .body) c) (required (isSimple (x .body) && sameBody (x .body) c) not-comparable _ d e .0))
 first-met glue x c d e =
@@ -226,17 +231,17 @@ first-met push x c d e = let p = asked (elementBody (x .body)) list-expected _ d
 
 pub second-met : (o : Binary) (b : Body) (y : Composite) (d : Body) → binaryBody o b (y .body) ≡ ok d → RunErrors (secondMet o y)
 unfolding secondMet binaryBody divisorMet
-second-met add b y d e = unless-met (isNumber (y .body)) number-expected (numbers-both number b (y .body) d e .1)
-second-met subtract b y d e = unless-met (isNumber (y .body)) number-expected (numbers-both number b (y .body) d e .1)
-second-met multiply b y d e = unless-met (isNumber (y .body)) number-expected (numbers-both number b (y .body) d e .1)
+second-met add b y d e = unless-met (isQuantity (y .body)) number-expected (quantities-both b b (y .body) d e .1)
+second-met subtract b y d e = unless-met (isQuantity (y .body)) number-expected (quantities-both b b (y .body) d e .1)
+second-met multiply b y d e = unless-met (isQuantity (y .body)) number-expected (quantities-both b b (y .body) d e .1)
 second-met divide b y d e =
-    passed-met (divisorMet y) (divisor (isNumber (y .body)) (not (sameNumber (asWhole (y .value)) (pos 0))) (numbers-both number b (y .body) d e .1))
+    passed-met (divisorMet y) (divisor (isQuantity (y .body)) (not (sameNumber (asWhole (y .value)) (pos 0))) (quantities-both b b (y .body) d e .1))
   where
     divisor : (t u : Bool) → t ≡ true → RunErrorOnly (require t number-expected >> require u division-by-zero)
     divisor true true q = unfold RunErrorOnly in tt
     divisor true false q = unfold RunErrorOnly in division-runs
     divisor false u q = false-is-true q
-second-met less b y d e = unless-met (isNumber (y .body)) number-expected (numbers-both boolean b (y .body) d e .1)
+second-met less b y d e = unless-met (isQuantity (y .body)) number-expected (quantities-both boolean b (y .body) d e .1)
 second-met equal b y d e =
     let p = required (isSimple b && sameBody b (y .body)) not-comparable _ d e .0 in
     unless-met (isSimple (y .body)) not-comparable

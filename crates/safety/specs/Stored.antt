@@ -9,15 +9,16 @@ use lib.ListN.{set}
 use Rattle.lingua.specs.Errors.{overflow, yoke-not-satisfied, no-coherence, yoke-expected}
 use Rattle.lingua.specs.Outcome.{ok, Result, _>>=_, require}
 use Rattle.lingua.specs.Body.{Body, number, attributesOf, coherent}
-use Rattle.lingua.specs.Value.{whole, fit-whole, inRange, asWhole, Composite, composite}
+use Rattle.lingua.specs.Value.{asWhole, Composite, inRangeOf}
 use Rattle.lingua.specs.Expression.{Yoke}
 use Rattle.lingua.specs.Evaluation.{Variables, truthOr, booleanOf, evalYoke}
-use Rattle.lingua.specs.Store.{Variable, variableAt, presentOf, presentBody, contents, withContent, withYoke, within, admitted, assigned, yokeHolds, yokeChanged, Reading, readingTaken}
+use Rattle.lingua.specs.Store.{Variable, variableAt, presentOf, presentBody, contents, withContent, withYoke, within, admitted, assigned, yokeHolds, yokeChanged, Reading, readingTaken, countsHundredths, readingValue}
 use Rattle.laws.specs.Outcomes.{and-left, and-right, none-is-some}
 use Rattle.laws.specs.Coherent.{coherent-alone}
 use Rattle.safety.specs.Answers.{same-answer, never-ok, bound, demanded, after}
 use Rattle.safety.specs.Constants.{Fitting, ClosedYoke, yoke-any-store}
 use Rattle.safety.specs.Fitting.{FilledFit, yoke-fits, true-is}
+use Rattle.laws.specs.Sound.{quantity-fits}
 
 -- a value that a variable holds (document 01: it fits, its current yoke is satisfied, and it lies within the limits)
 pub record Settled (v : Variable) (x : Composite) : Type 0 where
@@ -158,5 +159,5 @@ changed-each P vs h n y ws e =
 pub reading-kept : (ds vs : List Variable) → StoreKept ds vs → (r : Reading) (ws : List Variable) → readingTaken vs r ≡ ok ws → StoreKept ds ws
 unfolding readingTaken
 reading-kept ds vs h r ws e =
-    let p = demanded (inRange (r .number)) overflow _ ws e in
-    assigned-kept ds vs h (r .variable) (composite number (whole (r .number))) (fit-whole (p .0)) ws (p .1)
+    let p = demanded (inRangeOf (countsHundredths vs r) (r .number)) overflow _ ws e in
+    assigned-kept ds vs h (r .variable) (readingValue (countsHundredths vs r) (r .number)) (quantity-fits (countsHundredths vs r) (r .number) (p .0)) ws (p .1)

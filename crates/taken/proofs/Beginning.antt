@@ -9,7 +9,7 @@ use lib.IntN.{ℤ, pos}
 use lib.ListN.{length, replicate}
 use Rattle.lingua.specs.Numbers.{declaration-section, type-section, expression-section, layout-length, open-cells-length, open-states-length, open-bodies-length}
 use Rattle.lingua.specs.Outcome.{ok}
-use Rattle.lingua.specs.Body.{number}
+use Rattle.lingua.specs.Body.{number, isQuantity}
 use Rattle.lingua.specs.Rows.{tableCount, pairCount}
 use Rattle.lingua.specs.Store.{Limit, Variable, variableAt, presentBody}
 use Rattle.lingua.specs.Typing.{Entry, bodiesOf, checkProfile, layoutOf}
@@ -20,8 +20,8 @@ use Rattle.laws.specs.Outcomes.{none-is-some}
 use Rattle.safety.specs.Accepted.{AcceptedRows, declared-root, few-procedures, profile-well-made}
 use Rattle.safety.specs.Formed.{declared-formed, bodies-formed}
 use Rattle.safety.specs.Invariant.{start-kept, start-empty}
-use Rattle.safety.specs.Programs.{ReadsNumber, start-fit}
-use Rattle.safety.specs.Passed.{reads-number}
+use Rattle.safety.specs.Programs.{ReadsQuantity, start-fit}
+use Rattle.safety.specs.Passed.{reads-quantity, profile-body}
 use Rattle.safety.specs.Once.{profile-laid-out, rows-laid-out}
 use Rattle.decoder.specs.Tables.{IsTable, AreTables}
 use Rattle.decoder.specs.declared.tables.Table.{Table}
@@ -42,7 +42,8 @@ use Rattle.frames.specs.declared.way.Way.the-variants as way
 use Rattle.frames.specs.Meaning.{HoldsBy, HeadsOf, WhollyPassed, CallableBy}
 use Rattle.opening.specs.Meaning.{setting}
 use Rattle.whole_run.specs.Meaning.{ClearBodies, Clear, Ready}
-use Rattle.taken.specs.Ways.{NumbersLimited, PassedRows}
+use Rattle.taken.specs.Ways.{QuantitiesLimited, PassedRows}
+use mathlib.Core.Bool.{true}
 
 -- ---- procedures, by where they begin
 pub heads-known : {rows : List ℕ} {t : Tables} → AcceptedRows rows → AreTables rows t → length (t .procedures .heads) ≡ 9 → HeadsOf rows (t .procedures .heads)
@@ -104,11 +105,11 @@ module _ {rows limits : List ℕ} {kept cells : List ℤ} {states : List ℕ} (a
       }
 
   -- ---- with the layout table
-  limited-number : NumbersLimited rows limits → (n : ℕ) (l : Limit) → n < length (startStore rows limits) → variableAt (startStore rows limits) n .limit ≡ some l → bodiesOf (profileOf rows limits .declarations) n ≡ number
+  limited-quantity : QuantitiesLimited rows limits → (n : ℕ) (l : Limit) → n < length (startStore rows limits) → variableAt (startStore rows limits) n .limit ≡ some l → isQuantity (bodiesOf (profileOf rows limits .declarations) n) ≡ true
   unfolding declarationAt
-  limited-number h n l i e = h .limited n (declared i) l (sym (ap (λ (v : Variable). v .limit) (start-at rows limits 0 (omega arith) n (declared i))) ∙ e)
+  limited-quantity h n l i e = h .limited n (declared i) l (sym (ap (λ (v : Variable). v .limit) (start-at rows limits 0 (omega arith) n (declared i))) ∙ e)
 
-  erased-start : (t : Table) → IsTable rows expression-section t → (es : List Entry) → checkProfile (profileOf rows limits) ≡ ok es → length (layoutOf es) ≡ layout-length → NumbersLimited rows limits
+  erased-start : (t : Table) → IsTable rows expression-section t → (es : List Entry) → checkProfile (profileOf rows limits) ≡ ok es → length (layoutOf es) ≡ layout-length → QuantitiesLimited rows limits
       → ErasedRunning (profileOf rows limits) 0 rows t (layoutOf es) kept (lent cells states []) (startStore rows limits)
   erased-start t table es e long h =
       record {
@@ -128,8 +129,9 @@ module _ {rows limits : List ℕ} {kept cells : List ℤ} {states : List ℕ} (a
         passed-rows = rows-laid-out rows accepted limits es e;
         room = omega (arith, few-variables, b .room);
         limited = b .limited;
-        limited-numbers = limited-number h;
-        number-variables = λ z n q. unfold ReadsNumber in reads-number rows limits (record { variable = n; number = pos 0 }) q;
+        limited-quantities = limited-quantity h;
+        quantity-variables = λ z n q. unfold ReadsQuantity in reads-quantity rows limits (record { variable = n; number = pos 0 }) q;
+        own-bodies = λ z n l. profile-body rows limits n l;
         yokes = start-yoke;
       }
 
@@ -139,7 +141,7 @@ module _ {rows limits : List ℕ} {kept cells : List ℤ} {states : List ℕ} (a
       subst (λ (x : List ℕ). WhollyPassed (profileOf rows limits) rows x) (sym (p .layout-is))
       (record { limits = limits; is = refl; typed = profile-laid-out rows accepted limits (p .entries) (p .passed) })
 
-  pub erased-begins : (t : Tables) → AreTables rows t → {layout types heads : List ℕ} {o : Lent} → PassedRows rows limits layout → NumbersLimited rows limits → HeadsOf rows heads → Clear way.Erased o
+  pub erased-begins : (t : Tables) → AreTables rows t → {layout types heads : List ℕ} {o : Lent} → PassedRows rows limits layout → QuantitiesLimited rows limits → HeadsOf rows heads → Clear way.Erased o
       → Ready way.Erased (setting rows (t .expressions) layout kept types heads) (lent cells states []) o limits
   unfolding HoldsBy CallableBy
   erased-begins t are {layout} p h heads o =

@@ -36,7 +36,7 @@ use Rattle.frames.specs.Meaning.{HoldsBy}
 use Rattle.opening.specs.Meaning.{Setting}
 use Rattle.whole_run.specs.Meaning.{Readable, Ready, Runs}
 use Rattle.taken.specs.Taken.{RunTaken, RunIs}
-use Rattle.taken.specs.Ways.{Startable, checkedEnd, NumbersLimited, PassedRows, erasedVerdict, erasedRows}
+use Rattle.taken.specs.Ways.{Startable, checkedEnd, QuantitiesLimited, PassedRows, erasedVerdict, erasedRows}
 use Rattle.taken.proofs.Refusing.{short-present, short-layout, run-refuses, type-error-refuses, none-refuses}
 
 -- ---- what is taken serves both runs
@@ -51,17 +51,17 @@ module _ {i : Inputs} {b : Buffers} {areas others bodies : List ℕ} {p : Pair} 
     long-open-states = t .long-open-states;
   }
 
-  numbers-limited : NumbersLimited (take (p .rows) areas) (take (p .limits) others)
-  numbers-limited =
-      subst (λ (limits : List ℕ). NumbersLimited (take (p .rows) areas) limits) (sym (t .files .limits))
-      (subst (λ (rows : List ℕ). NumbersLimited rows (rowsOf (i .limits))) (sym (t .files .rows)) (record { limited = λ n h l q. accepted-limited (i .profile) (i .limits) (t .accepted) n h l q }))
+  quantities-limited : QuantitiesLimited (take (p .rows) areas) (take (p .limits) others)
+  quantities-limited =
+      subst (λ (limits : List ℕ). QuantitiesLimited (take (p .rows) areas) limits) (sym (t .files .limits))
+      (subst (λ (rows : List ℕ). QuantitiesLimited rows (rowsOf (i .limits))) (sym (t .files .rows)) (record { limited = λ n h l q. accepted-limited (i .profile) (i .limits) (t .accepted) n h l q }))
 
   -- all that the run of a taken pair's rows asks, besides the length of what is its own
   pub checked-asks : {n m : ℕ} → n ≡ m → Startable (take (p .rows) areas) (i .variables) (i .numbers) b × ((AreTables (take (p .rows) areas) (p .tables) × LimitsOwned (take (p .rows) areas) (take (p .limits) others) (p .named) (p .owners)) × (BodiesBelow (take (p .rows) areas) bodies (tableCount (take (p .rows) areas) type-section) × (n ≡ m)))
   checked-asks e = (startable, ((tables-there (t .files), limits-there (t .files)), (bodies-held (t .files), e)))
 
-  pub erased-asks : {n m : ℕ} → n ≡ m → Startable (take (p .rows) areas) (i .variables) (i .numbers) b × ((AreTables (take (p .rows) areas) (p .tables) × LimitsOwned (take (p .rows) areas) (take (p .limits) others) (p .named) (p .owners)) × (BodiesBelow (take (p .rows) areas) bodies (tableCount (take (p .rows) areas) type-section) × ((n ≡ m) × NumbersLimited (take (p .rows) areas) (take (p .limits) others))))
-  erased-asks e = (startable, ((tables-there (t .files), limits-there (t .files)), (bodies-held (t .files), (e, numbers-limited))))
+  pub erased-asks : {n m : ℕ} → n ≡ m → Startable (take (p .rows) areas) (i .variables) (i .numbers) b × ((AreTables (take (p .rows) areas) (p .tables) × LimitsOwned (take (p .rows) areas) (take (p .limits) others) (p .named) (p .owners)) × (BodiesBelow (take (p .rows) areas) bodies (tableCount (take (p .rows) areas) type-section) × ((n ≡ m) × QuantitiesLimited (take (p .rows) areas) (take (p .limits) others))))
+  erased-asks e = (startable, ((tables-there (t .files), limits-there (t .files)), (bodies-held (t .files), (e, quantities-limited))))
 
 -- ---- the checked run
 -- where a run of its way ended: the answer, the registers and the present bodies, the profile's and those of the open calls

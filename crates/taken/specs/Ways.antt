@@ -8,7 +8,7 @@ use lib.ListN.{length}
 use Rattle.lingua.specs.Numbers.{cells-length, states-length, open-cells-length, open-states-length, layout-length, declaration-section}
 use Rattle.lingua.specs.Errors.{type-error-found}
 use Rattle.lingua.specs.Outcome.{Outcome, ok, fail}
-use Rattle.lingua.specs.Body.{number}
+use Rattle.lingua.specs.Body.{isQuantity}
 use Rattle.lingua.specs.Rows.{pairCount}
 use Rattle.lingua.specs.Store.{Limit, presentIn}
 use Rattle.lingua.specs.Run.{Progress, run, lastState, openCalls}
@@ -19,6 +19,7 @@ use Rattle.lingua.specs.Inputs.{Buffers}
 use Rattle.lingua.specs.Calls.{CheckedCall, ErasedCall, readingsOf, ran, withBodies, withLayout}
 use Rattle.safety.specs.Accepted.{AcceptedRows}
 use Rattle.whole_run.specs.Meaning.{Readable}
+use mathlib.Core.Bool.{true}
 
 -- what a run of accepted rows asks: lent memory of the listed lengths, and readings for number variables
 pub record Startable (rows who : List ℕ) (numbers : List ℤ) (b : Buffers) : Type 0 where
@@ -33,9 +34,9 @@ pub record Startable (rows who : List ℕ) (numbers : List ℤ) (b : Buffers) : 
 unfoldable pub checkedEnd : ℕ → Progress → CheckedCall
 checkedEnd budget p = withBodies (ran budget p) (presentIn (lastState p .store) (openCalls p))
 
--- only number variables have a limit (rules 8 and 15)
-pub record NumbersLimited (rows limits : List ℕ) : Type 0 where
-  pub limited : (n : ℕ) → n < pairCount rows declaration-section → (l : Limit) → declarationAt rows limits n .limit ≡ some l → bodiesOf (profileOf rows limits .declarations) n ≡ number
+-- only number and hundredths variables have a limit (rules 8 and 15)
+pub record QuantitiesLimited (rows limits : List ℕ) : Type 0 where
+  pub limited : (n : ℕ) → n < pairCount rows declaration-section → (l : Limit) → declarationAt rows limits n .limit ≡ some l → isQuantity (bodiesOf (profileOf rows limits .declarations) n) ≡ true
 
 -- rows that the type check passed, with its layout table
 pub record PassedRows (rows limits layout : List ℕ) : Type 0 where

@@ -32,7 +32,7 @@ ghost use Rattle.decoder.specs.Tables.{AreTables};
 ghost use Rattle.rules.specs.Types.{BodiesBelow};
 ghost use Rattle.profile.specs.Find.{LimitsOwned};
 ghost use Rattle.taken.specs.Taken.{PairOf};
-ghost use Rattle.taken.specs.Ways.{Startable, NumbersLimited, PassedRows, erasedRows};
+ghost use Rattle.taken.specs.Ways.{Startable, QuantitiesLimited, PassedRows, erasedRows};
 
 // The run of passed rows, with the layout table and no body; what an earlier run left in lent memory does not stay.
 fn passed_rows(
@@ -52,7 +52,7 @@ fn passed_rows(
 ) -> RunAnswer
     requires { ⌜ Startable (now rows) (now who) (now numbers) (buffers (now cells) (now states) (now «open_cells») (now «open_states»)) ⌝ }
     requires { ⌜ AreTables (now rows) tables × LimitsOwned (now rows) (now limits) named owners ⌝ }
-    requires { ⌜ PassedRows (now rows) (now limits) (now layout) × NumbersLimited (now rows) (now limits) ⌝ }
+    requires { ⌜ PassedRows (now rows) (now limits) (now layout) × QuantitiesLimited (now rows) (now limits) ⌝ }
     ensures { λ r. ⌜ runResult r (buffers (now (cells .exit)) (now (states .exit)) (now («open_cells» .exit)) (now («open_states» .exit))) ≡ ran budget (meaning (profileOf (now (rows .entry)) (now (limits .entry))) (readingsOf (now (who .entry)) (now (numbers .entry))) budget) ⌝ }
 {
     let declarations = tables.declarations;
@@ -126,7 +126,7 @@ fn erased_rows(
 ) -> RunAnswer
     requires { ⌜ Startable (now rows) (now who) (now numbers) (buffers (now cells) (now states) (now «open_cells») (now «open_states»)) ⌝ }
     requires { ⌜ AreTables (now rows) tables × LimitsOwned (now rows) (now limits) named owners ⌝ }
-    requires { ⌜ BodiesBelow (now rows) (now bodies) (tableCount (now rows) type-section) × ((length (now layout) ≡ layout-length) × NumbersLimited (now rows) (now limits)) ⌝ }
+    requires { ⌜ BodiesBelow (now rows) (now bodies) (tableCount (now rows) type-section) × ((length (now layout) ≡ layout-length) × QuantitiesLimited (now rows) (now limits)) ⌝ }
     ensures { λ r. ⌜ erasedResult r (buffers (now (cells .exit)) (now (states .exit)) (now («open_cells» .exit)) (now («open_states» .exit))) (now (layout .exit)) ≡ erasedRows (now (rows .entry)) (now (limits .entry)) (now (who .entry)) (now (numbers .entry)) budget (buffers (now (cells .entry)) (now (states .entry)) (now («open_cells» .entry)) (now («open_states» .entry))) (now (layout .entry)) ⌝ }
 {
     let mut table = [0u16; LAYOUT_LENGTH];

@@ -14,7 +14,7 @@ use Rattle.lingua.specs.Rows.{pairCount}
 use Rattle.lingua.specs.Value.{allOf}
 use Rattle.lingua.specs.Store.{Variable, Reading, readingTaken}
 use Rattle.lingua.specs.Run.{State, Profile, going, lastState, settled, takenUnless, takeReadings}
-use Rattle.lingua.specs.Refusal.{isNumberVariable, readingWrong}
+use Rattle.lingua.specs.Refusal.{isVariableOf, isQuantityVariable, readingWrong}
 use Rattle.lingua.specs.Calls.{readingsOf}
 use Rattle.laws.specs.Outcomes.{false-is-true, and-left, and-right}
 use Rattle.run.specs.Statuses.{stateOf, progressOf, recorded}
@@ -40,14 +40,14 @@ all-at p (v ∷ vs) e (suc i) l = all-at p vs (and-right (p v) (allOf p vs) e) i
 module _ {rows who : List ℕ} {numbers : List ℤ} (h : Readable rows who numbers) where
   pub few-readings : length who ≤ most-readings
   unfolding readingWrong
-  few-readings = ltb-false most-readings (length who) (or-none (ltb most-readings (length who)) (not (allOf (λ v. isNumberVariable rows v) who)) (h .right) .0)
+  few-readings = ltb-false most-readings (length who) (or-none (ltb most-readings (length who)) (not (allOf (λ v. isQuantityVariable rows v) who)) (h .right) .0)
 
   -- each is for a declared number variable
-  pub reads-variable : (i : ℕ) → i < length who → (getD who i 0 < pairCount rows declaration-section) × (isNumberVariable rows (getD who i 0) ≡ true)
-  unfolding readingWrong isNumberVariable
+  pub reads-variable : (i : ℕ) → i < length who → (getD who i 0 < pairCount rows declaration-section) × (isQuantityVariable rows (getD who i 0) ≡ true)
+  unfolding readingWrong isQuantityVariable isVariableOf
   reads-variable i l =
-      let all = not-false (allOf (λ v. isNumberVariable rows v) who) (or-none (ltb most-readings (length who)) (not (allOf (λ v. isNumberVariable rows v) who)) (h .right) .1) in
-      let one = all-at (λ v. isNumberVariable rows v) who all i l in
+      let all = not-false (allOf (λ v. isQuantityVariable rows v) who) (or-none (ltb most-readings (length who)) (not (allOf (λ v. isQuantityVariable rows v) who)) (h .right) .1) in
+      let one = all-at (λ v. isQuantityVariable rows v) who all i l in
       (ltb-true (getD who i 0) (pairCount rows declaration-section) (and-left (ltb (getD who i 0) (pairCount rows declaration-section)) _ one), one)
 
 -- ---- one input

@@ -10,10 +10,11 @@ ghost use mathlib.Core.Path.{_≡_};
 ghost use mathlib.Core.Bool.{true};
 ghost use Prim.Native.Nat.{_<_};
 ghost use lib.ListN.{length};
-ghost use Rattle.lingua.specs.Numbers.{declaration-section};
+ghost use Rattle.lingua.specs.Numbers.{declaration-section, type-section};
 ghost use Rattle.lingua.specs.Rows.{pairCount};
-ghost use Rattle.lingua.specs.Refusal.{isNumberVariable};
+ghost use Rattle.lingua.specs.Refusal.{isQuantityVariable};
 ghost use Rattle.lingua.specs.Calls.{readingsOf};
+ghost use Rattle.decoder.specs.Tables.{IsTable};
 ghost use Rattle.run.specs.Reached.{lent, Going};
 ghost use Rattle.frames.specs.Meaning.{context, Standing};
 ghost use Rattle.whole_run.specs.Meaning.{Readable, Takes, TakesAll};
@@ -23,6 +24,8 @@ fn take_one(
     way: Way,
     rows: &[u8],
     t: Table,
+    declarations: Table,
+    types: Table,
     bodies: &mut [u8],
     layout: &[u16],
     kept: &[i64],
@@ -35,14 +38,17 @@ fn take_one(
     stack: &mut [i64],
 ) -> Status
     requires { ⌜ Standing way (context (now rows) t (now layout) (now kept)) (lent (now cells) (now states) (now bodies)) (length (now stack)) (λ a. a ≡ 0) ⌝ }
-    requires { ⌜ (n < pairCount (now rows) declaration-section) × (isNumberVariable (now rows) n ≡ true) ⌝ }
+    requires { ⌜ (n < pairCount (now rows) declaration-section) × (isQuantityVariable (now rows) n ≡ true) ⌝ }
     requires { ⌜ Going m × (m .error ≡ 0) ⌝ }
+    requires { ⌜ IsTable (now rows) declaration-section declarations × IsTable (now rows) type-section types ⌝ }
     ensures { λ r. ⌜ Takes way (context (now (rows .entry)) t (now (layout .entry)) (now (kept .entry))) (lent (now (cells .entry)) (now (states .entry)) (now (bodies .entry))) (lent (now (cells .exit)) (now (states .exit)) (now (bodies .exit))) m r place n z ⌝ }
 {
     let error = take_reading(
         way,
         rows,
         t,
+        declarations,
+        types,
         bodies,
         layout,
         kept,
@@ -59,6 +65,8 @@ pub fn take_readings(
     way: Way,
     rows: &[u8],
     t: Table,
+    declarations: Table,
+    types: Table,
     bodies: &mut [u8],
     layout: &[u16],
     kept: &[i64],
@@ -72,6 +80,7 @@ pub fn take_readings(
     requires { ⌜ Standing way (context (now rows) t (now layout) (now kept)) (lent (now cells) (now states) (now bodies)) (length (now stack)) (λ a. a ≡ 0) ⌝ }
     requires { ⌜ Going m ⌝ }
     requires { ⌜ Readable (now rows) (now who) (now numbers) ⌝ }
+    requires { ⌜ IsTable (now rows) declaration-section declarations × IsTable (now rows) type-section types ⌝ }
     ensures { λ r. ⌜ TakesAll way (context (now (rows .entry)) t (now (layout .entry)) (now (kept .entry))) (lent (now (cells .entry)) (now (states .entry)) (now (bodies .entry))) (lent (now (cells .exit)) (now (states .exit)) (now (bodies .exit))) m r (readingsOf (now (who .entry)) (now (numbers .entry))) ⌝ }
 {
     let count = who.len();
@@ -88,6 +97,8 @@ pub fn take_readings(
             way,
             rows,
             t,
+            declarations,
+            types,
             &mut *bodies,
             layout,
             kept,

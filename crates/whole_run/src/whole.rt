@@ -46,6 +46,8 @@ pub fn run(
         way,
         rows,
         t,
+        tables.declarations,
+        tables.types,
         &mut *bodies,
         layout,
         kept,

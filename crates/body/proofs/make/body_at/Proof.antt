@@ -1,4 +1,4 @@
--- `body::make::body_at` meets its contract: a simple one is its tag, and of others the walk says where they end. Assumes nothing.
+-- `body::make::body_at` meets its contract: a boolean, a number or a word is its tag, and of others the walk says where they end. Assumes nothing.
 use mathlib.Core.Path.{_≡_, _∙_}
 use Prim.Native.Nat.{_-_}
 use native.Mathlib.Omega.{arith}

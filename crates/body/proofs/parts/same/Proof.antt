@@ -1,10 +1,10 @@
--- `body::parts::same` meets its contract: the first bytes decide, unless both are that of a list or of a record. Assumes nothing.
+-- `body::parts::same` meets its contract: the first bytes decide, unless both are that of a list, of a record or of hundredths. Assumes nothing.
 use mathlib.Core.Path.{ap}
 use mathlib.Core.List.{List}
 use Prim.Native.Nat.{ℕ}
 use lib.ListN.{getD}
 use Rattle.body.proofs.Equal.{other-held}
-use Rattle.body.proofs.Tags.{same-simple}
+use Rattle.body.proofs.Tags.{same-first}
 use borrow.Author.Needs.{needs}
 use Rattle.body.proofs.parts.same.Statement.{statement}
 use Rattle.body.proofs.parts.same.Tie as tie
@@ -22,7 +22,7 @@ array-read-if2 : tie.Need-array-read-if2
 array-read-if2 c = search needs
 
 returns-2 : tie.Need-returns-2
-returns-2 c = λ b d h k. same-simple (c .before .before .args .t1) (c .before .before .args .t2) b d h k (c .if2 .taken) (c .before .if1 .left)
+returns-2 c = λ b d h k. same-first (c .before .before .args .t1) (c .before .before .args .t2) b d h k (c .if2 .taken) (c .before .if1 .left)
 
 all-same-requires : tie.Need-all-same-requires
 all-same-requires c κs = search needs

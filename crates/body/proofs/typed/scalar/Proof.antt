@@ -8,9 +8,7 @@ simple-requires : tie.Need-simple-requires
 simple-requires c κs = search needs
 
 returns : tie.Need-returns
-returns c =
-    let pre = c .before .pre in
-    scalar-is (c .before .args .tag) (c .simple .result) (c .simple .ensures) (pre .0) (pre .1)
+returns c = scalar-is (c .before .args .tag) (c .simple .result) (c .simple .ensures) (c .before .pre)
 
 pub scalar-spec : {M : Type 1} → statement M
 scalar-spec = tie.close (tie.spec simple-requires returns)

@@ -1,4 +1,5 @@
 -- `body_half::binary::glue` meets its contract: both operands are asked for the same tag. Assumes nothing.
+use Rattle.lingua.specs.Encode.{bytes}
 use Rattle.lingua.specs.Operation.{binaryBody, glue}
 use Rattle.body.specs.Typed.{simpleOf}
 use Rattle.body.proofs.Tags.{is-word, not-word}
@@ -34,6 +35,7 @@ returns-2 c = λ b d h k.
     (glue-second b d (is-word (args .t1) b h (if1 .left)) (not-word (args .t2) d k (c .before .if2 .taken))) 0
 
 scalar-requires : tie.Need-scalar-requires
+unfolding bytes simpleOf
 scalar-requires c κs = search needs
 
 returns-3 : tie.Need-returns-3

@@ -1,11 +1,8 @@
 -- `body_half::operation::simple_binary` meets its contract: two first bytes give the tag. Assumes nothing.
 use borrow.Author.Needs.{needs}
-use mathlib.Core.Path.{refl}
-use native.Mathlib.Omega.{arith}
-use Rattle.lingua.specs.Operation.{add, subtract, multiply, divide, less, binaryBody}
+use Rattle.lingua.specs.Operation.{add, subtract, multiply, divide, less}
 use Rattle.lingua.specs.Operations.{binaryMeaning}
-use Rattle.body.specs.Typed.{binaryOffset, simpleOf}
-use Rattle.body_half.proofs.Simple.{no-tag, numbers-simple, equal-simple, glue-simple}
+use Rattle.body_half.proofs.Simple.{no-tag, add-gives, subtract-gives, multiply-gives, divide-gives, less-gives, numbers-simple, equal-simple, glue-simple}
 use Rattle.body_half.proofs.operation.simple_binary.Statement.{statement}
 use Rattle.body_half.proofs.operation.simple_binary.Tie as tie
 
@@ -67,29 +64,29 @@ enum-told-10 : tie.Need-enum-told-10
 enum-told-10 c = search needs
 
 returns : tie.Need-returns
-unfolding binaryMeaning binaryBody binaryOffset simpleOf
+unfolding binaryMeaning
 returns c = λ b d h k. rw (c .before .enum-told .given .1)
-    (numbers-simple (c .before .before .before .args .t2) (c .before .before .before .args .t3) b d h k (c .when-both .result) add 2 (omega arith) (omega arith) refl refl (c .when-both .ensures))
+    (numbers-simple (c .before .before .before .args .t2) (c .before .before .before .args .t3) b d h k (c .when-both .result) add 2 add-gives (c .when-both .ensures))
 
 returns-2 : tie.Need-returns-2
-unfolding binaryMeaning binaryBody binaryOffset simpleOf
+unfolding binaryMeaning
 returns-2 c = λ b d h k. rw (c .before .enum-told2 .given .1)
-    (numbers-simple (c .before .before .before .args .t2) (c .before .before .before .args .t3) b d h k (c .when-both2 .result) subtract 2 (omega arith) (omega arith) refl refl (c .when-both2 .ensures))
+    (numbers-simple (c .before .before .before .args .t2) (c .before .before .before .args .t3) b d h k (c .when-both2 .result) subtract 2 subtract-gives (c .when-both2 .ensures))
 
 returns-3 : tie.Need-returns-3
-unfolding binaryMeaning binaryBody binaryOffset simpleOf
+unfolding binaryMeaning
 returns-3 c = λ b d h k. rw (c .before .enum-told3 .given .1)
-    (numbers-simple (c .before .before .before .args .t2) (c .before .before .before .args .t3) b d h k (c .when-both3 .result) multiply 2 (omega arith) (omega arith) refl refl (c .when-both3 .ensures))
+    (numbers-simple (c .before .before .before .args .t2) (c .before .before .before .args .t3) b d h k (c .when-both3 .result) multiply 2 multiply-gives (c .when-both3 .ensures))
 
 returns-4 : tie.Need-returns-4
-unfolding binaryMeaning binaryBody binaryOffset simpleOf
+unfolding binaryMeaning
 returns-4 c = λ b d h k. rw (c .before .enum-told4 .given .1)
-    (numbers-simple (c .before .before .before .args .t2) (c .before .before .before .args .t3) b d h k (c .when-both4 .result) divide 2 (omega arith) (omega arith) refl refl (c .when-both4 .ensures))
+    (numbers-simple (c .before .before .before .args .t2) (c .before .before .before .args .t3) b d h k (c .when-both4 .result) divide 2 divide-gives (c .when-both4 .ensures))
 
 returns-5 : tie.Need-returns-5
-unfolding binaryMeaning binaryBody binaryOffset simpleOf
+unfolding binaryMeaning
 returns-5 c = λ b d h k. rw (c .before .enum-told5 .given .1)
-    (numbers-simple (c .before .before .before .args .t2) (c .before .before .before .args .t3) b d h k (c .when-both5 .result) less 1 (omega arith) (omega arith) refl refl (c .when-both5 .ensures))
+    (numbers-simple (c .before .before .before .args .t2) (c .before .before .before .args .t3) b d h k (c .when-both5 .result) less 1 less-gives (c .when-both5 .ensures))
 
 returns-6 : tie.Need-returns-6
 unfolding binaryMeaning

@@ -1,6 +1,6 @@
 use denote.Ref.{now}
 use borrow.Author.Needs.{needs}
-use Rattle.lingua.specs.Operation.{negation, make-record, select, make-list, top, pop, remove}
+use Rattle.lingua.specs.Operation.{negation, make-record, select, make-list, top, pop, remove, to-hundredths, to-number}
 use Rattle.lingua.specs.Operations.{unaryMeaning}
 use Rattle.lingua.specs.Typing.{unarySecond}
 use Rattle.body_half.proofs.Offsets.{unary-is}
@@ -49,6 +49,18 @@ enum-known-o-3 c = search needs
 remove-requires : tie.Need-remove-requires
 remove-requires c κs = search needs
 
+enum-told-5 : tie.Need-enum-told-5
+enum-told-5 c = search needs
+
+to-hundredths-requires : tie.Need-to-hundredths-requires
+to-hundredths-requires c κs = search needs
+
+enum-told-6 : tie.Need-enum-told-6
+enum-told-6 c = search needs
+
+to-number-requires : tie.Need-to-number-requires
+to-number-requires c κs = search needs
+
 returns : tie.Need-returns
 unfolding unaryMeaning unarySecond
 returns c = λ b h. rw (c .before .enum-told .given .1) (unary-is _ (negation) _ b h (c .negation .ensures b h))
@@ -77,6 +89,14 @@ returns-7 : tie.Need-returns-7
 unfolding unaryMeaning unarySecond
 returns-7 c = λ b h. rw (c .before .before .o3 .given .1) (unary-is _ (remove _) _ b h (c .remove .ensures b h))
 
+returns-8 : tie.Need-returns-8
+unfolding unaryMeaning unarySecond
+returns-8 c = λ b h. rw (c .before .enum-told5 .given .1) (unary-is _ (to-hundredths) _ b h (c .to-hundredths .ensures b h))
+
+returns-9 : tie.Need-returns-9
+unfolding unaryMeaning unarySecond
+returns-9 c = λ b h. rw (c .before .enum-told6 .given .1) (unary-is _ (to-number) _ b h (c .to-number .ensures b h))
+
 pub unary-half-spec : {M : Type 1} → statement M
 unary-half-spec =
     tie.close
@@ -95,10 +115,16 @@ unary-half-spec =
     pop-requires
     enum-known-o-3
     remove-requires
+    enum-told-5
+    to-hundredths-requires
+    enum-told-6
+    to-number-requires
     returns
     returns-2
     returns-3
     returns-4
     returns-5
     returns-6
-    returns-7)
+    returns-7
+    returns-8
+    returns-9)

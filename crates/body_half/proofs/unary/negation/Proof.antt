@@ -1,4 +1,6 @@
 -- `body_half::unary::negation` meets its contract. Assumes nothing.
+use Rattle.lingua.specs.Encode.{bytes}
+use Rattle.body.specs.Typed.{simpleOf}
 use Rattle.lingua.specs.Operation.{unaryBody, negation}
 use Rattle.body.proofs.Tags.{is-boolean, not-boolean}
 use Rattle.body.proofs.Answers.{failing, likewise}
@@ -20,6 +22,7 @@ returns c = λ b h.
     (negation-other b (not-boolean (args .t1) b h (c .before .if1 .taken))) 0
 
 scalar-requires : tie.Need-scalar-requires
+unfolding bytes simpleOf
 scalar-requires c κs = search needs
 
 returns-2 : tie.Need-returns-2

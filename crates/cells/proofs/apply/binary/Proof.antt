@@ -82,7 +82,7 @@ divide-requires : tie.Need-divide-requires
 unfolding binaryMeaning
 divide-requires c κs =
     let h = have-named (named Divide (c .before .enum-told4 .given .1)) (c .before .before .before .before .before .pre .0) .operands in
-    divide-ranges h .0
+    divide-ranges h
 
 put-requires-4 : tie.Need-put-requires-4
 put-requires-4 c κs = search needs

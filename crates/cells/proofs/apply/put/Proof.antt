@@ -17,14 +17,14 @@ same-length : tie.Need-same-length
 same-length c = search needs
 
 returns : tie.Need-returns
-returns c = λ o e k.
+returns c = λ h o e k.
     let a = c .before .before .before in
-    put-whole (a .args .stack .now) o (a .args .answer) (c .before .answer .given .0 .0) (a .pre) e k (c .before .answer .given .1)
+    put-whole h (a .args .stack .now) o (a .args .answer) (c .before .answer .given .0 .0) (a .pre) e k (c .before .answer .given .1)
 
 returns-2 : tie.Need-returns-2
-returns-2 c = λ o e k.
+returns-2 c = λ h o e k.
     let a = c .before .before .before in
-    put-error (a .args .stack .now) o (a .args .answer) (c .before .answer2 .given .0 .0) e k (c .before .answer2 .given .1)
+    put-error h (a .args .stack .now) o (a .args .answer) (c .before .answer2 .given .0 .0) e k (c .before .answer2 .given .1)
 
 pub put-spec : {M : Type 1} → statement M
 put-spec =

@@ -2,8 +2,8 @@
 -- operation's own function ensures. Assumes nothing.
 use native.Mathlib.Omega.{arith}
 use Rattle.lingua.specs.Operations.{unaryMeaning}
-use Rattle.lingua.specs.declared.operations.UnaryOperation.the-variants.{Negation, MakeRecord, Select, MakeList, Top, Pop, Remove}
-use Rattle.cells.proofs.Unary.{selected-room, listed-room, top-counted, pop-some, pop-counted, removed-less, removed-room, negation-leaves, make-record-leaves, select-leaves, make-list-leaves, top-leaves, pop-leaves, remove-leaves, named, has-named, leaves-named}
+use Rattle.lingua.specs.declared.operations.UnaryOperation.the-variants.{Negation, MakeRecord, Select, MakeList, Top, Pop, Remove, ToHundredths, ToNumber}
+use Rattle.cells.proofs.Unary.{selected-room, listed-room, top-counted, pop-some, pop-counted, removed-less, removed-room, to-hundredths-range, to-number-range, to-hundredths-leaves, to-number-leaves, negation-leaves, make-record-leaves, select-leaves, make-list-leaves, top-leaves, pop-leaves, remove-leaves, named, has-named, leaves-named}
 use borrow.Author.Needs.{needs}
 use Rattle.cells.proofs.apply.unary.Statement.{statement}
 use Rattle.cells.proofs.apply.unary.Tie as tie
@@ -90,6 +90,24 @@ remove-requires c κs =
     let h = has-named (named (Remove (c .before .enum-told7 .given .0 .0)) (c .before .enum-told7 .given .1)) (c .before .before .before .pre .0) in
     (removed-room (c .before .enum-told7 .given .0 .0) (h .operand), omega (arith, h .operand .cells-are, h .operand .small))
 
+enum-told-8 : tie.Need-enum-told-8
+enum-told-8 c = search needs
+
+to-hundredths-requires : tie.Need-to-hundredths-requires
+unfolding unaryMeaning
+to-hundredths-requires c κs =
+    let h = has-named (named ToHundredths (c .before .enum-told8 .given .1)) (c .before .before .before .pre .0) in
+    (omega arith, to-hundredths-range (h .operand))
+
+enum-told-9 : tie.Need-enum-told-9
+enum-told-9 c = search needs
+
+to-number-requires : tie.Need-to-number-requires
+unfolding unaryMeaning
+to-number-requires c κs =
+    let h = has-named (named ToNumber (c .before .enum-told9 .given .1)) (c .before .before .before .pre .0) in
+    (omega arith, to-number-range (h .operand))
+
 same-length-3 : tie.Need-same-length-3
 same-length-3 c = search needs
 
@@ -127,6 +145,22 @@ unfolding unaryMeaning
 returns-7 c = λ b d x h.
     leaves-named (named (Remove (c .before .before .before .enum-told7 .given .0 .0)) (c .before .before .before .enum-told7 .given .1)) (remove-leaves (c .before .remove .last .0) (c .before .before .before .enum-told7 .given .0 .0) (c .before .remove .ensures)) h
 
+same-length-7 : tie.Need-same-length-7
+same-length-7 c = search needs
+
+returns-8 : tie.Need-returns-8
+unfolding unaryMeaning
+returns-8 c = λ b d x h.
+    leaves-named (named ToHundredths (c .before .before .before .enum-told8 .given .1)) (to-hundredths-leaves (c .before .to-hundredths .last .0) (c .before .to-hundredths .ensures)) h
+
+same-length-8 : tie.Need-same-length-8
+same-length-8 c = search needs
+
+returns-9 : tie.Need-returns-9
+unfolding unaryMeaning
+returns-9 c = λ b d x h.
+    leaves-named (named ToNumber (c .before .before .before .enum-told9 .given .1)) (to-number-leaves (c .before .to-number .last .0) (c .before .to-number .ensures)) h
+
 pub unary-spec : {M : Type 1} → statement M
 unary-spec =
     tie.close
@@ -150,6 +184,10 @@ unary-spec =
     enum-told-7
     sub-remove
     remove-requires
+    enum-told-8
+    to-hundredths-requires
+    enum-told-9
+    to-number-requires
     same-length-3
     returns-3
     returns-4
@@ -158,4 +196,8 @@ unary-spec =
     same-length-5
     returns-6
     same-length-6
-    returns-7)
+    returns-7
+    same-length-7
+    returns-8
+    same-length-8
+    returns-9)

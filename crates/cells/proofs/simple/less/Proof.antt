@@ -24,13 +24,13 @@ same-length : tie.Need-same-length
 same-length c = search needs
 
 returns : tie.Need-returns
-returns c = λ x y h k. less-law (c .before .before .before .args .stack .now) x y true (pos 1) (omega arith) h k (c .before .before .first .given) (c .before .second .given) (c .if1 .taken) refl
+returns c = λ b x y i h k. less-law (c .before .before .before .args .stack .now) b x y true (pos 1) (omega arith) i h k (c .before .before .first .given) (c .before .second .given) (c .if1 .taken) refl
 
 same-length-2 : tie.Need-same-length-2
 same-length-2 c = search needs
 
 returns-2 : tie.Need-returns-2
-returns-2 c = λ x y h k. less-law (c .before .before .before .args .stack .now) x y false (pos 0) (omega arith) h k (c .before .before .first .given) (c .before .second .given) (c .if1 .left) refl
+returns-2 c = λ b x y i h k. less-law (c .before .before .before .args .stack .now) b x y false (pos 0) (omega arith) i h k (c .before .before .first .given) (c .before .second .given) (c .if1 .left) refl
 
 pub less-spec : {M : Type 1} → statement M
 less-spec =

@@ -146,8 +146,20 @@ unfolding numbered expressionKinds expressionDecoded expressionMeaning constantM
 returns-26 c = attribute-as (λ n. decoded.Known 4 (code.Unary (unary.Remove n) (c .before .before .before .before .a-at .result))) (c .byte5 .ensures) (expression-arm (c .before .before .before .before .before .before .before .args .rows .now) (c .before .before .before .before .before .before .before .args .i) (c .before .before .before .before .before .kind-at .result) (c .before .before .before .before .a-at .result) (c .before .before .before .b-at .result) (c .before .before .c-at .result) (c .before .before .before .before .before .kind-at .ensures) (c .before .before .before .before .a-at .ensures .0) (c .before .before .before .b-at .ensures .0) (c .before .before .c-at .ensures .0) 26 _ (λ a b c. decoded.Known 4 (code.Unary (unary.Remove (byte b)) a)) (c .before .match .keys26) refl refl refl)
 
 returns-27 : tie.Need-returns-27
+unfolding numbered expressionKinds expressionDecoded expressionMeaning constantMeaning expressionUses inBytes unaryInBytes binaryInBytes unaryNaming binaryNaming unaryMeaning binaryMeaning
+returns-27 c = expression-arm (c .before .before .before .before .before .before .args .rows .now) (c .before .before .before .before .before .before .args .i) (c .before .before .before .before .kind-at .result) (c .before .before .before .a-at .result) (c .before .before .b-at .result) (c .before .c-at .result) (c .before .before .before .before .kind-at .ensures) (c .before .before .before .a-at .ensures .0) (c .before .before .b-at .ensures .0) (c .before .c-at .ensures .0) 27 _ (λ a b c. decoded.Known 8 (code.Constant simple.Hundredths)) (c .match .keys27) refl refl refl
+
+returns-28 : tie.Need-returns-28
+unfolding numbered expressionKinds expressionDecoded expressionMeaning constantMeaning expressionUses inBytes unaryInBytes binaryInBytes unaryNaming binaryNaming unaryMeaning binaryMeaning
+returns-28 c = expression-arm (c .before .before .before .before .before .before .args .rows .now) (c .before .before .before .before .before .before .args .i) (c .before .before .before .before .kind-at .result) (c .before .before .before .a-at .result) (c .before .before .b-at .result) (c .before .c-at .result) (c .before .before .before .before .kind-at .ensures) (c .before .before .before .a-at .ensures .0) (c .before .before .b-at .ensures .0) (c .before .c-at .ensures .0) 28 _ (λ a b c. decoded.Known 2 (code.Unary unary.ToHundredths a)) (c .match .keys28) refl refl refl
+
+returns-29 : tie.Need-returns-29
+unfolding numbered expressionKinds expressionDecoded expressionMeaning constantMeaning expressionUses inBytes unaryInBytes binaryInBytes unaryNaming binaryNaming unaryMeaning binaryMeaning
+returns-29 c = expression-arm (c .before .before .before .before .before .before .args .rows .now) (c .before .before .before .before .before .before .args .i) (c .before .before .before .before .kind-at .result) (c .before .before .before .a-at .result) (c .before .before .b-at .result) (c .before .c-at .result) (c .before .before .before .before .kind-at .ensures) (c .before .before .before .a-at .ensures .0) (c .before .before .b-at .ensures .0) (c .before .c-at .ensures .0) 29 _ (λ a b c. decoded.Known 2 (code.Unary unary.ToNumber a)) (c .match .keys29) refl refl refl
+
+returns-30 : tie.Need-returns-30
 unfolding expressionKinds
-returns-27 c = expression-unknown (c .before .before .before .before .before .before .args .rows .now) (c .before .before .before .before .before .before .args .i) (c .before .before .before .before .kind-at .result) (c .before .before .before .before .kind-at .ensures) _ (c .match .rest)
+returns-30 c = expression-unknown (c .before .before .before .before .before .before .args .rows .now) (c .before .before .before .before .before .before .args .i) (c .before .before .before .before .kind-at .result) (c .before .before .before .before .kind-at .ensures) _ (c .match .rest)
 
 pub expression-at-spec : {M : Type 1} → statement M
 expression-at-spec =
@@ -188,4 +200,7 @@ expression-at-spec =
     returns-24
     returns-25
     returns-26
-    returns-27)
+    returns-27
+    returns-28
+    returns-29
+    returns-30)

@@ -47,8 +47,12 @@ unfolding numbered typeKinds typeDecoded typeMeaning simpleMeaning typeUses
 returns-6 c = type-arm (c .before .before .before .before .before .before .args .rows .now) (c .before .before .before .before .before .before .args .i) (c .before .before .before .before .kind-at .result) (c .before .before .before .a-at .result) (c .before .before .b-at .result) (c .before .c-at .result) (c .before .before .before .before .kind-at .ensures) (c .before .before .before .a-at .ensures .0) (c .before .before .b-at .ensures .0) (c .before .c-at .ensures .0) 6 _ (λ a b c. decoded-type.Known 6 (type.Expand a b c)) (c .match .keys6) refl refl refl
 
 returns-7 : tie.Need-returns-7
+unfolding numbered typeKinds typeDecoded typeMeaning simpleMeaning typeUses
+returns-7 c = type-arm (c .before .before .before .before .before .before .args .rows .now) (c .before .before .before .before .before .before .args .i) (c .before .before .before .before .kind-at .result) (c .before .before .before .a-at .result) (c .before .before .b-at .result) (c .before .c-at .result) (c .before .before .before .before .kind-at .ensures) (c .before .before .before .a-at .ensures .0) (c .before .before .b-at .ensures .0) (c .before .c-at .ensures .0) 7 _ (λ a b c. decoded-type.Known 0 (type.Simple simple.Hundredths)) (c .match .keys7) refl refl refl
+
+returns-8 : tie.Need-returns-8
 unfolding typeKinds
-returns-7 c = type-unknown (c .before .before .before .before .before .before .args .rows .now) (c .before .before .before .before .before .before .args .i) (c .before .before .before .before .kind-at .result) (c .before .before .before .before .kind-at .ensures) _ (c .match .rest)
+returns-8 c = type-unknown (c .before .before .before .before .before .before .args .rows .now) (c .before .before .before .before .before .before .args .i) (c .before .before .before .before .kind-at .result) (c .before .before .before .before .kind-at .ensures) _ (c .match .rest)
 
 pub type-at-spec : {M : Type 1} → statement M
 type-at-spec =
@@ -64,4 +68,5 @@ type-at-spec =
     returns-4
     returns-5
     returns-6
-    returns-7)
+    returns-7
+    returns-8)

@@ -13,15 +13,17 @@ use Rattle.decoder.proofs.mentions.unary_attributes.Statement.{statemen
 use Rattle.decoder.proofs.mentions.unary_attributes.Tie as tie
 
 -- no other operation has an attribute
-others : (o : UnaryOperation) → OneOf (0 ∷ 3 ∷ 4 ∷ 5 ∷ []) (tagOf the-type o) → unaryAttribute (unaryMeaning o) ≡ []
+others : (o : UnaryOperation) → OneOf (0 ∷ 3 ∷ 4 ∷ 5 ∷ 7 ∷ 8 ∷ []) (tagOf the-type o) → unaryAttribute (unaryMeaning o) ≡ []
 unfolding unaryAttribute unaryMeaning
 others row.Negation h = refl
-others (row.MakeRecord n) h = absurd (miss (0 ∷ 3 ∷ 4 ∷ 5 ∷ []) 1 tt h)
-others (row.Select n) h = absurd (miss (0 ∷ 3 ∷ 4 ∷ 5 ∷ []) 2 tt h)
+others (row.MakeRecord n) h = absurd (miss (0 ∷ 3 ∷ 4 ∷ 5 ∷ 7 ∷ 8 ∷ []) 1 tt h)
+others (row.Select n) h = absurd (miss (0 ∷ 3 ∷ 4 ∷ 5 ∷ 7 ∷ 8 ∷ []) 2 tt h)
 others row.MakeList h = refl
 others row.Top h = refl
 others row.Pop h = refl
-others (row.Remove n) h = absurd (miss (0 ∷ 3 ∷ 4 ∷ 5 ∷ []) 6 tt h)
+others (row.Remove n) h = absurd (miss (0 ∷ 3 ∷ 4 ∷ 5 ∷ 7 ∷ 8 ∷ []) 6 tt h)
+others row.ToHundredths h = refl
+others row.ToNumber h = refl
 
 enum-known-o : tie.Need-enum-known-o
 enum-known-o c = search needs

@@ -11,13 +11,13 @@ enum-told : tie.Need-enum-told
 enum-told c = search needs
 
 take-reading-requires : tie.Need-take-reading-requires
-take-reading-requires c κs = (record { store = c .before .before .before .before .before .before .before .before .before .before .pre .0 .store; running = checked-running (c .before .before .before .before .enum-told .given .1) (c .before .before .before .before .before .before .before .before .before .before .pre .0 .holds); there = read (now (c .before .before .before .before .before .before .before .before .before .before .args .rows)) (c .before .before .before .before .before .before .before .before .before .before .pre .0 .store) (c .before .before .before .before .before .before .before .before .before .before .pre .0 .holds .count) (c .before .before .before .before .before .before .before .before .before .before .pre .0 .of-scope) (c .before .before .before .before .before .before .before .before .before .before .pre .1 .0) }, c .before .before .before .before .before .before .before .before .before .before .pre .0 .enough)
+take-reading-requires c κs = (record { store = c .before .before .before .before .before .before .before .before .before .before .pre .0 .store; running = checked-running (c .before .before .before .before .enum-told .given .1) (c .before .before .before .before .before .before .before .before .before .before .pre .0 .holds); there = read (now (c .before .before .before .before .before .before .before .before .before .before .args .rows)) (c .before .before .before .before .before .before .before .before .before .before .pre .0 .store) (c .before .before .before .before .before .before .before .before .before .before .pre .0 .holds .count) (c .before .before .before .before .before .before .before .before .before .before .pre .0 .of-scope) (c .before .before .before .before .before .before .before .before .before .before .pre .1 .0 .0) }, c .before .before .before .before .before .before .before .before .before .before .pre .0 .enough)
 
 enum-told-2 : tie.Need-enum-told-2
 enum-told-2 c = search needs
 
 take-reading-requires-2 : tie.Need-take-reading-requires-2
-take-reading-requires-2 c κs = (erased-standing (c .before .before .before .enum-told2 .given .1) (c .before .before .before .before .before .before .before .before .before .pre .0), (c .before .before .before .before .before .before .before .before .before .pre .1, c .before .before .before .before .before .before .before .before .before .pre .0 .enough))
+take-reading-requires-2 c κs = (erased-standing (c .before .before .before .enum-told2 .given .1) (c .before .before .before .before .before .before .before .before .before .pre .0), (c .before .before .before .before .before .before .before .before .before .pre .1 .0, (c .before .before .before .before .before .before .before .before .before .pre .1 .1, c .before .before .before .before .before .before .before .before .before .pre .0 .enough)))
 
 same-length : tie.Need-same-length
 same-length c = search needs
@@ -32,7 +32,7 @@ same-length-4 : tie.Need-same-length-4
 same-length-4 c = search needs
 
 returns : tie.Need-returns
-returns c = stores-number _ (toZ-ofZ _ _ (c .before .before .before .before .before .before .before .before .before .before .before .before .before .before .before .before .before .fits .z)) (checked-stores (c .before .before .before .before .before .before .before .before .before .before .before .enum-told .given .1) _ _ (λ vs. taken-long vs _) (λ a vs q r k. c .before .before .before .before .before .before .take-reading .ensures vs r (read (now (c .before .before .before .before .before .before .before .before .before .before .before .before .before .before .before .before .before .args .rows)) vs k q (c .before .before .before .before .before .before .before .before .before .before .before .before .before .before .before .before .before .pre .1 .0))))
+returns c = stores-number _ (toZ-ofZ _ _ (c .before .before .before .before .before .before .before .before .before .before .before .before .before .before .before .before .before .fits .z)) (checked-stores (c .before .before .before .before .before .before .before .before .before .before .before .enum-told .given .1) _ _ (λ vs. taken-long vs _) (λ a vs q r k. c .before .before .before .before .before .before .take-reading .ensures vs r (read (now (c .before .before .before .before .before .before .before .before .before .before .before .before .before .before .before .before .before .args .rows)) vs k q (c .before .before .before .before .before .before .before .before .before .before .before .before .before .before .before .before .before .pre .1 .0 .0))))
 
 same-length-5 : tie.Need-same-length-5
 same-length-5 c = search needs

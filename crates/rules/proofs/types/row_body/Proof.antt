@@ -1,6 +1,7 @@
 -- `row_body` meets its contract: the rows that it names are lower, and their bodies stand in the array. Assumes nothing.
 use mathlib.Core.Path.{sym, ap, _∙_}
 use native.Mathlib.Omega.{arith}
+use Rattle.lingua.specs.Encode.{bytes}
 use Rattle.body.specs.Typed.{simpleOf}
 use Rattle.decoder.specs.Decoded.{typeMeaning, typeDecoded}
 use Rattle.decoder.proofs.Decoding.{type-decoded}
@@ -19,6 +20,7 @@ enum-told : tie.Need-enum-told
 enum-told c = search needs
 
 scalar-requires : tie.Need-scalar-requires
+unfolding bytes simpleOf
 scalar-requires c κs = search needs
 
 enum-known-d : tie.Need-enum-known-d

@@ -13,11 +13,11 @@ use Rattle.whole_run.proofs.inputs.take_readings.Statement.{statement}
 use Rattle.whole_run.proofs.inputs.take_readings.Tie as tie
 
 abbrev Inv-loop : tie.InvT-loop
-Inv-loop way rows t bodies₀ layout limits cells₀ states₀ who numbers stack₀ count moment₀ i₀ bodies cells states stack moment i =
+Inv-loop way rows t declarations types bodies₀ layout limits cells₀ states₀ who numbers stack₀ count moment₀ i₀ bodies cells states stack moment i =
     Taking way (context rows t layout limits) (lent cells₀ states₀ bodies₀) (lent cells states bodies) who numbers moment₀ moment i × (i ≤ length who) × (length stack ≡ length stack₀) × (length cells ≡ length cells₀) × (length states ≡ length states₀) × (length bodies ≡ length bodies₀)
 
 abbrev μ-loop : tie.MeasureT-loop
-μ-loop way rows t bodies₀ layout limits cells₀ states₀ who numbers stack₀ count moment₀ i₀ bodies cells states stack moment i =
+μ-loop way rows t declarations types bodies₀ layout limits cells₀ states₀ who numbers stack₀ count moment₀ i₀ bodies cells states stack moment i =
     length who - i
 
 loop-holds : tie.Need-loop-holds Inv-loop μ-loop
@@ -48,28 +48,28 @@ cast-n : tie.Need-cast-n Inv-loop μ-loop
 cast-n c = omega (arith, c .shared-slice-known4 .given (c .before .before .before .before .loop .i))
 
 mul-z : tie.Need-mul-z Inv-loop μ-loop
-mul-z c = search needs
+mul-z c = omega (arith, c .before .before .before .loop-test .taken, few-readings (c .before .before .before .before .before .before .before .before .before .before .pre .1 .1 .0))
 
 shared-slice-copy-out-z : tie.Need-shared-slice-copy-out-z Inv-loop μ-loop
 shared-slice-copy-out-z c = search needs
 
 add-place : tie.Need-add-place Inv-loop μ-loop
-add-place c = search needs
+add-place c = omega (arith, c .before .before .before .before .loop-test .taken, few-readings (c .before .before .before .before .before .before .before .before .before .before .before .pre .1 .1 .0))
 
 cast-place : tie.Need-cast-place Inv-loop μ-loop
-cast-place c = record { fits = omega (arith, few-readings (c .before .before .before .before .before .before .before .before .before .before .before .pre .1 .1), c .before .before .before .before .loop-test .taken) }
+cast-place c = record { fits = omega (arith, few-readings (c .before .before .before .before .before .before .before .before .before .before .before .pre .1 .1 .0), c .before .before .before .before .loop-test .taken) }
 
 take-one-requires : tie.Need-take-one-requires Inv-loop μ-loop
-take-one-requires c κs = (taking-standing (c .before .before .before .before .before .before .before .before .before .loop .inv .0) (c .before .before .before .before .before .before .before .before .before .before .before .before .before .before .before .pre .0) (omega (arith, c .before .before .before .before .before .before .before .before .before .loop .inv .2)), (reads-variable (c .before .before .before .before .before .before .before .before .before .before .before .before .before .before .before .pre .1 .1) (c .before .before .before .before .before .before .before .before .before .loop .i) (omega arith), (c .before .before .before .before .before .before .before .before .before .loop .inv .0 .goes, omega (arith, c .before .before .before .before .before .before .if1 .left))))
+take-one-requires c κs = (taking-standing (c .before .before .before .before .before .before .before .before .before .loop .inv .0) (c .before .before .before .before .before .before .before .before .before .before .before .before .before .before .before .pre .0) (omega (arith, c .before .before .before .before .before .before .before .before .before .loop .inv .2)), (reads-variable (c .before .before .before .before .before .before .before .before .before .before .before .before .before .before .before .pre .1 .1 .0) (c .before .before .before .before .before .before .before .before .before .loop .i) (omega arith), ((c .before .before .before .before .before .before .before .before .before .loop .inv .0 .goes, omega (arith, c .before .before .before .before .before .before .if1 .left)), c .before .before .before .before .before .before .before .before .before .before .before .before .before .before .before .pre .1 .1 .1)))
 
 add-i : tie.Need-add-i Inv-loop μ-loop
-add-i c = omega (arith, c .before .before .before .before .before .before .before .before .before .before .before .before .before .before .before .loop-test .taken, few-readings (c .before .before .before .before .before .before .before .before .before .before .before .before .before .before .before .before .before .before .before .before .before .before .pre .1 .1))
+add-i c = omega (arith, c .before .before .before .before .before .before .before .before .before .before .before .before .before .before .before .loop-test .taken, few-readings (c .before .before .before .before .before .before .before .before .before .before .before .before .before .before .before .before .before .before .before .before .before .before .pre .1 .1 .0))
 
 loop-less : tie.Need-loop-less Inv-loop μ-loop
 loop-less c = search needs
 
 loop-again : tie.Need-loop-again Inv-loop μ-loop
-loop-again c = (taking-more (c .before .before .before .before .before .before .before .before .before .before .before .before .before .before .before .before .loop .inv .0) _ _ _ _ (c .before .before .before .before .before .before .take-one .ensures) (c .before .before .before .before .before .before .before .before .before .before .before .before .before .before .before .before .before .before .before .before .before .before .pre .1 .1 .same-length) (omega arith) refl (cell-back _ (c .before .before .before .before .before .before .before .before .before .before .before .z .given)) refl (omega (arith, c .before .before .before .before .before .before .before .before .before .before .before .before .before .if1 .left)), omega arith, omega (arith, c .before .before .before .before .before .before .take-one .kept, c .before .before .before .before .before .before .before .before .before .before .before .before .before .before .before .before .loop .inv .2), omega (arith, c .before .before .before .before .before .before .take-one .kept, c .before .before .before .before .before .before .before .before .before .before .before .before .before .before .before .before .loop .inv .3), omega (arith, c .before .before .before .before .before .before .take-one .kept, c .before .before .before .before .before .before .before .before .before .before .before .before .before .before .before .before .loop .inv .4), omega (arith, c .before .before .before .before .before .before .take-one .kept, c .before .before .before .before .before .before .before .before .before .before .before .before .before .before .before .before .loop .inv .5))
+loop-again c = (taking-more (c .before .before .before .before .before .before .before .before .before .before .before .before .before .before .before .before .loop .inv .0) _ _ _ _ (c .before .before .before .before .before .before .take-one .ensures) (c .before .before .before .before .before .before .before .before .before .before .before .before .before .before .before .before .before .before .before .before .before .before .pre .1 .1 .0 .same-length) (omega arith) refl (cell-back _ (c .before .before .before .before .before .before .before .before .before .before .before .z .given)) refl (omega (arith, c .before .before .before .before .before .before .before .before .before .before .before .before .before .if1 .left)), omega arith, omega (arith, c .before .before .before .before .before .before .take-one .kept, c .before .before .before .before .before .before .before .before .before .before .before .before .before .before .before .before .loop .inv .2), omega (arith, c .before .before .before .before .before .before .take-one .kept, c .before .before .before .before .before .before .before .before .before .before .before .before .before .before .before .before .loop .inv .3), omega (arith, c .before .before .before .before .before .before .take-one .kept, c .before .before .before .before .before .before .before .before .before .before .before .before .before .before .before .before .loop .inv .4), omega (arith, c .before .before .before .before .before .before .take-one .kept, c .before .before .before .before .before .before .before .before .before .before .before .before .before .before .before .before .loop .inv .5))
 
 same-length-5 : tie.Need-same-length-5 Inv-loop μ-loop
 same-length-5 c = search needs

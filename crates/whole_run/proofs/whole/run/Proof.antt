@@ -12,7 +12,7 @@ slice-aggregate-take-readings : tie.Need-slice-aggregate-take-readings
 slice-aggregate-take-readings c = search needs
 
 take-readings-requires : tie.Need-take-readings-requires
-take-readings-requires c κs = (begins-standing (c .before .before .before .before .before .before .before .before .before .before .before .before .before .before .before .before .pre .1 .0), (fresh-going _ (c .before .before .before .before .before .before .before .before .before .before .before .before .before .before .before .before .args .budget) (c .before .before .before .before .fresh .ensures), c .before .before .before .before .before .before .before .before .before .before .before .before .before .before .before .before .pre .1 .1))
+take-readings-requires c κs = (begins-standing (c .before .before .before .before .before .before .before .before .before .before .before .before .before .before .before .before .pre .1 .0), (fresh-going _ (c .before .before .before .before .before .before .before .before .before .before .before .before .before .before .before .before .args .budget) (c .before .before .before .before .fresh .ensures), (c .before .before .before .before .before .before .before .before .before .before .before .before .before .before .before .before .pre .1 .1, (c .before .before .before .before .before .before .before .before .before .before .before .before .before .before .before .before .pre .0 .declarations, c .before .before .before .before .before .before .before .before .before .before .before .before .before .before .before .before .pre .0 .types))))
 
 sub-row : tie.Need-sub-row
 sub-row c = some-row (c .before .before .before .before .before .before .before .before .before .before .before .before .before .before .before .before .before .before .before .before .before .before .before .before .pre .1 .0) (c .before .before .before .before .before .before .before .before .before .before .before .before .before .before .before .before .before .before .before .before .before .before .before .before .pre .0 .instructions)
