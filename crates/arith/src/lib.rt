@@ -1,6 +1,8 @@
 // Arithmetic on numbers and on counts of hundredths. A sum and a difference are exact; of counts, a product and a quotient are rounded to
 // the nearest count; of numbers, a quotient is cut toward zero. What leaves the range is an error. In each operation, `hundredths` says
 // that counts are meant.
+#![tactic(auto)]
+
 ghost use Rattle.std.specs.Prelude.{◌≡◌, true, ◌≤◌, pos, nat_abs, ◌+ℤ◌, ◌-ℤ◌};
 ghost use Rattle.lingua.specs.Value.{in_range, in_counts, in_range_of};
 ghost use Rattle.lingua.specs.Compute.{ranged, product, quotient, divided, counted, whole_part};
@@ -13,7 +15,7 @@ use lingua::sizes::{HIGHEST_COUNT, HIGHEST_NUMBER, LOWEST_COUNT, LOWEST_NUMBER, 
 pub mod rounding; // rounding.rt: to the nearest whole number
 
 // A number or a count, or the number of a run error.
-#[derive(Drop)]
+#[derive(Clone, Copy)]
 pub enum Number {
     Whole(i64),
     Error(u8),

@@ -19,10 +19,8 @@ pub fn gather(file: &[u8], areas: &mut [u8])
     while k < count {
         let start = BLOCK_BYTES * k;
         let at = AREA_BYTES * k;
-        bytes::copy(
-            &file[start + HEADER_BYTES..start + CHECK_PLACE],
-            &mut areas[at..at + AREA_BYTES],
-        );
+        areas[at..at + AREA_BYTES]
+            .copy_from_slice(&file[start + HEADER_BYTES..start + CHECK_PLACE]);
         k += 1;
     }
 }
@@ -57,7 +55,7 @@ pub fn copy_rows(rows: &[u8], out: &mut [u8])
     requires { length rows.now ≤ length out.old }
     ensures { out.new ≡ pad (length out.old) 0 rows.now }
 {
-    bytes::copy(rows, &mut *out);
+    out[..rows.len()].copy_from_slice(rows);
     let mut i = rows.len();
     while i < out.len() {
         out[i] = 0;

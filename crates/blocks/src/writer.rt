@@ -39,7 +39,7 @@ fn write_header(kind: FileKind, model: u16, k: u8, count: u8, header: &mut [u8])
     ensures { header.new ≡ header_of (fileMeaning kind) model k count }
 {
     let marker = marker_of(kind);
-    bytes::copy(&marker, &mut *header);
+    header[..4].copy_from_slice(&marker);
     header[4] = k;
     header[5] = count;
     header[6] = low_byte(model as u32);

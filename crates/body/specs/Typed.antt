@@ -1,7 +1,7 @@
 -- What the operations' half on bodies gives, as the code holds it. Assumes nothing: these are definitions.
 use Rattle.std.specs.Prelude.{◌≡◌, ℕ, ◌≤◌, eqb, replicate}
 use Rattle.std.proofs.Math.Option.{Option, some, none}
-use Rattle.lingua.specs.Numbers.{body_cells_lem, body_nodes, body_bytes}
+use Rattle.lingua.specs.Numbers.{body_cells, body_nodes, body_bytes}
 use Rattle.lingua.specs.Outcome.{ok, fail, Result, if◌then◌else◌}
 use Rattle.lingua.specs.Body.{Body, boolean, number, word, hundredths, Attributes, attributes_of, attribute_offset, insert_attribute, size, nodes}
 use Rattle.lingua.specs.Encode.{encoded}
@@ -16,7 +16,7 @@ typed (fail e) o = record { error = e; body = replicate body_bytes 0; cells = 0;
 
 -- the body has few enough cells and nodes to be held; the error is one
 unfoldable pub Fit : Result Body → Type 0
-Fit (ok b) = (size b ≤ body_cells_lem) × (nodes b ≤ body_nodes)
+Fit (ok b) = (size b ≤ body_cells) × (nodes b ≤ body_nodes)
 Fit (fail e) = 1 ≤ e
 
 -- the code's answer is what the half on bodies gives

@@ -8,7 +8,7 @@ use crate::walk::measured;
 use lingua::sizes::BODY_BYTES;
 
 // Whether an attribute is there, where its body stands, and the cells before its first.
-#[derive(Drop)]
+#[derive(Clone, Copy)]
 pub struct Found {
     pub found: bool,
     pub at: usize,

@@ -1,6 +1,6 @@
 // The answer of an operation on bodies, and what the operations share.
 ghost use Rattle.std.specs.Prelude.{◌≡◌, ◌||◌, [], ◌∷◌, ℕ, ◌≤◌, ltb};
-ghost use Rattle.lingua.specs.Numbers.{body_cells_lem, body_nodes, body_depth, record_attributes};
+ghost use Rattle.lingua.specs.Numbers.{body_cells, body_nodes, body_depth, record_attributes};
 ghost use Rattle.lingua.specs.Outcome.{ok, fail};
 ghost use Rattle.lingua.specs.Encode.{bytes};
 ghost use Rattle.body.specs.Typed.{Types, simple_of};
@@ -10,7 +10,7 @@ use lingua::sizes::{BODY_BYTES, BODY_CELLS, BODY_DEPTH, BODY_NODES, RECORD_ATTRI
 
 // The result's body with its cells, and the attribute's cell offset of 17 to 19 and 26, or of 5 to 8 whether hundredths are reckoned with; or a
 // type error.
-#[derive(Drop)]
+#[derive(Clone, Copy)]
 pub struct Typed {
     pub error: u8,
     pub body: [u8; BODY_BYTES],
@@ -45,7 +45,7 @@ pub fn scalar(tag: u8) -> Typed
 }
 
 pub fn too_large(cells: usize, nodes: usize, depth: usize, width: u8) -> bool
-    ensures { result ≡ (ltb body_cells_lem cells || ltb body_nodes nodes || ltb body_depth depth || ltb record_attributes width) }
+    ensures { result ≡ (ltb body_cells cells || ltb body_nodes nodes || ltb body_depth depth || ltb record_attributes width) }
 {
     if BODY_CELLS < cells {
         return true;

@@ -19,7 +19,7 @@ pub const RECORD: u8 = 5;
 pub const HUNDREDTHS: u8 = 7;
 
 // A body's cells, nodes and depth, and the place after its last byte.
-#[derive(Drop)]
+#[derive(Clone, Copy)]
 pub struct Measure {
     pub cells: usize,
     pub nodes: usize,

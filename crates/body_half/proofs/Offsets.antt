@@ -6,7 +6,7 @@ use mathlib.Core.List.{List}
 use Prim.Native.Nat.{ℕ, ◌+◌, ◌≤◌}
 use native.Mathlib.Omega.{arith}
 use lib.Dec.{eqb}
-use Rattle.lingua.specs.Numbers.{body_cells_lem}
+use Rattle.lingua.specs.Numbers.{body_cells}
 use Rattle.lingua.specs.Errors.{attribute_present, no_such_attribute, no_coherence, body_too_large}
 use Rattle.lingua.specs.Outcome.{ok, fail, Result, require, if◌then◌else◌, ◌>>◌}
 use Rattle.lingua.specs.Body.{Body, boolean, number, word, hundredths, list_of, record_of, Attributes, end, attribute, size, sizes, is_hundredths, same_body, attributes_of, attribute_body, attribute_offset, insert_attribute, too_large}
@@ -41,12 +41,12 @@ offset_within n (record_of fs) = attribute_within n fs
 -- what is to be shown of an offset: it is the second number, and small
 record Second (o s : ℕ) : Type 0 where
   is : o ≡ s
-  small : o ≤ body_cells_lem
+  small : o ≤ body_cells
 
 none_is : (s : ℕ) → s ≡ 0 → Second 0 s
 none_is s e = record { is = sym e; small = omega arith }
 
-unary_small : (o : Unary) (b : Body) → size b ≤ body_cells_lem → unary_second o b ≤ body_cells_lem
+unary_small : (o : Unary) (b : Body) → size b ≤ body_cells → unary_second o b ≤ body_cells
 unfolding unary_second
 unary_small negation b h = omega arith
 unary_small (make_record n) b h = omega arith
@@ -85,18 +85,18 @@ changed n (record_of fs) c d e =
     ok_same q.1
 
 -- what is reckoned with keeps its body
-flag_small : (b : Body) → hundredths_flag b ≤ body_cells_lem
+flag_small : (b : Body) → hundredths_flag b ≤ body_cells
 unfolding hundredths_flag
 flag_small b = by (is_hundredths b)
   where
-    by : (t : Bool) → (if t then 1 else 0) ≤ body_cells_lem
+    by : (t : Bool) → (if t then 1 else 0) ≤ body_cells
     by true = omega arith
     by false = omega arith
 
 reckoned_second : (b c d : Body) → quantities_to b b c ≡ ok d → Second (hundredths_flag b) (hundredths_flag d)
 reckoned_second b c d e = record { is = ap hundredths_flag (sym (quantities_body e).2); small = flag_small b }
 
-binary_second_lem : (o : Binary) (b c d : Body) → binary_body o b c ≡ ok d → size d ≤ body_cells_lem → Second (binary_offset o b c) (binary_second o b c d)
+binary_second_lem : (o : Binary) (b c d : Body) → binary_body o b c ≡ ok d → size d ≤ body_cells → Second (binary_offset o b c) (binary_second o b c d)
 unfolding binary_offset binary_second binary_body
 binary_second_lem add b c d e h = reckoned_second b c d e
 binary_second_lem subtract b c d e h = reckoned_second b c d e
@@ -112,7 +112,7 @@ binary_second_lem (change n) b c d e h =
 binary_second_lem push b c d e h = none_is 0 refl
 
 -- ---- halves
-by_types : (t : HalfTyped) (r : Result Body) (o : ℕ) (second : Body → ℕ) → Types t r o → ((d : Body) → r ≡ ok d → size d ≤ body_cells_lem → Second o (second d)) → Half t r second
+by_types : (t : HalfTyped) (r : Result Body) (o : ℕ) (second : Body → ℕ) → Types t r o → ((d : Body) → r ≡ ok d → size d ≤ body_cells → Second o (second d)) → Half t r second
 unfolding Half typed Fit
 by_types t (ok d) o second h f =
     let s = f d refl h.fit.0 in

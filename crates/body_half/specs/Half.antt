@@ -1,6 +1,6 @@
 -- What an operation's half on bodies gives at a row, with the layout table's second number. Assumes nothing: these are definitions.
 use Rattle.std.specs.Prelude.{◌≡◌, [], ◌∷◌, ℕ, ◌≤◌}
-use Rattle.lingua.specs.Numbers.{body_cells_lem, body_bytes}
+use Rattle.lingua.specs.Numbers.{body_cells, body_bytes}
 use Rattle.lingua.specs.Outcome.{ok, fail, Result}
 use Rattle.lingua.specs.Body.{Body, size}
 use Rattle.lingua.specs.Value.{pad}
@@ -12,7 +12,7 @@ pub record HalfPasses (h : HalfTyped) (b : Body) (second : ℕ) : Type 0 where
   pub holds : Holds h.body b
   pub cells : h.cells ≡ size b
   pub is_second : h.offset ≡ second
-  pub small : h.offset ≤ body_cells_lem
+  pub small : h.offset ≤ body_cells
 
 pub record HalfFails (h : HalfTyped) (n : ℕ) : Type 0 where
   pub some_error : 1 ≤ n

@@ -8,7 +8,7 @@ use pair::take_pair;
 use taken_checked::checked_run::checked_taken;
 use taken_erased::erased_run::erased_taken;
 
-#[derive(Drop)]
+#[derive(Clone, Copy)]
 pub struct BothAnswers {
     pub checked: RunAnswer,
     pub erased: RunAnswer,

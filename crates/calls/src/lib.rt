@@ -1,4 +1,6 @@
 // What hosts and programs call: the reader, the writer, the search for a variable by its name, the type check and both runs. Any bytes and any buffers may be handed in.
+#![tactic(auto)]
+
 pub mod both; // both.rt: both runs of one profile
 pub mod checked_run; // checked_run.rt: the checked run
 pub mod erased_run; // erased_run.rt: the erased run

@@ -8,7 +8,7 @@ use Prim.Native.Nat.{ℕ, ◌+◌, ◌≤◌, ◌<◌}
 use native.Mathlib.Omega.{arith}
 use lib.ListN.{length, set, get_or}
 use lib.IntN.{ℤ, pos}
-use Rattle.lingua.specs.Numbers.{body_cells_lem}
+use Rattle.lingua.specs.Numbers.{body_cells}
 use Rattle.lingua.specs.Outcome.{ok, Result}
 use Rattle.lingua.specs.Body.{Body, boolean, number, word, list_of, record_of, Attributes, size, sizes, is_hundredths, is_quantity, is_simple, attributes_of, attribute_body, attribute_offset, insert_attribute}
 use Rattle.lingua.specs.Value.{Value, Fits, fit_whole, fit_hundredths, in_range_of, quantity, quantity_body, as_whole}
@@ -71,12 +71,12 @@ module _ {s : List ℤ} {cells others offset : ℕ} {b c d : Body} {x y : Value}
       let p = expand_body {n = n} h.half in
       omega (arith, insert_within n c p.attributes p.absent, offset_of n p.result h.offset_is, record_size p.is, h.cells_are)
 
-  pub expand_room : (n : ℕ) → Operands (expand n) s cells others offset b c d x y → cells + others ≤ body_cells_lem
+  pub expand_room : (n : ℕ) → Operands (expand n) s cells others offset b c d x y → cells + others ≤ body_cells
   expand_room n h =
       let p = expand_body {n = n} h.half in
       omega (arith, p.small, record_size p.result, sizes_insert n c p.attributes, record_size p.is, h.cells_are, h.others_are)
 
-  pub change_room : (n : ℕ) → Operands (change n) s cells others offset b c d x y → offset + others ≤ body_cells_lem
+  pub change_room : (n : ℕ) → Operands (change n) s cells others offset b c d x y → offset + others ≤ body_cells
   unfolding binary_second
   change_room n h =
       let p = change_body {n = n} h.half in

@@ -7,7 +7,7 @@ use native.Mathlib.Omega.{arith}
 use lib.ListN.{length, take, drop, length-append, length-take}
 use lib.Seq.{take-take, take-append-le, drop_at, length-take-le}
 use lib.IntN.{ℤ}
-use Rattle.lingua.specs.Numbers.{body_cells_lem}
+use Rattle.lingua.specs.Numbers.{body_cells}
 use Rattle.lingua.specs.Outcome.{Result}
 use Rattle.lingua.specs.Body.{Body, word, list_of, record_of, end, attribute, size}
 use Rattle.lingua.specs.Value.{Value, fields, no_fields, field, count_values, as_text, as_items, packed_in, packed}
@@ -29,18 +29,18 @@ pub leaves_as : {n : ℕ} {s : List ℤ} {c d : Body} {o : Result Value} → d �
 leaves_as {n} {s} {c} {d} {o} q h = subst (λ (e : Body). Leaves n s e o) (sym q) h
 
 -- ---- the other operand's part of the stack is changed
-pub lies_kept : {s : List ℤ} {b : Body} {x : Value} (r : List ℤ) → size b ≤ body_cells_lem → body_cells_lem ≤ length s → Lies s 0 b x → Lies (take body_cells_lem s ++ r) 0 b x
+pub lies_kept : {s : List ℤ} {b : Body} {x : Value} (r : List ℤ) → size b ≤ body_cells → body_cells ≤ length s → Lies s 0 b x → Lies (take body_cells s ++ r) 0 b x
 lies_kept {s} {b} {x} r small long h = record {
   cells =
-      take-append-le (size b) (take body_cells_lem s) r (omega (arith, length-take-le body_cells_lem s long, small))
-      ∙ take-take (size b) body_cells_lem s small
+      take-append-le (size b) (take body_cells s) r (omega (arith, length-take-le body_cells s long, small))
+      ∙ take-take (size b) body_cells s small
       ∙ h.cells;
   fit = h.fit;
 }
 
-pub lies_second : {r : List ℤ} {c : Body} {y : Value} (s : List ℤ) → body_cells_lem ≤ length s → Lies r 0 c y → Lies (take body_cells_lem s ++ r) 64 c y
+pub lies_second : {r : List ℤ} {c : Body} {y : Value} (s : List ℤ) → body_cells ≤ length s → Lies r 0 c y → Lies (take body_cells s ++ r) 64 c y
 lies_second {r} {c} {y} s long h = record {
-  cells = ap (λ (l : List ℤ). take (size c) l) (drop_at (take body_cells_lem s) r body_cells_lem (length-take-le body_cells_lem s long)) ∙ h.cells;
+  cells = ap (λ (l : List ℤ). take (size c) l) (drop_at (take body_cells s) r body_cells (length-take-le body_cells s long)) ∙ h.cells;
   fit = h.fit;
 }
 
@@ -53,17 +53,17 @@ pub lies_front : {s : List ℤ} {b : Body} {x : Value} (rest : List ℤ) → Lie
 lies_front {s} {b} rest h = record { cells = take-append-le (size b) s rest (lies_long h) ∙ h.cells; fit = h.fit }
 
 -- the second operand by itself and in the whole
-pub lies_above : {s : List ℤ} {b : Body} {x : Value} → Lies (drop body_cells_lem s) 0 b x → Lies s body_cells_lem b x
+pub lies_above : {s : List ℤ} {b : Body} {x : Value} → Lies (drop body_cells s) 0 b x → Lies s body_cells b x
 lies_above h = record { cells = h.cells; fit = h.fit }
 
-pub lies_behind : {above : List ℤ} {b : Body} {x : Value} (s rest : List ℤ) → body_cells_lem ≤ length s → Lies above 0 b x → Lies (drop body_cells_lem (take body_cells_lem s ++ (above ++ rest))) 0 b x
+pub lies_behind : {above : List ℤ} {b : Body} {x : Value} (s rest : List ℤ) → body_cells ≤ length s → Lies above 0 b x → Lies (drop body_cells (take body_cells s ++ (above ++ rest))) 0 b x
 lies_behind s rest long h = let k = lies_second s long (lies_front rest h) in record { cells = k.cells; fit = k.fit }
 
-pub both_long : (s above rest : List ℤ) → body_cells_lem ≤ length s → body_cells_lem ≤ length above → body_cells_lem + body_cells_lem ≤ length (take body_cells_lem s ++ (above ++ rest))
-both_long s above rest h k = omega (arith, length-append (take body_cells_lem s) (above ++ rest), length-append above rest, length-take-le body_cells_lem s h)
+pub both_long : (s above rest : List ℤ) → body_cells ≤ length s → body_cells ≤ length above → body_cells + body_cells ≤ length (take body_cells s ++ (above ++ rest))
+both_long s above rest h k = omega (arith, length-append (take body_cells s) (above ++ rest), length-append above rest, length-take-le body_cells s h)
 
 -- ---- what the operations ask
-pub lies_counted : {s : List ℤ} {b : Body} {x : Value} (w : ℕ) → size b ≡ w → size (list_of b) ≤ body_cells_lem → Lies s 0 (list_of b) x → Counted s w
+pub lies_counted : {s : List ℤ} {b : Body} {x : Value} (w : ℕ) → size b ≡ w → size (list_of b) ≤ body_cells → Lies s 0 (list_of b) x → Counted s w
 lies_counted {s} {b} {x} w z small h = record {
   count = count_values (as_items x);
   is = list_count h;

@@ -6,7 +6,7 @@ use Prim.Native.Nat.{ℕ, ◌+◌, ◌-◌, ◌*◌, ◌/◌, ◌≤◌}
 use native.Mathlib.Omega.{arith}
 use lib.ListN.{get_or}
 use lib.IntN.{ℤ, pos}
-use Rattle.lingua.specs.Numbers.{body_cells_lem, list_places}
+use Rattle.lingua.specs.Numbers.{body_cells, list_places}
 use Rattle.lingua.specs.Body.{Body, boolean, number, hundredths, is_number, is_hundredths, is_quantity, list_of, record_of, Attributes, size, sizes, attributes_of, attribute_body, attribute_offset, remove_attribute}
 use Rattle.lingua.specs.Value.{Value, in_range, in_counts}
 use Rattle.lingua.specs.Operation.{Unary, negation, make_record, select, make-list, top, pop, remove, to-hundredths, to_number}
@@ -40,7 +40,7 @@ module _ {s : List ℤ} {cells result offset : ℕ} {b d : Body} {x : Value} whe
       let p = select_body {n = n} h.half in
       omega (arith, attribute_within n p.attributes d p.has, offset_of n p.is h.offset_is, h.result_is, h.cells_are, ap size p.is)
 
-  pub listed_room : Operand make-list s cells result offset b d x → 1 + list_places * cells ≤ body_cells_lem
+  pub listed_room : Operand make-list s cells result offset b d x → 1 + list_places * cells ≤ body_cells
   listed_room h =
       omega (arith, unary_small make-list b h.small h.half, ap size (make_list_body h.half), list_size b, h.cells_are)
 

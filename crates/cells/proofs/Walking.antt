@@ -12,7 +12,7 @@ use lib.Seq.{take-take, take_all}
 use lib.IntN.{ℤ, pos, nat_abs}
 use mir.Syntax.{w64}
 use mir.Val.{to_z, of_z}
-use Rattle.lingua.specs.Numbers.{body_cells_lem, list_places}
+use Rattle.lingua.specs.Numbers.{body_cells, list_places}
 use Rattle.lingua.specs.Outcome.{ok, fail, Result, all_answers, ◌>>=◌}
 use Rattle.lingua.specs.Body.{Body, list_of, size}
 use Rattle.lingua.specs.Value.{Value, truth, items, count_values, value_list, as_items, cells_of, all_of}
@@ -30,7 +30,7 @@ counted s = nat_abs (to_z w64 (of_z w64 (get_or s 0 (pos 0))))
 -- what a walk over elements of width cells keeps to
 pub record Walked (list : List ℤ) (width : ℕ) : Type 0 where
   pub few : counted list ≤ list_places
-  pub room : 1 + list_places * width ≤ body_cells_lem
+  pub room : 1 + list_places * width ≤ body_cells
   pub long : 1 + list_places * width ≤ length list
   pub positive : to_z w64 (of_z w64 (get_or list 0 (pos 0))) ≡ pos (counted list)
 
@@ -44,7 +44,7 @@ module _ {list : List ℤ} {b : Body} {x : Value} (lies : Lies list 0 (list_of b
   pub some_cell : 0 < length list
   some_cell = omega (arith, lies_long lies, list_size b)
 
-  pub walks : (width : ℕ) → width ≡ size b → size (list_of b) ≤ body_cells_lem → Walked list width
+  pub walks : (width : ℕ) → width ≡ size b → size (list_of b) ≤ body_cells → Walked list width
   walks width z small = record {
     few = omega (arith, counted_elements, fit_count lies.fit);
     room = omega (arith, z, list_size b, small);

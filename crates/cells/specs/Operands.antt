@@ -1,6 +1,6 @@
 -- The operands of an operation on the stack, with the numbers that tell how their cells lie. Assumes nothing: these are definitions.
 use Rattle.std.specs.Prelude.{◌≡◌, List, ℕ, ◌≤◌, ℤ}
-use Rattle.lingua.specs.Numbers.{body_cells_lem}
+use Rattle.lingua.specs.Numbers.{body_cells}
 use Rattle.lingua.specs.Outcome.{ok}
 use Rattle.lingua.specs.Body.{Body, size}
 use Rattle.lingua.specs.Value.{Value}
@@ -15,7 +15,7 @@ pub record Operand (o : Unary) (stack : List ℤ) (cells result offset : ℕ) (b
   pub cells_are : size b ≡ cells
   pub result_is : size d ≡ result
   pub offset_is : unary_second o b ≡ offset
-  pub small : size b ≤ body_cells_lem
+  pub small : size b ≤ body_cells
   pub lies : Lies stack first_place b x
 
 -- some such value
@@ -32,8 +32,8 @@ pub record Operands (o : Binary) (stack : List ℤ) (cells others offset : ℕ) 
   pub cells_are : size b ≡ cells
   pub others_are : size c ≡ others
   pub offset_is : binary_second o b c d ≡ offset
-  pub small : size b ≤ body_cells_lem
-  pub small_other : size c ≤ body_cells_lem
+  pub small : size b ≤ body_cells
+  pub small_other : size c ≤ body_cells
   pub lies : Lies stack first_place b x
   pub lies_other : Lies stack second_place c y
 

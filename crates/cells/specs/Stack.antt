@@ -1,6 +1,6 @@
 -- How values lie on the operand stack, and what an operation leaves there. Assumes nothing: these are definitions.
 use Rattle.std.specs.Prelude.{◌≡◌, List, ℕ, ◌+◌, ◌*◌, ◌≤◌, take, drop, get_or, ℤ, pos}
-use Rattle.lingua.specs.Numbers.{list_places, body_cells_lem}
+use Rattle.lingua.specs.Numbers.{list_places, body_cells}
 use Rattle.lingua.specs.Errors.{no_error}
 use Rattle.lingua.specs.Outcome.{ok, fail, Result}
 use Rattle.lingua.specs.Body.{Body, size}
@@ -11,7 +11,7 @@ abbrev pub first_place : ℕ
 first_place = 0
 
 abbrev pub second_place : ℕ
-second_place = body_cells_lem
+second_place = body_cells
 
 -- the cells from a place on are those of a value of a body
 pub record Lies (stack : List ℤ) (at : ℕ) (b : Body) (v : Value) : Type 0 where
@@ -34,4 +34,4 @@ pub record Counted (stack : List ℤ) (size : ℕ) : Type 0 where
   pub count : ℕ
   pub is : get_or stack first_place (pos 0) ≡ pos count
   pub few : count ≤ list_places
-  pub room : 1 + list_places * size ≤ body_cells_lem
+  pub room : 1 + list_places * size ≤ body_cells

@@ -1,7 +1,7 @@
 // An operation by its name: the values' half, in place on the operand stack, driven by the cells of the operands and of the result and by
 // the layout table's second number, as a body or the table gives them.
 ghost use Rattle.std.specs.Prelude.{◌≡◌, Bool, ◌+◌, ◌<◌, ◌≤◌, length};
-ghost use Rattle.lingua.specs.Numbers.{body_cells_lem};
+ghost use Rattle.lingua.specs.Numbers.{body_cells};
 ghost use Rattle.lingua.specs.Body.{Body};
 ghost use Rattle.lingua.specs.Outcome.{Result};
 ghost use Rattle.lingua.specs.Value.{Value, quantity_body};
@@ -27,7 +27,7 @@ pub fn unary(
     offset: usize,
 ) -> u8
     requires has_operand { HasOperand (unary_meaning operation) stack.old cells res offset }
-    requires body_cells_in_bounds { body_cells_lem ≤ length stack.old }
+    requires body_cells_in_bounds { body_cells ≤ length stack.old }
     ensures { (b d : Body) (x : Value) → Operand (unary_meaning operation) stack.old cells res offset b d x
         → Leaves result stack.new d (unary_value (unary_meaning operation) x) }
 {
@@ -68,7 +68,7 @@ pub fn binary(
     offset: usize,
 ) -> u8
     requires has_operands { HasOperands (binary_meaning operation) stack.old cells others offset }
-    requires body_cells_in_bounds { body_cells_lem + body_cells_lem ≤ length stack.old }
+    requires body_cells_in_bounds { body_cells + body_cells ≤ length stack.old }
     ensures { (b c d : Body) (x y : Value) → Operands (binary_meaning operation) stack.old cells others offset b c d x y
         → Leaves result stack.new d (binary_value (binary_meaning operation) x y) }
 {

@@ -2,6 +2,8 @@
 // second's at stack[64], and the result takes the first one's place. Sizes and offsets come as numbers: nothing here knows
 // a body. Only a value's own cells are read or written. To make a record of one attribute there is nothing to do: its cells
 // are the attribute's.
+#![tactic(auto)]
+
 pub mod apply; // apply.rt: an operation by its name
 pub mod lists; // lists.rt: lists
 pub mod parts; // parts.rt: cells moved and cleared

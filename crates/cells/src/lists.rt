@@ -1,6 +1,6 @@
 // Lists on the stack: the length first, then eight places of `width` cells each, zeros in the empty ones.
 ghost use Rattle.std.specs.Prelude.{◌≡◌, ◌+◌, ◌*◌, ◌≤◌, length};
-ghost use Rattle.lingua.specs.Numbers.{list_places, body_cells_lem};
+ghost use Rattle.lingua.specs.Numbers.{list_places, body_cells};
 ghost use Rattle.lingua.specs.Body.{Body, list_of, size};
 ghost use Rattle.lingua.specs.Value.{Value};
 ghost use Rattle.lingua.specs.Operation.{make-list, top, pop, push};
@@ -13,8 +13,8 @@ use lingua::sizes::{BODY_CELLS, LIST_PLACES};
 
 // The value one cell up, as the first element; zeros in the other places.
 pub fn make_list(stack: &mut [i64], width: usize)
-    requires width_bound { 1 + list_places * width ≤ body_cells_lem }
-    requires body_cells_in_bounds { body_cells_lem ≤ length stack.old }
+    requires width_bound { 1 + list_places * width ≤ body_cells }
+    requires body_cells_in_bounds { body_cells ≤ length stack.old }
     ensures { (b : Body) (x : Value) → size b ≡ width → Lies stack.old first_place b x → Holds stack.new (list_of b) (unary_value make-list x) }
 {
     parts::copy_up(stack, 0, 1, width);
@@ -25,7 +25,7 @@ pub fn make_list(stack: &mut [i64], width: usize)
 // The second operand to the first free place.
 pub fn push(stack: &mut [i64], width: usize) -> u8
     requires counted { Counted stack.old width }
-    requires width_in_bounds { body_cells_lem + width ≤ length stack.old }
+    requires width_in_bounds { body_cells + width ≤ length stack.old }
     ensures { (b : Body) (x y : Value) → size b ≡ width → Lies stack.old first_place (list_of b) x → Lies stack.old second_place b y
         → Leaves result stack.new (list_of b) (binary_value push x y) }
 {
@@ -41,7 +41,7 @@ pub fn push(stack: &mut [i64], width: usize) -> u8
 // The last element to the front.
 pub fn top(stack: &mut [i64], width: usize) -> u8
     requires counted { Counted stack.old width }
-    requires body_cells_in_bounds { body_cells_lem ≤ length stack.old }
+    requires body_cells_in_bounds { body_cells ≤ length stack.old }
     ensures { (b : Body) (x : Value) → size b ≡ width → Lies stack.old first_place (list_of b) x → Leaves result stack.new b (unary_value top x) }
 {
     let count = stack[0] as usize;
@@ -56,7 +56,7 @@ pub fn top(stack: &mut [i64], width: usize) -> u8
 // The list without its last element, whose place becomes zeros.
 pub fn pop(stack: &mut [i64], width: usize) -> u8
     requires counted { Counted stack.old width }
-    requires body_cells_in_bounds { body_cells_lem ≤ length stack.old }
+    requires body_cells_in_bounds { body_cells ≤ length stack.old }
     ensures { (b : Body) (x : Value) → size b ≡ width → Lies stack.old first_place (list_of b) x → Leaves result stack.new (list_of b) (unary_value pop x) }
 {
     let count = stack[0] as usize;

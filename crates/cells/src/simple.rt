@@ -1,6 +1,6 @@
 // Simple values on the stack, one cell each: Booleans are 0 or 1.
 ghost use Rattle.std.specs.Prelude.{◌≡◌, true, ◌<◌, length, get_or, pos};
-ghost use Rattle.lingua.specs.Numbers.{body_cells_lem};
+ghost use Rattle.lingua.specs.Numbers.{body_cells};
 ghost use Rattle.lingua.specs.Body.{Body, boolean, number, hundredths, is_quantity, is_simple};
 ghost use Rattle.lingua.specs.Value.{Value, in_range, in_counts};
 ghost use Rattle.lingua.specs.Operation.{negation, to-hundredths, to_number, less, equal};
@@ -43,7 +43,7 @@ pub fn to_number(stack: &mut [i64])
 
 // Two numbers, or two counts of hundredths.
 pub fn less(stack: &mut [i64])
-    requires { body_cells_lem < length stack.old }
+    requires { body_cells < length stack.old }
     ensures { (b : Body) (x y : Value) → is_quantity b ≡ true → Lies stack.old first_place b x → Lies stack.old second_place b y
         → Holds stack.new boolean (binary_value less x y) }
 {
@@ -58,7 +58,7 @@ pub fn less(stack: &mut [i64])
 
 // Two values of one simple body are equal exactly where their cells are.
 pub fn equal(stack: &mut [i64])
-    requires { body_cells_lem < length stack.old }
+    requires { body_cells < length stack.old }
     ensures { (b : Body) (x y : Value) → is_simple b ≡ true → Lies stack.old first_place b x → Lies stack.old second_place b y
         → Holds stack.new boolean (binary_value equal x y) }
 {

@@ -1,6 +1,6 @@
 // Words on the stack: up to eight bytes in a cell, the first highest, zeros after.
 ghost use Rattle.std.specs.Prelude.{◌≡◌, true, List, ℕ, ◌<◌, length};
-ghost use Rattle.lingua.specs.Numbers.{body_cells_lem, word_length};
+ghost use Rattle.lingua.specs.Numbers.{body_cells, word_length};
 ghost use Rattle.lingua.specs.Body.{word};
 ghost use Rattle.lingua.specs.Value.{Value, is_text, packed_in};
 ghost use Rattle.lingua.specs.Operation.{glue};
@@ -15,7 +15,7 @@ use lingua::sizes::BODY_CELLS;
 const HIGHEST: u64 = 72057594037927936;
 
 // A word's number after a move, or no room for it.
-#[derive(Drop)]
+#[derive(Clone, Copy)]
 pub enum Moved {
     To(u64),
     Nowhere,
@@ -44,7 +44,7 @@ fn moved_behind(first: u64, second: u64) -> Moved
 
 // The second word behind the first, if both have at most eight bytes together.
 pub fn glue(stack: &mut [i64]) -> u8
-    requires body_cells_in_bounds { body_cells_lem < length stack.old }
+    requires body_cells_in_bounds { body_cells < length stack.old }
     requires word_at { WordAt stack.old first_place }
     requires word_at_2 { WordAt stack.old second_place }
     ensures { (x y : Value) → Lies stack.old first_place word x → Lies stack.old second_place word y → Leaves result stack.new word (binary_value glue x y) }

@@ -1,6 +1,6 @@
 // Yokes, and expressions outside yokes.
 ghost use Rattle.std.specs.Prelude.{List, ◌+◌, ◌*◌, ◌<◌, ◌≤◌, length};
-ghost use Rattle.lingua.specs.Numbers.{body_cells_lem};
+ghost use Rattle.lingua.specs.Numbers.{body_cells};
 ghost use Rattle.lingua.specs.Value.{Composite};
 ghost use Rattle.lingua.specs.Store.{Variable, contents};
 ghost use Rattle.lingua.specs.Trees.{expression_tree, yoke_tree};
@@ -31,7 +31,7 @@ pub fn eval_yoke(
 ) -> Evaluated
     requires ready { Ready rows.now t variables.now cells.now states.now current.now body }
     requires y_le_count { y ≤ t.count }
-    requires y_in_bounds { body_cells_lem * (y + 1) ≤ length stack.old }
+    requires y_in_bounds { body_cells * (y + 1) ≤ length stack.old }
     ensures { (vs : List Variable) (x : Composite) → World rows.now t variables.now cells.now states.now vs → Current current.now body x
         → Gives result stack.new (eval_yoke (yoke_tree rows.now y) (contents vs) x) }
 {
@@ -63,7 +63,7 @@ pub fn eval_plain(
 ) -> Evaluated
     requires has_world { HasWorld rows.now t variables.now cells.now states.now }
     requires row_lt_count { row < t.count }
-    requires row_in_bounds { body_cells_lem * (row + 2) ≤ length stack.old }
+    requires row_in_bounds { body_cells * (row + 2) ≤ length stack.old }
     ensures { (vs : List Variable) → World rows.now t variables.now cells.now states.now vs
         → Gives result stack.new (meaning (expression_tree rows.now row) (contents vs) no_current) }
 {
@@ -86,7 +86,7 @@ pub fn eval_test(
 ) -> Truth
     requires has_world { HasWorld rows.now t variables.now cells.now states.now }
     requires row_lt_count { row < t.count }
-    requires row_in_bounds { body_cells_lem * (row + 2) ≤ length stack.old }
+    requires row_in_bounds { body_cells * (row + 2) ≤ length stack.old }
     ensures { (vs : List Variable) → World rows.now t variables.now cells.now states.now vs
         → Tells result (eval_test (expression_tree rows.now row) (contents vs)) }
 {

@@ -5,7 +5,7 @@ use Prim.Native.Nat.{ℕ, zero, suc}
 use native.Mathlib.Omega.{arith}
 use lib.ListN.{drop}
 use lib.IntN.{ℤ}
-use Rattle.lingua.specs.Numbers.{body_cells_lem}
+use Rattle.lingua.specs.Numbers.{body_cells}
 use Rattle.lingua.specs.Outcome.{ok, fail, Result, ◌>>=◌}
 use Rattle.lingua.specs.Body.{Body, size}
 use Rattle.lingua.specs.Value.{Value, Composite, composite}
@@ -89,14 +89,14 @@ module _ (o : Unary) (x : Evaluated) (t : Typed) (s : List ℤ) (half : (b : Bod
 -- ---- two operands
 pub record BothHalved (o : Binary) (x y : Evaluated) (t : Typed) (s : List ℤ) (p q : Result Composite) : Type 0 where
   pub first : Answers x s p
-  pub second : Answers y (drop body_cells_lem s) q
+  pub second : Answers y (drop body_cells s) q
   pub body : Body
   pub operands : Operands o s x.cells y.cells t.offset first.value.body second.value.body body first.value.value second.value.value
   pub holds : Holds t.body body
   pub size_is : t.cells ≡ size body
 
 module _ (o : Binary) (x y : Evaluated) (t : Typed) (s : List ℤ) (half : (b c : Body) → Holds x.body b → Holds y.body c → Half t (binary_body o b c) (λ d. binary_second o b c d)) where
-  pub both_halved : {p q : Result Composite} → Gives x s p → Gives y (drop body_cells_lem s) q → x.error ≡ 0 → y.error ≡ 0 → t.error ≡ 0 → BothHalved o x y t s p q
+  pub both_halved : {p q : Result Composite} → Gives x s p → Gives y (drop body_cells s) q → x.error ≡ 0 → y.error ≡ 0 → t.error ≡ 0 → BothHalved o x y t s p q
   both_halved h k e f z =
       let a = h.answer e in
       let b = k.answer f in
@@ -110,17 +110,17 @@ module _ (o : Binary) (x y : Evaluated) (t : Typed) (s : List ℤ) (half : (b c 
         size_is = d.passes.cells;
       }
 
-  pub binary_has : Given x s → Given y (drop body_cells_lem s) → x.error ≡ 0 → y.error ≡ 0 → t.error ≡ 0 → HasOperands o s x.cells y.cells t.offset
+  pub binary_has : Given x s → Given y (drop body_cells s) → x.error ≡ 0 → y.error ≡ 0 → t.error ≡ 0 → HasOperands o s x.cells y.cells t.offset
   binary_has g k e f z =
       let u = both_halved g.gives k.gives e f z in
       record { body = u.first.value.body; other = u.second.value.body; given = u.body; value = u.first.value.value; other_value = u.second.value.value; operands = u.operands }
 
-  both : {p q : Result Composite} (a : Answers x s p) (b : Answers y (drop body_cells_lem s) q) → (p >>= λ u. q >>= λ v. apply_binary o u v) ≡ apply_binary o a.value b.value
+  both : {p q : Result Composite} (a : Answers x s p) (b : Answers y (drop body_cells s) q) → (p >>= λ u. q >>= λ v. apply_binary o u v) ≡ apply_binary o a.value b.value
   both {p} {q} a b =
       ap (λ (r : Result Composite). r >>= λ u. q >>= λ v. apply_binary o u v) a.is
       ∙ ap (λ (r : Result Composite). r >>= λ v. apply_binary o a.value v) b.is
 
-  pub binary_no_body : {p q : Result Composite} → Gives x s p → Gives y (drop body_cells_lem s) q → x.error ≡ 0 → y.error ≡ 0 → (t.error ≡ 0 → ⊥) → (p >>= λ u. q >>= λ v. apply_binary o u v) ≡ fail t.error
+  pub binary_no_body : {p q : Result Composite} → Gives x s p → Gives y (drop body_cells s) q → x.error ≡ 0 → y.error ≡ 0 → (t.error ≡ 0 → ⊥) → (p >>= λ u. q >>= λ v. apply_binary o u v) ≡ fail t.error
   unfolding apply_binary
   binary_no_body h k e f z =
       let a = h.answer e in
@@ -135,13 +135,13 @@ module _ (o : Binary) (x y : Evaluated) (t : Typed) (s : List ℤ) (half : (b c 
       ∙ ap (λ (r : Result Body). r >>= λ d. binary_value o u.first.value.value u.second.value.value >>= λ v. ok (composite d v)) u.operands.half
 
   module _ (n : ℕ) (after : List ℤ) (leaves : (b c d : Body) (v w : Value) → Operands o s x.cells y.cells t.offset b c d v w → Leaves n after d (binary_value o v w)) where
-    pub binary_no_value : {p q : Result Composite} → Gives x s p → Gives y (drop body_cells_lem s) q → x.error ≡ 0 → y.error ≡ 0 → t.error ≡ 0 → (n ≡ 0 → ⊥) → (p >>= λ u. q >>= λ v. apply_binary o u v) ≡ fail n
+    pub binary_no_value : {p q : Result Composite} → Gives x s p → Gives y (drop body_cells s) q → x.error ≡ 0 → y.error ≡ 0 → t.error ≡ 0 → (n ≡ 0 → ⊥) → (p >>= λ u. q >>= λ v. apply_binary o u v) ≡ fail n
     binary_no_value h k e f z g =
         let u = both_halved h k e f z in
         applied_both u
         ∙ ap (λ (r : Result Value). r >>= λ v. ok (composite u.body v)) ((leaves _ _ _ _ _ u.operands).error g)
 
-    pub binary_value_lem : {p q : Result Composite} → Gives x s p → Gives y (drop body_cells_lem s) q → x.error ≡ 0 → y.error ≡ 0 → t.error ≡ 0 → n ≡ 0 → (r : Evaluated) → r.error ≡ 0 → r.body ≡ t.body → r.cells ≡ t.cells → Gives r after (p >>= λ u. q >>= λ v. apply_binary o u v)
+    pub binary_value_lem : {p q : Result Composite} → Gives x s p → Gives y (drop body_cells s) q → x.error ≡ 0 → y.error ≡ 0 → t.error ≡ 0 → n ≡ 0 → (r : Evaluated) → r.error ≡ 0 → r.body ≡ t.body → r.cells ≡ t.cells → Gives r after (p >>= λ u. q >>= λ v. apply_binary o u v)
     binary_value_lem h k e f z g r re rb rc =
         let u = both_halved h k e f z in
         let l = (leaves _ _ _ _ _ u.operands).answer g in
@@ -158,7 +158,7 @@ module _ (o : Binary) (x y : Evaluated) (s : List ℤ) where
   pub first_error : {p : Result Composite} (q : Result Composite) (after : List ℤ) → Gives x s p → (x.error ≡ 0 → ⊥) → Gives x after (p >>= λ u. q >>= λ v. apply_binary o u v)
   first_error q after h e = gives_error x.error refl e (ap (λ (r : Result Composite). r >>= λ u. q >>= λ v. apply_binary o u v) (h.error e))
 
-  pub second_error : {p q : Result Composite} (after : List ℤ) → Gives x s p → Gives y (drop body_cells_lem s) q → x.error ≡ 0 → (y.error ≡ 0 → ⊥) → Gives y after (p >>= λ u. q >>= λ v. apply_binary o u v)
+  pub second_error : {p q : Result Composite} (after : List ℤ) → Gives x s p → Gives y (drop body_cells s) q → x.error ≡ 0 → (y.error ≡ 0 → ⊥) → Gives y after (p >>= λ u. q >>= λ v. apply_binary o u v)
   second_error {p} {q} after h k e f =
       let a = h.answer e in
       gives_error y.error refl f

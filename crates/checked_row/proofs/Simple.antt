@@ -7,7 +7,7 @@ use native.Mathlib.Omega.{arith}
 use lib.IntN.{ℤ, pos}
 use lib.ListN.{length, take, drop, get_or, set}
 use lib.Seq.{get_or-take, get_or-drop}
-use Rattle.lingua.specs.Numbers.{body_bytes, body_cells_lem}
+use Rattle.lingua.specs.Numbers.{body_bytes, body_cells}
 use Rattle.lingua.specs.Errors.{not_filled}
 use Rattle.lingua.specs.Outcome.{ok, Result, or_fail}
 use Rattle.lingua.specs.Body.{Body, size}
@@ -64,10 +64,10 @@ own_first variables n =
 pub constant_simple : (rows : List ℕ) (k : ℕ) (s : List ℤ) (z : ℤ) (own : List ℕ) (t : ℕ) → ConstantRow rows k → IsCell z (constant_of rows k) → 0 < length s → Holds own (constant_of rows k).body → IsSimple t own (constant_of rows k).body → SimpleGives t (set s 0 z) (ok (constant_of rows k))
 constant_simple rows k s z own t c i l h q = record { gives = λ p. gives_constant rows k s z (simple_evaluated t) c i l refl (subst (λ (b : List ℕ). Holds b (constant_of rows k).body) (q.is p) h) refl }
 
-pub variable_simple : {variables : List ℕ} {cells : List ℤ} {states : List ℕ} {vs : List Variable} (h : Stored variables cells states vs) (n : ℕ) (lt : n < length vs) (s : List ℤ) (z : ℤ) (t : ℕ) → filled_at states n ≡ true → IsSimple t (take 96 (drop (96 * n) variables)) (present_body (variable_at vs n)) → z ≡ get_or cells (body_cells_lem * n) (pos 0) → 0 < length s
+pub variable_simple : {variables : List ℕ} {cells : List ℤ} {states : List ℕ} {vs : List Variable} (h : Stored variables cells states vs) (n : ℕ) (lt : n < length vs) (s : List ℤ) (z : ℤ) (t : ℕ) → filled_at states n ≡ true → IsSimple t (take 96 (drop (96 * n) variables)) (present_body (variable_at vs n)) → z ≡ get_or cells (body_cells * n) (pos 0) → 0 < length s
     → SimpleGives t (set s 0 z) (or_fail (contents vs n) not_filled)
 variable_simple {variables} {cells} h n lt s z t g q e l = record {
-  gives = λ p. gives_variable h n lt s (set s 0 z) _ 1 (simple_evaluated t) g refl (sym (q.one_cell p)) (one_cell s cells (body_cells_lem * n) 1 z e refl l (omega (arith, cells_room (memory_of h) n lt))) refl (sym (q.is p)) refl;
+  gives = λ p. gives_variable h n lt s (set s 0 z) _ 1 (simple_evaluated t) g refl (sym (q.one_cell p)) (one_cell s cells (body_cells * n) 1 z e refl l (omega (arith, cells_room (memory_of h) n lt))) refl (sym (q.is p)) refl;
 }
 
 pub current_long : {current : List ℤ} {body : List ℕ} {x : Composite} {t : ℕ} → Current current body x → IsSimple t body x.body → 1 ≤ t → 0 < length current

@@ -12,7 +12,7 @@ use lib.Seq.{get_or-drop, take-suc, take-suc-set, paste}
 use lib.IntN.{ℤ}
 use lib.Dec.{eqb}
 use borrow.Author.Tests.{eqb-false, not-true}
-use Rattle.lingua.specs.Numbers.{body_cells_lem, body_bytes, most_variables}
+use Rattle.lingua.specs.Numbers.{body_cells, body_bytes, most_variables}
 use Rattle.lingua.specs.Errors.{not_filled}
 use Rattle.lingua.specs.Outcome.{ok, fail, Result, or_fail}
 use Rattle.lingua.specs.Body.{Body, size}
@@ -62,7 +62,7 @@ gives_constant rows k s z r c i h e b n =
     })
 
 -- ---- the current value
-pub current_room : {current : List ℤ} {body : List ℕ} {x : Composite} (n : ℕ) → Current current body x → n ≡ size x.body → (0 + n ≤ length current) × (n ≤ body_cells_lem)
+pub current_room : {current : List ℤ} {body : List ℕ} {x : Composite} (n : ℕ) → Current current body x → n ≡ size x.body → (0 + n ≤ length current) × (n ≤ body_cells)
 current_room n h e = (omega (arith, lies_long h.lies, e), omega (arith, h.holds.few_cells, e))
 
 pub gives_current : {current : List ℤ} {body : List ℕ} {x : Composite} (s after : List ℤ) (n : ℕ) (r : Evaluated) → Current current body x → n ≡ size x.body → after ≡ paste s 0 (drop 0 current) n → r.error ≡ 0 → r.body ≡ body → r.cells ≡ n → Gives r after (ok x)
@@ -125,7 +125,7 @@ module _ {variables : List ℕ} {cells : List ℤ} {states : List ℕ} {vs : Lis
     value_held x q body e = subst (λ (b : Body). Holds body b) (sym (present_is (variable_at vs n) x q)) (present_held body e)
 
     pub gives_variable : (s after : List ℤ) (body : List ℕ) (m : ℕ) (r : Evaluated) → filled_at states n ≡ true → body ≡ take body_bytes (drop (body_bytes * n) variables) → m ≡ size (present_body (variable_at vs n))
-        → after ≡ paste s 0 (drop (body_cells_lem * n) cells) m → r.error ≡ 0 → r.body ≡ body → r.cells ≡ m → Gives r after (or_fail (contents vs n) not_filled)
+        → after ≡ paste s 0 (drop (body_cells * n) cells) m → r.error ≡ 0 → r.body ≡ body → r.cells ≡ m → Gives r after (or_fail (contents vs n) not_filled)
     gives_variable s after body m r g b z q e rb rc =
         let x = filled_is (memory_of h) n lt g in
         let w : m ≡ size x.0.body = z ∙ ap size (sym (present_is (variable_at vs n) x.0 x.1)) in
@@ -133,6 +133,6 @@ module _ {variables : List ℕ} {cells : List ℤ} {states : List ℕ} {vs : Lis
           value = x.0;
           is = ap {B = Result Composite} (λ (c : Option Composite). or_fail c not_filled) x.1;
           holds = subst (λ (l : List ℕ). Holds l x.0.body) (sym rb) (value_held x.0 x.1 body b);
-          lies = copied_lies s cells (body_cells_lem * n) m x.0.body x.0.value q w (omega (arith, cells_room (memory_of h) n lt, z, (h.holdable n lt).few_cells)) (content_at (memory_of h) n lt x.0 x.1) (h.fits n x.0 x.1);
+          lies = copied_lies s cells (body_cells * n) m x.0.body x.0.value q w (omega (arith, cells_room (memory_of h) n lt, z, (h.holdable n lt).few_cells)) (content_at (memory_of h) n lt x.0 x.1) (h.fits n x.0 x.1);
           cells = rc ∙ w;
         })

@@ -1,7 +1,7 @@
 -- What the code of the checked run holds and gives. Assumes nothing: these are definitions.
 use Rattle.std.specs.Prelude.{◌≡◌, true, List, [], ◌∷◌, ℕ, ◌+◌, ◌*◌, ◌≤◌, ◌<◌, ℤ, length}
 use Rattle.std.proofs.Math.Option.{some}
-use Rattle.lingua.specs.Numbers.{body_cells_lem, body_nodes, expression_section, most_variables, body_bytes}
+use Rattle.lingua.specs.Numbers.{body_cells, body_nodes, expression_section, most_variables, body_bytes}
 use Rattle.lingua.specs.Errors.{no_error}
 use Rattle.lingua.specs.Outcome.{ok, fail, Result, all_answers}
 use Rattle.lingua.specs.Body.{Body, size, nodes, is_boolean}
@@ -21,7 +21,7 @@ use Rattle.checked_row.specs.declared.tally.Tally.{Tally}
 -- ---- what is given
 -- a body that 96 bytes hold
 pub record Holdable (b : Body) : Type 0 where
-  pub few_cells : size b ≤ body_cells_lem
+  pub few_cells : size b ≤ body_cells
   pub few_nodes : nodes b ≤ body_nodes
 
 -- the caller's memory holds the store's variables, with their present bodies
@@ -69,7 +69,7 @@ pub record Ready (rows : List ℕ) (t : Table) (variables : List ℕ) (cells : L
 pub record Asked (row : ℕ) (rows : List ℕ) (t : Table) (variables : List ℕ) (cells : List ℤ) (states : List ℕ) (current : List ℤ) (body : List ℕ) (stack : List ℤ) : Type 0 where
   pub ready : Ready rows t variables cells states current body
   pub here : row < t.count
-  pub room : body_cells_lem * (row + 2) ≤ length stack
+  pub room : body_cells * (row + 2) ≤ length stack
 
 -- ---- what evaluation gives
 -- the value lies at the stack's front, and its body and the number of its cells are given

@@ -14,7 +14,7 @@ use lingua::sizes::BODY_BYTES;
 use run::steps::Truth;
 
 // An error, or a value on the stack with its body and the number of its cells.
-#[derive(Drop)]
+#[derive(Clone, Copy)]
 pub struct Evaluated {
     pub error: u8,
     pub body: [u8; BODY_BYTES],

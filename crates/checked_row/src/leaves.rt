@@ -1,6 +1,6 @@
 // Expressions without operands: a constant, a variable, the current value. Each puts its cells at the stack's front.
 ghost use Rattle.std.specs.Prelude.{◌≡◌, List, ◌+◌, ◌*◌, ◌<◌, ◌≤◌, length, take, drop};
-ghost use Rattle.lingua.specs.Numbers.{expression_section, body_cells_lem, body_bytes};
+ghost use Rattle.lingua.specs.Numbers.{expression_section, body_cells, body_bytes};
 ghost use Rattle.lingua.specs.Errors.{not_filled};
 ghost use Rattle.lingua.specs.Outcome.{ok, or_fail};
 ghost use Rattle.lingua.specs.Value.{Composite};
@@ -59,7 +59,7 @@ pub fn fetch(
     stack: &mut [i64],
 ) -> Evaluated
     requires has_stored { HasStored variables.now cells.now states.now n }
-    requires body_cells_in_bounds { body_cells_lem ≤ length stack.old }
+    requires body_cells_in_bounds { body_cells ≤ length stack.old }
     ensures { (vs : List Variable) → Stored variables.now cells.now states.now vs
         → Gives result stack.new (or_fail (contents vs n) not_filled) }
 {
@@ -78,7 +78,7 @@ pub fn fetch(
 
 pub fn copied(current: &[i64], body: [u8; BODY_BYTES], stack: &mut [i64]) -> Evaluated
     requires has_current { HasCurrent current.now body }
-    requires body_cells_in_bounds { body_cells_lem ≤ length stack.old }
+    requires body_cells_in_bounds { body_cells ≤ length stack.old }
     ensures { (x : Composite) → Current current.now body x → Gives result stack.new (ok x) }
 {
     let m = measure_body(body);

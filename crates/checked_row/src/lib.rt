@@ -1,5 +1,7 @@
 // What the evaluation of one row does in the checked run (document 01: desk run), on operands that are evaluated or on leaves: with bodies and
 // every check.
+#![tactic(auto)]
+
 pub mod answer; // answer.rt: what evaluation gives
 pub mod leaves; // leaves.rt: constants, variables and the current value
 pub mod quick; // quick.rt: an operation on two leaves at once

@@ -1,6 +1,6 @@
 // An operation on evaluated operands: the first error, then the bodies' half, then the values' half.
 ghost use Rattle.std.specs.Prelude.{◌+◌, ◌≤◌, length, drop};
-ghost use Rattle.lingua.specs.Numbers.{body_cells_lem};
+ghost use Rattle.lingua.specs.Numbers.{body_cells};
 ghost use Rattle.lingua.specs.Outcome.{Result, ◌>>=◌ as bind};
 ghost use Rattle.lingua.specs.Value.{Composite};
 ghost use Rattle.lingua.specs.Operations.{unary_meaning, binary_meaning};
@@ -24,7 +24,7 @@ fn simple_answer(tag: u8, error: u8) -> Evaluated
 
 pub fn unary(o: UnaryOperation, x: Evaluated, stack: &mut [i64]) -> Evaluated
     requires given { Given x stack.old }
-    requires body_cells_in_bounds { body_cells_lem ≤ length stack.old }
+    requires body_cells_in_bounds { body_cells ≤ length stack.old }
     ensures { (p : Result Composite) → Gives x stack.old p → Gives result stack.new (bind p (apply_unary (unary_meaning o))) }
 {
     if x.error != NO_ERROR {
@@ -55,9 +55,9 @@ pub fn unary(o: UnaryOperation, x: Evaluated, stack: &mut [i64]) -> Evaluated
 // The second operand lies 64 cells up the stack.
 pub fn binary(o: BinaryOperation, x: Evaluated, y: Evaluated, stack: &mut [i64]) -> Evaluated
     requires given { Given x stack.old }
-    requires given_2 { Given y (drop body_cells_lem stack.old) }
-    requires body_cells_in_bounds { body_cells_lem + body_cells_lem ≤ length stack.old }
-    ensures { (p q : Result Composite) → Gives x stack.old p → Gives y (drop body_cells_lem stack.old) q
+    requires given_2 { Given y (drop body_cells stack.old) }
+    requires body_cells_in_bounds { body_cells + body_cells ≤ length stack.old }
+    ensures { (p q : Result Composite) → Gives x stack.old p → Gives y (drop body_cells stack.old) q
         → Gives result stack.new (bind p (λ u. bind q (λ v. apply_binary (binary_meaning o) u v))) }
 {
     if x.error != NO_ERROR {

@@ -1,7 +1,7 @@
 // Operations on two leaves of simple bodies, at once. Most operations are such: the leaves' cells go to the stack, a body is told by its first byte,
 // and no 96 bytes are handed about. Whatever is not so simple is left to the evaluation, which finds its error too.
 ghost use Rattle.std.specs.Prelude.{◌≡◌, List, ℕ, ◌+◌, ◌≤◌, length, drop, get_or};
-ghost use Rattle.lingua.specs.Numbers.{body_cells_lem};
+ghost use Rattle.lingua.specs.Numbers.{body_cells};
 ghost use Rattle.lingua.specs.Body.{Body};
 ghost use Rattle.lingua.specs.Outcome.{Result, ◌>>=◌ as bind};
 ghost use Rattle.lingua.specs.Value.{Composite};
@@ -25,7 +25,7 @@ use profile::row::expression_row;
 use run::words::is_filled;
 
 // A simple value on the stack, by its tag; an error; or neither.
-#[derive(Drop)]
+#[derive(Clone, Copy)]
 pub enum Quick {
     Simple(u8),
     Failed(u8),
@@ -98,9 +98,9 @@ fn leaf(
 
 // An operation on two simple values, by their tags.
 fn apply(o: BinaryOperation, p: u8, q: u8, stack: &mut [i64]) -> Quick
-    requires given { Given (simple_evaluated p) stack.old × Given (simple_evaluated q) (drop body_cells_lem stack.old) }
-    requires body_cells_in_bounds { body_cells_lem + body_cells_lem ≤ length stack.old }
-    ensures { (u v : Result Composite) → Gives (simple_evaluated p) stack.old u → Gives (simple_evaluated q) (drop body_cells_lem stack.old) v
+    requires given { Given (simple_evaluated p) stack.old × Given (simple_evaluated q) (drop body_cells stack.old) }
+    requires body_cells_in_bounds { body_cells + body_cells ≤ length stack.old }
+    ensures { (u v : Result Composite) → Gives (simple_evaluated p) stack.old u → Gives (simple_evaluated q) (drop body_cells stack.old) v
         → QuickGives result stack.new (bind u (λ a. bind v (λ b. apply_binary (binary_meaning o) a b))) }
 {
     let first = simple(p);
@@ -131,7 +131,7 @@ pub fn pair(
     stack: &mut [i64],
 ) -> Quick
     requires asked { Asked a rows.now t variables.now cells.now states.now current.now body stack.old }
-    requires asked_2 { Asked b rows.now t variables.now cells.now states.now current.now body (drop body_cells_lem stack.old) }
+    requires asked_2 { Asked b rows.now t variables.now cells.now states.now current.now body (drop body_cells stack.old) }
     ensures { (vs : List Variable) (x : Composite) → World rows.now t variables.now cells.now states.now vs → Current current.now body x
         → QuickGives result stack.new (bind (meaning (expression_tree rows.now a) (contents vs) x) (λ u. bind (meaning (expression_tree rows.now b) (contents vs) x) (λ v. apply_binary (binary_meaning o) u v))) }
 {

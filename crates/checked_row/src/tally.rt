@@ -10,7 +10,7 @@ use crate::answer::{Evaluated, boolean, failed};
 use body_half::unary::is_boolean;
 use lingua::errors::{NO_ERROR, YOKE_EXPECTED};
 
-#[derive(Drop)]
+#[derive(Clone, Copy)]
 pub struct Tally {
     pub error: u8,
     pub booleans: bool,

@@ -7,7 +7,7 @@ use Prim.Native.Nat.{ℕ, ◌+◌, ◌-◌, ◌*◌}
 use native.Mathlib.Omega.{arith}
 use lib.IntN.{ℤ}
 use lib.ListN.{take, drop}
-use Rattle.lingua.specs.Numbers.{body_cells_lem}
+use Rattle.lingua.specs.Numbers.{body_cells}
 use Rattle.lingua.specs.Errors.{yoke_expected, yoke_not_satisfied}
 use Rattle.lingua.specs.Outcome.{ok, fail, Result, require, ◌>>=◌}
 use Rattle.lingua.specs.Value.{Composite}
@@ -29,7 +29,7 @@ pub record Fetched (variables : List ℕ) (cells : List ℤ) (body : List ℕ) (
   pub current : Current value body composite
 
 pub fetched : (variables : List ℕ) (cells : List ℤ) (states : List ℕ) (vs : List Variable) (n : ℕ) → Stored variables cells states vs → (body : List ℕ) → body ≡ take 96 (drop (96 * n) variables) → filled_at states n ≡ true
-    → Fetched variables cells body vs n (take (body_cells_lem * n + body_cells_lem - body_cells_lem * n) (drop (body_cells_lem * n) cells))
+    → Fetched variables cells body vs n (take (body_cells * n + body_cells - body_cells * n) (drop (body_cells * n) cells))
 fetched variables cells states vs n h body e f =
     let m = memory_of h in
     let lt = filled_there h n f in

@@ -1,6 +1,6 @@
 -- What the stores of the checked run ask of the memory and leave in it. Assumes nothing: these are definitions.
 use Rattle.std.specs.Prelude.{◌≡◌, true, List, ℕ, ◌+◌, ◌*◌, ◌≤◌, ◌<◌, ℤ, length, take, drop, set}
-use Rattle.lingua.specs.Numbers.{body_cells_lem, body_bytes, limit_cells}
+use Rattle.lingua.specs.Numbers.{body_cells, body_bytes, limit_cells}
 use Rattle.lingua.specs.Outcome.{Result}
 use Rattle.lingua.specs.Body.{size, coherent}
 use Rattle.lingua.specs.Value.{Composite}
@@ -61,10 +61,10 @@ Assigns r rows t limits l after p = Settles r (Running rows t limits) l after p
 -- ---- what a store asks and gives
 -- room in the memory for variable n's value, which is as long as it says
 pub record Storable (l : Lent) (n : ℕ) (value : List ℤ) (width : ℕ) : Type 0 where
-  pub cells_room : body_cells_lem * n + body_cells_lem ≤ length l.cells
+  pub cells_room : body_cells * n + body_cells ≤ length l.cells
   pub states_room : flag_place n < length l.states
   pub bodies_room : body_bytes * n + body_bytes ≤ length l.bodies
-  pub narrow : width ≤ body_cells_lem
+  pub narrow : width ≤ body_cells
   pub long : width ≤ length value
 
 -- the store with a coherent value in variable n, whatever else is asked of a run's store

@@ -1,7 +1,7 @@
 // A new value's checks, in order: its yoke's error, whether its body is coherent with the variable's present one, the yoke's body, the yoke and
 // the limits.
 ghost use Rattle.std.specs.Prelude.{◌≡◌, List, ◌+◌, ◌*◌, ◌<◌, ◌≤◌, length};
-ghost use Rattle.lingua.specs.Numbers.{body_cells_lem};
+ghost use Rattle.lingua.specs.Numbers.{body_cells};
 ghost use Rattle.lingua.specs.Value.{Composite, as_whole};
 ghost use Rattle.lingua.specs.Expression.{always};
 ghost use Rattle.lingua.specs.Store.{Variable, variable_at, admitted as checks};
@@ -67,7 +67,7 @@ pub fn admitted(
     stack: &mut [i64],
 ) -> u8
     requires checkable { Checkable rows.now t kept.now (lent cells.now states.now bodies.now) n value.now body }
-    requires count_in_bounds { body_cells_lem * (t.count + 1) ≤ length stack.old }
+    requires count_in_bounds { body_cells * (t.count + 1) ≤ length stack.old }
     ensures { (vs : List Variable) (x : Composite) → Running rows.now t kept.now (lent cells.now states.now bodies.now) vs → n < length vs → Current value.now body x
         → Admits result (checks vs (variable_at vs n) x) }
 {

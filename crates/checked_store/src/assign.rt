@@ -1,6 +1,6 @@
 // Assignment: the new value's checks, and then the store.
 ghost use Rattle.std.specs.Prelude.{List, ◌+◌, ◌*◌, ◌<◌, ◌≤◌, length};
-ghost use Rattle.lingua.specs.Numbers.{body_cells_lem};
+ghost use Rattle.lingua.specs.Numbers.{body_cells};
 ghost use Rattle.lingua.specs.Outcome.{Result, ◌>>=◌ as bind};
 ghost use Rattle.lingua.specs.Value.{Composite};
 ghost use Rattle.lingua.specs.Store.{Variable, assigned};
@@ -31,7 +31,7 @@ pub fn assign(
     stack: &mut [i64],
 ) -> u8
     requires assignable { Assignable rows.now t kept.now (lent cells.old states.old bodies.old) n x stack.old }
-    requires count_in_bounds { body_cells_lem * (t.count + 1) ≤ length stack.old }
+    requires count_in_bounds { body_cells * (t.count + 1) ≤ length stack.old }
     ensures { (vs : List Variable) (o : Result Composite) → Running rows.now t kept.now (lent cells.old states.old bodies.old) vs → n < length vs → Gives x stack.old o
         → Assigns result rows.now t kept.now (lent cells.old states.old bodies.old) (lent cells.new states.new bodies.new) (bind o (assigned vs n)) }
 {

@@ -1,6 +1,6 @@
 // Yoke change: the value that the variable has must satisfy the new yoke, which is then noted in its state word.
 ghost use Rattle.std.specs.Prelude.{List, ◌+◌, ◌*◌, ◌<◌, ◌≤◌, length};
-ghost use Rattle.lingua.specs.Numbers.{body_cells_lem};
+ghost use Rattle.lingua.specs.Numbers.{body_cells};
 ghost use Rattle.lingua.specs.Store.{Variable, yoke_changed};
 ghost use Rattle.lingua.specs.Trees.{yoke_tree};
 ghost use Rattle.run.specs.Reached.{lent};
@@ -24,7 +24,7 @@ pub fn change_yoke(
 ) -> u8
     requires has_running { HasRunning rows.now t kept.now (lent cells.now states.old bodies.now) n }
     requires y_le_count { y ≤ t.count }
-    requires y_in_bounds { body_cells_lem * (y + 1) ≤ length stack.old }
+    requires y_in_bounds { body_cells * (y + 1) ≤ length stack.old }
     ensures { (vs : List Variable) → Running rows.now t kept.now (lent cells.now states.old bodies.now) vs → n < length vs
         → Assigns result rows.now t kept.now (lent cells.now states.old bodies.now) (lent cells.now states.new bodies.now) (yoke_changed vs n (yoke_tree rows.now y)) }
 {

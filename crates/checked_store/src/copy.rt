@@ -1,6 +1,6 @@
 // Copies between a call's variables and its caller's, which lie in memory apart.
 ghost use Rattle.std.specs.Prelude.{List, ◌+◌, ◌*◌, ◌<◌, ◌≤◌, length};
-ghost use Rattle.lingua.specs.Numbers.{body_cells_lem};
+ghost use Rattle.lingua.specs.Numbers.{body_cells};
 ghost use Rattle.lingua.specs.Store.{Variable, assigned, copied};
 ghost use Rattle.run.specs.Reached.{lent};
 ghost use Rattle.checked_row.specs.Meaning.{Stored, HasStored};
@@ -28,7 +28,7 @@ pub fn copy(
 ) -> u8
     requires has_stored { HasStored present.now values.now flags.now n }
     requires has_running { HasRunning rows.now t kept.now (lent cells.old states.old bodies.old) m }
-    requires count_in_bounds { body_cells_lem * (t.count + 1) ≤ length stack.old }
+    requires count_in_bounds { body_cells * (t.count + 1) ≤ length stack.old }
     ensures { (vs ws : List Variable) → Stored present.now values.now flags.now vs
         → Running rows.now t kept.now (lent cells.old states.old bodies.old) ws → m < length ws
         → Assigns result rows.now t kept.now (lent cells.old states.old bodies.old) (lent cells.new states.new bodies.new) (copied assigned vs n ws m) }

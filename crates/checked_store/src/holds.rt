@@ -1,6 +1,6 @@
 // Whether a variable's value satisfies a new yoke; one that is not filled takes any.
 ghost use Rattle.std.specs.Prelude.{List, ◌+◌, ◌*◌, ◌<◌, ◌≤◌, length};
-ghost use Rattle.lingua.specs.Numbers.{body_cells_lem, most_variables};
+ghost use Rattle.lingua.specs.Numbers.{body_cells, most_variables};
 ghost use Rattle.lingua.specs.Store.{Variable, variable_at, yoke_holds};
 ghost use Rattle.lingua.specs.Trees.{yoke_tree};
 ghost use Rattle.run.specs.Memory.{Admits};
@@ -27,7 +27,7 @@ pub fn yoke_holds(
 ) -> u8
     requires has_world { HasWorld rows.now t variables.now cells.now states.now }
     requires n_lt_most_variables { n < most_variables }
-    requires y_le_count { (y ≤ t.count) × (body_cells_lem * (y + 1) ≤ length stack.old) }
+    requires y_le_count { (y ≤ t.count) × (body_cells * (y + 1) ≤ length stack.old) }
     ensures { (vs : List Variable) → World rows.now t variables.now cells.now states.now vs
         → Admits result (yoke_holds vs (yoke_tree rows.now y) (variable_at vs n).content) }
 {

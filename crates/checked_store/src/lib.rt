@@ -1,4 +1,6 @@
 // Stores of the checked run (document 01: desk run): what a variable takes once every check has passed.
+#![tactic(auto)]
+
 mod admit; // admit.rt: the checks of a new value
 pub mod assign; // assign.rt: assignment
 pub mod change; // change.rt: yoke change

@@ -1,7 +1,7 @@
 // Readings (document 01): a number from outside, in its variable's range or an overflow, is assigned to it. For a variable in hundredths it is
 // a count.
 ghost use Rattle.std.specs.Prelude.{List, ◌+◌, ◌*◌, ◌<◌, ◌≤◌, length};
-ghost use Rattle.lingua.specs.Numbers.{body_cells_lem};
+ghost use Rattle.lingua.specs.Numbers.{body_cells};
 ghost use Rattle.lingua.specs.Store.{Variable, reading_taken};
 ghost use Rattle.lingua.specs.Value.{quantity_body};
 ghost use Rattle.body.specs.Encode.{Holds};
@@ -40,7 +40,7 @@ pub fn take_reading(
     stack: &mut [i64],
 ) -> u8
     requires has_running { HasRunning rows.now t kept.now (lent cells.old states.old bodies.old) n }
-    requires count_in_bounds { body_cells_lem * (t.count + 1) ≤ length stack.old }
+    requires count_in_bounds { body_cells * (t.count + 1) ≤ length stack.old }
     ensures { (vs : List Variable) → Running rows.now t kept.now (lent cells.old states.old bodies.old) vs → n < length vs
         → Assigns result rows.now t kept.now (lent cells.old states.old bodies.old) (lent cells.new states.new bodies.new) (reading_taken vs (reading n z)) }
 {

@@ -7,7 +7,7 @@ use crate::fields::{a_at, b_at, c_at, kind_at};
 use lingua::operations::{BinaryOperation as Binary, UnaryOperation as Unary};
 
 // What is no list and no record.
-#[derive(Drop)]
+#[derive(Clone, Copy)]
 pub enum Simple {
     Boolean,
     Number,
@@ -16,7 +16,7 @@ pub enum Simple {
 }
 
 // A type row: its attribute and the types that it names are given by number.
-#[derive(Drop)]
+#[derive(Clone, Copy)]
 pub enum TypeRow {
     Simple(Simple),
     List(usize),
@@ -26,7 +26,7 @@ pub enum TypeRow {
 
 // An expression row: operands are given by row. A constant's eight bytes are read by whoever needs them. Which connective a lazy
 // row is, is told by the value that settles it.
-#[derive(Drop)]
+#[derive(Clone, Copy)]
 pub enum ExpressionRow {
     Constant(Simple),
     Variable(usize),
@@ -40,7 +40,7 @@ pub enum ExpressionRow {
 
 // An instruction row: variables, expressions, yokes and parts are given by number. A call has its procedure, then the variables given by
 // value and by reference, four bits each.
-#[derive(Drop)]
+#[derive(Clone, Copy)]
 pub enum InstructionRow {
     Skip,
     Assign(usize, usize),
@@ -53,19 +53,19 @@ pub enum InstructionRow {
 }
 
 // The bytes that a known row uses, and the row.
-#[derive(Drop)]
+#[derive(Clone, Copy)]
 pub enum DecodedType {
     Unknown,
     Known(u8, TypeRow),
 }
 
-#[derive(Drop)]
+#[derive(Clone, Copy)]
 pub enum DecodedExpression {
     Unknown,
     Known(u8, ExpressionRow),
 }
 
-#[derive(Drop)]
+#[derive(Clone, Copy)]
 pub enum DecodedInstruction {
     Unknown,
     Known(u8, InstructionRow),

@@ -31,7 +31,7 @@ pub fn group(w: usize, i: usize) -> usize
 }
 
 // What stands above the first n groups.
-pub fn bits_above_lem(w: usize, n: usize) -> usize
+pub fn bits_above(w: usize, n: usize) -> usize
     ensures { result ≡ bits_above n w }
 {
     match n {

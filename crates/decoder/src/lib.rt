@@ -1,4 +1,6 @@
 // What rows say: the one place that knows kinds, where each table's rows stand, and what a row mentions by number.
+#![tactic(auto)]
+
 pub mod decode; // decode.rt: what a row says, by its kind
 pub mod fields; // fields.rt: a row's fields
 pub mod groups; // groups.rt: the groups of bits in a call's fields

@@ -18,7 +18,7 @@ use crate::tables::Table;
 use lingua::operations::{BinaryOperation, UnaryOperation};
 
 // At most three numbers: the first of x, y, z.
-#[derive(Drop)]
+#[derive(Clone, Copy)]
 pub struct UpToThree {
     pub count: usize,
     pub x: usize,
@@ -245,7 +245,7 @@ pub fn yoke_set(row: InstructionRow) -> UpToThree
 }
 
 // Rows that an instruction row mentions: of a yoke that it sets, of what it evaluates, or of its parts.
-#[derive(Drop)]
+#[derive(Clone, Copy)]
 pub enum Mention {
     Yoke,
     Evaluated,

@@ -8,7 +8,7 @@ use crate::tables::{Table, Tables};
 use lingua::sizes::VARIABLE_TABLE;
 
 // The instruction row of its body, and how many parameters it has by value and by reference.
-#[derive(Drop)]
+#[derive(Clone, Copy)]
 pub struct Procedure {
     pub body: usize,
     pub values: usize,

@@ -13,7 +13,7 @@ use lingua::sizes::{
 };
 
 // A section or a procedure's variables: the table's number, its first row, and how many it has.
-#[derive(Drop)]
+#[derive(Clone, Copy)]
 pub struct Table {
     pub section: u8,
     pub start: usize,
@@ -21,13 +21,13 @@ pub struct Table {
 }
 
 // How many procedures there are, and where each begins; behind the last its end.
-#[derive(Drop)]
+#[derive(Clone, Copy)]
 pub struct Procedures {
     pub count: usize,
     pub heads: [usize; 9],
 }
 
-#[derive(Drop)]
+#[derive(Clone, Copy)]
 pub struct Tables {
     pub declarations: Table,
     pub types: Table,
@@ -38,7 +38,7 @@ pub struct Tables {
 }
 
 // How many rows each table has, and how many procedures were begun; the last number counts the rows of all tables above.
-#[derive(Drop)]
+#[derive(Clone, Copy)]
 struct Counted {
     begun: usize,
     rows: [usize; 24],

@@ -5,7 +5,7 @@ use Prim.Native.Nat.{ℕ, ◌+◌, ◌-◌, ◌*◌, ◌≤◌, ◌<◌}
 use native.Mathlib.Omega.{arith}
 use lib.ListN.{length, take, drop, get_or}
 use lib.IntN.{ℤ}
-use Rattle.lingua.specs.Numbers.{body_cells_lem}
+use Rattle.lingua.specs.Numbers.{body_cells}
 use Rattle.lingua.specs.Outcome.{ok, fail, Result, all_answers, ◌>>=◌}
 use Rattle.lingua.specs.Body.{Body, boolean, list_of, size}
 use Rattle.lingua.specs.Value.{Value, count_values, value_list, as_items, truth, as_truth, all_of}
@@ -29,7 +29,7 @@ use Rattle.erased_row.proofs.Passing.{all_passed}
 pub record Listed (rows : List ℕ) (t : Table) (layout : List ℕ) (cells : List ℤ) (states : List ℕ) (now : List ℤ) (e : Expression) (width : ℕ) (ds : List Declaration) (vs : List Variable) (c : Body) (x : Value) : Type 0 where
   pub world : World rows t layout cells states ds vs
   pub lies : Lies now 0 (list_of c) x
-  pub small : size (list_of c) ≤ body_cells_lem
+  pub small : size (list_of c) ≤ body_cells
   pub width_is : width ≡ size c
   pub passed : Passed layout ds e c boolean
 
@@ -48,7 +48,7 @@ module _ {rows : List ℕ} {t : Table} {layout : List ℕ} {cells : List ℤ} {s
         listed = record {
           world = w;
           lies = subst (λ (c : Body). Lies now 0 c x) l h.lies;
-          small = subst (λ (c : Body). size c ≤ body_cells_lem) l h.small;
+          small = subst (λ (c : Body). size c ≤ body_cells) l h.small;
           width_is = q ∙ u.holds.second_at;
           passed = u.passed;
         };

@@ -2,7 +2,7 @@
 // the second operand of two is evaluated 64 cells further up, or put there at once if it is a leaf of one cell. How many cells a
 // value takes is read from the layout table.
 ghost use Rattle.std.specs.Prelude.{◌+◌, ◌*◌, ◌<◌, ◌≤◌, length};
-ghost use Rattle.lingua.specs.Numbers.{body_cells_lem};
+ghost use Rattle.lingua.specs.Numbers.{body_cells};
 ghost use Rattle.lingua.specs.Trees.{expression_tree};
 ghost use Rattle.lingua.specs.Expression.{lazy as lazyTree, choice as choiceTree, all_list};
 ghost use Rattle.decoder.specs.Decoded.{connective};
@@ -35,7 +35,7 @@ pub fn eval(
 ) -> u8
     requires ready { Ready rows.now t layout.now cells.now states.now current.now (expression_tree rows.now row) }
     requires row_lt_count { row < t.count }
-    requires row_in_bounds { body_cells_lem * (row + 2) ≤ length stack.old }
+    requires row_in_bounds { body_cells * (row + 2) ≤ length stack.old }
     ensures { Evaluates rows.now t layout.now cells.now states.now current.now (expression_tree rows.now row) result stack.new }
 {
     let says = expression_row(rows, t, row);
@@ -103,7 +103,7 @@ fn lazy(
 ) -> u8
     requires ready { Ready rows.now t layout.now cells.now states.now current.now (lazyTree row (connective settling) (expression_tree rows.now a) (expression_tree rows.now b)) }
     requires a_lt_row { (a < row) × (b < row) × (row < t.count) }
-    requires row_in_bounds { body_cells_lem * (row + 2) ≤ length stack.old }
+    requires row_in_bounds { body_cells * (row + 2) ≤ length stack.old }
     ensures { Evaluates rows.now t layout.now cells.now states.now current.now
         (lazyTree row (connective settling) (expression_tree rows.now a) (expression_tree rows.now b)) result stack.new }
 {
@@ -135,7 +135,7 @@ fn choice(
 ) -> u8
     requires ready { Ready rows.now t layout.now cells.now states.now current.now (choiceTree row (expression_tree rows.now test) (expression_tree rows.now a) (expression_tree rows.now b)) }
     requires test_lt_row { (test < row) × (a < row) × (b < row) × (row < t.count) }
-    requires row_in_bounds { body_cells_lem * (row + 2) ≤ length stack.old }
+    requires row_in_bounds { body_cells * (row + 2) ≤ length stack.old }
     ensures { Evaluates rows.now t layout.now cells.now states.now current.now
         (choiceTree row (expression_tree rows.now test) (expression_tree rows.now a) (expression_tree rows.now b)) result stack.new }
 {
@@ -165,7 +165,7 @@ fn all(
 ) -> u8
     requires ready { Ready rows.now t layout.now cells.now states.now current.now (all_list row (expression_tree rows.now a)) }
     requires a_lt_row { (a < row) × (row < t.count) }
-    requires row_in_bounds { body_cells_lem * (row + 2) ≤ length stack.old }
+    requires row_in_bounds { body_cells * (row + 2) ≤ length stack.old }
     ensures { Evaluates rows.now t layout.now cells.now states.now current.now (all_list row (expression_tree rows.now a)) result stack.new }
 {
     let width = second_at(layout, row);

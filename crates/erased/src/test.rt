@@ -1,6 +1,6 @@
 // A test's value: an expression outside yokes, of which the type check found a Boolean. Its row is of the scope that the store is of.
 ghost use Rattle.std.specs.Prelude.{List, [], ℕ, ◌+◌, ◌*◌, ◌<◌, ◌≤◌, ℤ, length};
-ghost use Rattle.lingua.specs.Numbers.{body_cells_lem};
+ghost use Rattle.lingua.specs.Numbers.{body_cells};
 ghost use Rattle.lingua.specs.Store.{Variable, contents};
 ghost use Rattle.lingua.specs.Run.{Profile};
 ghost use Rattle.lingua.specs.Evaluation.{eval_test};
@@ -24,7 +24,7 @@ pub fn test(
 ) -> Truth
     requires has_store { HasStore rows.now t layout.now (lent cells.now states.now []) (λ a. TestRow rows.now a e) }
     requires e_lt_count { e < t.count }
-    requires count_in_bounds { body_cells_lem * (t.count + 1) ≤ length stack.old }
+    requires count_in_bounds { body_cells * (t.count + 1) ≤ length stack.old }
     ensures { (p : Profile) (a : ℕ) (limits : List ℤ) (vs : List Variable) → Running p a rows.now t layout.now limits (lent cells.now states.now []) vs → TestRow rows.now a e
         → Tells result (eval_test (expression_tree rows.now e) (contents vs)) }
 {

@@ -1,6 +1,6 @@
 // Yokes, and expressions outside yokes.
 ghost use Rattle.std.specs.Prelude.{◌+◌, ◌*◌, ◌<◌, ◌≤◌, length};
-ghost use Rattle.lingua.specs.Numbers.{body_cells_lem};
+ghost use Rattle.lingua.specs.Numbers.{body_cells};
 ghost use Rattle.lingua.specs.Trees.{expression_tree, yoke_tree};
 ghost use Rattle.erased_row.specs.Meaning.{ReadyYoke, EvaluatesYoke, ReadyPlain, EvaluatesPlain};
 
@@ -22,7 +22,7 @@ pub fn eval_yoke(
 ) -> u8
     requires ready_yoke { ReadyYoke rows.now t layout.now cells.now states.now current.now (yoke_tree rows.now y) }
     requires y_le_count { y ≤ t.count }
-    requires y_in_bounds { body_cells_lem * (y + 1) ≤ length stack.old }
+    requires y_in_bounds { body_cells * (y + 1) ≤ length stack.old }
     ensures { EvaluatesYoke rows.now t layout.now cells.now states.now current.now (yoke_tree rows.now y) result stack.new }
 {
     if y == 0 {
@@ -44,7 +44,7 @@ pub fn eval_plain(
 ) -> u8
     requires ready_plain { ReadyPlain rows.now t layout.now cells.now states.now (expression_tree rows.now row) }
     requires row_lt_count { row < t.count }
-    requires row_in_bounds { body_cells_lem * (row + 2) ≤ length stack.old }
+    requires row_in_bounds { body_cells * (row + 2) ≤ length stack.old }
     ensures { EvaluatesPlain rows.now t layout.now cells.now states.now (expression_tree rows.now row) result stack.new }
 {
     let current = [0i64; 1];

@@ -6,7 +6,7 @@ use Prim.Native.Nat.{ℕ, zero, suc, ◌*◌, ◌≤◌, ◌<◌}
 use native.Mathlib.Omega.{arith}
 use lib.ListN.{length, take, drop, get_or}
 use lib.IntN.{ℤ}
-use Rattle.lingua.specs.Numbers.{body_cells_lem, most_variables}
+use Rattle.lingua.specs.Numbers.{body_cells, most_variables}
 use Rattle.lingua.specs.Errors.{not_filled}
 use Rattle.lingua.specs.Outcome.{ok, fail, Result, if◌then◌else◌, or_fail, ◌>>=◌}
 use Rattle.lingua.specs.Body.{Body, boolean, size}
@@ -130,13 +130,13 @@ module _ {rows : List ℕ} {t : Table} {layout : List ℕ} {cells : List ℤ} {s
     binary_second_lem r = ready_with r (binary_passed r.passed).passed_other
 
     -- the first operand stays, whatever was tried above it
-    pub first_under : (s above rest : List ℤ) → body_cells_lem ≤ length s → {n : ℕ} → Evaluates rows t layout cells states now (expression_tree rows a) n s → Evaluates rows t layout cells states now (expression_tree rows a) n (take body_cells_lem s ++ (above ++ rest))
+    pub first_under : (s above rest : List ℤ) → body_cells ≤ length s → {n : ℕ} → Evaluates rows t layout cells states now (expression_tree rows a) n s → Evaluates rows t layout cells states now (expression_tree rows a) n (take body_cells s ++ (above ++ rest))
     first_under s above rest long h = record {
       leaves = λ ds vs cur g x w c d. first_stays above rest (sizes w a (omega arith) c d).small long (h.leaves ds vs cur g x w c d);
     }
 
-    module _ (s above rest : List ℤ) (long : body_cells_lem ≤ length s) {n m : ℕ} (h : Evaluates rows t layout cells states now (expression_tree rows a) n s) (k : Evaluates rows t layout cells states now (expression_tree rows b) m above) where
-      pub has_binary : {o : Binary} → Ready rows t layout cells states now (binary row o (expression_tree rows a) (expression_tree rows b)) → HasBinary layout o row a b n m (take body_cells_lem s ++ (above ++ rest))
+    module _ (s above rest : List ℤ) (long : body_cells ≤ length s) {n m : ℕ} (h : Evaluates rows t layout cells states now (expression_tree rows a) n s) (k : Evaluates rows t layout cells states now (expression_tree rows b) m above) where
+      pub has_binary : {o : Binary} → Ready rows t layout cells states now (binary row o (expression_tree rows a) (expression_tree rows b)) → HasBinary layout o row a b n m (take body_cells s ++ (above ++ rest))
       has_binary r =
           let u = binary_passed r.passed in
           let z = binary_numbers r.world r.is u in
@@ -152,7 +152,7 @@ module _ {rows : List ℕ} {t : Table} {layout : List ℕ} {cells : List ℤ} {s
           }
 
       pub binary_evaluates : {o : Binary} {i : ℕ} {after : List ℤ}
-          → ((c d g : Body) (p q : Result Value) → BinaryRow layout o row a b c d g → Leaves n (take body_cells_lem s ++ (above ++ rest)) c p → Leaves m (drop body_cells_lem (take body_cells_lem s ++ (above ++ rest))) d q → Leaves i after g (p >>= λ x. q >>= λ y. binary_value o x y))
+          → ((c d g : Body) (p q : Result Value) → BinaryRow layout o row a b c d g → Leaves n (take body_cells s ++ (above ++ rest)) c p → Leaves m (drop body_cells (take body_cells s ++ (above ++ rest))) d q → Leaves i after g (p >>= λ x. q >>= λ y. binary_value o x y))
           → Evaluates rows t layout cells states now (binary row o (expression_tree rows a) (expression_tree rows b)) i after
       unfolding eval_erased
       binary_evaluates f = record {

@@ -6,7 +6,7 @@ use Prim.Native.Nat.{ℕ, ◌*◌, ◌<◌}
 use native.Mathlib.Omega.{arith}
 use lib.IntN.{ℤ, pos}
 use lib.ListN.{length, get_or, set}
-use Rattle.lingua.specs.Numbers.{body_cells_lem}
+use Rattle.lingua.specs.Numbers.{body_cells}
 use Rattle.lingua.specs.Errors.{not_filled}
 use Rattle.lingua.specs.Outcome.{ok, or_fail}
 use Rattle.lingua.specs.Body.{Body, size}
@@ -38,6 +38,6 @@ current_cell h m = omega (arith, (current_room 1 h m).0)
 pub cell_current : {current : List ℤ} {b : Body} {x : Value} (s : List ℤ) (z : ℤ) → Current current b x → 1 ≡ size b → z ≡ get_or current 0 (pos 0) → 0 < length s → Leaves 0 (set s 0 z) b (ok x)
 cell_current {current} s z h m e l = leaves_current s (set s 0 z) 1 h m (one_cell s current 0 1 z e refl l (current_cell h m))
 
-pub cell_filled : {cells : List ℤ} {states : List ℕ} {vs : List Variable} {vars : Bodies} (h : Memory cells states vs vars) (n : ℕ) (s : List ℤ) (z : ℤ) → filled_at states n ≡ true → 1 ≡ size (vars n) → z ≡ get_or cells (body_cells_lem * n) (pos 0) → 0 < length s
+pub cell_filled : {cells : List ℤ} {states : List ℕ} {vs : List Variable} {vars : Bodies} (h : Memory cells states vs vars) (n : ℕ) (s : List ℤ) (z : ℤ) → filled_at states n ≡ true → 1 ≡ size (vars n) → z ≡ get_or cells (body_cells * n) (pos 0) → 0 < length s
     → Leaves 0 (set s 0 z) (vars n) (or_fail (values_of (contents vs) n) not_filled)
-cell_filled {cells} h n s z g m e l = leaves_filled h n s (set s 0 z) 1 g m (one_cell s cells (body_cells_lem * n) 1 z e refl l (omega (arith, cells_room h n (filled_there h n g))))
+cell_filled {cells} h n s z g m e l = leaves_filled h n s (set s 0 z) 1 g m (one_cell s cells (body_cells * n) 1 z e refl l (omega (arith, cells_room h n (filled_there h n g))))

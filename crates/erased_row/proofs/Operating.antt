@@ -4,7 +4,7 @@ use mathlib.Core.List.{List}
 use Prim.Native.Nat.{ℕ, ◌+◌, ◌*◌}
 use lib.ListN.{drop, get_or}
 use lib.IntN.{ℤ}
-use Rattle.lingua.specs.Numbers.{body_cells_lem}
+use Rattle.lingua.specs.Numbers.{body_cells}
 use Rattle.lingua.specs.Outcome.{Result, ◌>>=◌}
 use Rattle.lingua.specs.Body.{Body}
 use Rattle.lingua.specs.Value.{Value}
@@ -34,7 +34,7 @@ module _ {layout : List ℕ} {o : Unary} {row a : ℕ} {s : List ℤ} (cells res
 
 -- ---- two operands
 module _ {layout : List ℕ} {o : Binary} {row a b : ℕ} {s : List ℤ} (cells others offset : ℕ) (ec : cells ≡ get_or layout (2 * a) 0) (er : others ≡ get_or layout (2 * b) 0) (eo : offset ≡ get_or layout (2 * row + 1) 0) where
-  operands_of_lem : {c d g : Body} {v w : Value} → BinaryRow layout o row a b c d g → Lies s 0 c v → Lies (drop body_cells_lem s) 0 d w → Operands o s cells others offset c d g v w
+  operands_of_lem : {c d g : Body} {v w : Value} → BinaryRow layout o row a b c d g → Lies s 0 c v → Lies (drop body_cells s) 0 d w → Operands o s cells others offset c d g v w
   operands_of_lem u l k = record { half = u.half; cells_are = sym (ec ∙ u.first_at); others_are = sym (er ∙ u.other_at); offset_is = sym (eo ∙ u.second_at); small = u.small; small_other = u.small_other; lies = l; lies_other = lies_above k }
 
   pub binary_has : {n m : ℕ} → HasBinary layout o row a b n m s → n ≡ 0 → m ≡ 0 → HasOperands o s cells others offset
@@ -44,7 +44,7 @@ module _ {layout : List ℕ} {o : Binary} {row a b : ℕ} {s : List ℤ} (cells 
       record { body = h.operand; other = h.other; given = h.given; value = k.value; other_value = l.value; operands = operands_of_lem h.numbers k.lies l.lies }
 
   pub binary_leaves : {n m r : ℕ} {after : List ℤ} {c d g : Body} {p q : Result Value} → ((c d g : Body) (v w : Value) → Operands o s cells others offset c d g v w → Leaves r after g (binary_value o v w))
-      → BinaryRow layout o row a b c d g → Leaves n s c p → Leaves m (drop body_cells_lem s) d q → n ≡ 0 → m ≡ 0 → Leaves r after g (p >>= λ x. q >>= λ y. binary_value o x y)
+      → BinaryRow layout o row a b c d g → Leaves n s c p → Leaves m (drop body_cells s) d q → n ≡ 0 → m ≡ 0 → Leaves r after g (p >>= λ x. q >>= λ y. binary_value o x y)
   binary_leaves {q = q} f u h i e z =
       let k = h.answer e in
       let l = i.answer z in

@@ -7,7 +7,7 @@ use Prim.Native.Nat.{ℕ, suc, ◌+◌, ◌*◌, ◌≤◌, ◌<◌}
 use native.Mathlib.Omega.{arith}
 use lib.ListN.{length, get_or}
 use lib.IntN.{ℤ}
-use Rattle.lingua.specs.Numbers.{body_cells_lem, expression_section, instruction_section}
+use Rattle.lingua.specs.Numbers.{body_cells, expression_section, instruction_section}
 use Rattle.lingua.specs.Outcome.{ok}
 use Rattle.lingua.specs.Body.{Body, boolean, size, element_body}
 use Rattle.lingua.specs.Value.{Value, Composite}
@@ -103,7 +103,7 @@ tree_row rows r = let e : suc (row_of (expression_tree rows r)) ≡ suc r = numb
 
 pub record Sizes (layout : List ℕ) (a : ℕ) (c : Body) : Type 0 where
   pub at : get_or layout (2 * a) 0 ≡ size c
-  pub small : size c ≤ body_cells_lem
+  pub small : size c ≤ body_cells
 
 module _ {rows : List ℕ} {t : Table} {layout : List ℕ} {cells : List ℤ} {states : List ℕ} {ds : List Declaration} {vs : List Variable} (w : World rows t layout cells states ds vs) where
   pub table_of : {a : ℕ} → a < t.count → a < table_count rows expression_section

@@ -4,7 +4,7 @@ use mathlib.Core.List.{List, ◌++◌}
 use Prim.Native.Nat.{ℕ, ◌+◌, ◌≤◌}
 use lib.ListN.{length, take, drop}
 use lib.IntN.{ℤ}
-use Rattle.lingua.specs.Numbers.{body_cells_lem}
+use Rattle.lingua.specs.Numbers.{body_cells}
 use Rattle.lingua.specs.Outcome.{Result}
 use Rattle.lingua.specs.Body.{Body, size}
 use Rattle.lingua.specs.Value.{Value}
@@ -19,8 +19,8 @@ moved f h = record {
 }
 
 -- the first operand stays
-pub first_stays : {n : ℕ} {s : List ℤ} {b : Body} {p : Result Value} (above rest : List ℤ) → size b ≤ body_cells_lem → body_cells_lem ≤ length s → Leaves n s b p → Leaves n (take body_cells_lem s ++ (above ++ rest)) b p
+pub first_stays : {n : ℕ} {s : List ℤ} {b : Body} {p : Result Value} (above rest : List ℤ) → size b ≤ body_cells → body_cells ≤ length s → Leaves n s b p → Leaves n (take body_cells s ++ (above ++ rest)) b p
 first_stays above rest small long h = moved (λ v l. lies_kept (above ++ rest) small long l) h
 
-pub second_lies : {m : ℕ} {b : Body} {q : Result Value} (s above rest : List ℤ) → body_cells_lem ≤ length s → Leaves m above b q → Leaves m (drop body_cells_lem (take body_cells_lem s ++ (above ++ rest))) b q
+pub second_lies : {m : ℕ} {b : Body} {q : Result Value} (s above rest : List ℤ) → body_cells ≤ length s → Leaves m above b q → Leaves m (drop body_cells (take body_cells s ++ (above ++ rest))) b q
 second_lies s above rest long h = moved (λ v l. lies_behind s rest long l) h

@@ -11,7 +11,7 @@ use lib.ListN.{length, take, drop, set, get_or-eq_default}
 use lib.Seq.{paste}
 use lib.IntN.{ℤ}
 use borrow.Author.Tests.{eqb-false, not-true}
-use Rattle.lingua.specs.Numbers.{body_cells_lem, most_variables}
+use Rattle.lingua.specs.Numbers.{body_cells, most_variables}
 use Rattle.lingua.specs.Errors.{not_filled}
 use Rattle.lingua.specs.Outcome.{ok, Result, or_fail}
 use Rattle.lingua.specs.Body.{Body, size}
@@ -42,7 +42,7 @@ leaves_constant rows k s z c i h =
     leaves_ok x.value refl refl (record { cells = ap (λ (j : ℕ). take j (set s 0 z)) one ∙ put_cell s z h ∙ sym i.is; fit = c.fits })
 
 -- ---- the current value
-pub current_room : {current : List ℤ} {b : Body} {x : Value} (n : ℕ) → Current current b x → n ≡ size b → (0 + n ≤ length current) × (n ≤ body_cells_lem)
+pub current_room : {current : List ℤ} {b : Body} {x : Value} (n : ℕ) → Current current b x → n ≡ size b → (0 + n ≤ length current) × (n ≤ body_cells)
 current_room n h e = (omega (arith, lies_long h.lies, e), omega (arith, h.small, e))
 
 pub leaves_current : {current : List ℤ} {b : Body} {x : Value} (s after : List ℤ) (n : ℕ) → Current current b x → n ≡ size b → after ≡ paste s 0 (drop 0 current) n → Leaves 0 after b (ok x)
@@ -70,7 +70,7 @@ module _ {cells : List ℤ} {states : List ℕ} {vs : List Variable} {vars : Bod
   pub leaves_empty : (after : List ℤ) (b : Body) → filled_at states n ≡ false → Leaves not_filled after b (or_fail (values_of (contents vs) n) not_filled)
   leaves_empty after b e = leaves_fail (λ q. let k : ⊥ = omega arith in k) (ap {B = Result Value} (λ (c : Option Composite). or_fail (value_in c) not_filled) (no_content e))
 
-  pub leaves_filled : (s after : List ℤ) (m : ℕ) → filled_at states n ≡ true → m ≡ size (vars n) → after ≡ paste s 0 (drop (body_cells_lem * n) cells) m → Leaves 0 after (vars n) (or_fail (values_of (contents vs) n) not_filled)
+  pub leaves_filled : (s after : List ℤ) (m : ℕ) → filled_at states n ≡ true → m ≡ size (vars n) → after ≡ paste s 0 (drop (body_cells * n) cells) m → Leaves 0 after (vars n) (or_fail (values_of (contents vs) n) not_filled)
   leaves_filled s after m g z q =
       let lt = filled_there g in
       let x = filled_is h n lt g in
@@ -79,4 +79,4 @@ module _ {cells : List ℤ} {states : List ℕ} {vs : List Variable} {vars : Bod
       leaves_ok x.0.value refl
       (ap {B = Result Value} (λ (c : Option Composite). or_fail (value_in c) not_filled) x.1)
       (subst (λ (b : Body). Lies after 0 b x.0.value) f.0
-      (copied_lies s cells (body_cells_lem * n) m x.0.body x.0.value q w (omega (arith, cells_room h n lt, z, h.small n lt)) (content_at h n lt x.0 x.1) f.1))
+      (copied_lies s cells (body_cells * n) m x.0.body x.0.value q w (omega (arith, cells_room h n lt, z, h.small n lt)) (content_at h n lt x.0 x.1) f.1))

@@ -2,7 +2,7 @@
 -- type check found them. Assumes nothing: these are definitions.
 use Rattle.std.specs.Prelude.{◌≡◌, Bool, true, List, ℕ, suc, ◌+◌, ◌*◌, ◌≤◌, ◌<◌, ℤ, length, drop, get_or}
 use Rattle.std.proofs.Math.Option.{some}
-use Rattle.lingua.specs.Numbers.{body_cells_lem, expression_section, instruction_section, scope_table, layout_length, most_variables, limit_cells, declaration_section}
+use Rattle.lingua.specs.Numbers.{body_cells, expression_section, instruction_section, scope_table, layout_length, most_variables, limit_cells, declaration_section}
 use Rattle.lingua.specs.Outcome.{ok, Result, ◌>>=◌, all_answers}
 use Rattle.lingua.specs.Body.{Body, boolean, is_quantity, size}
 use Rattle.lingua.specs.Value.{Value, as_truth, all_of}
@@ -40,13 +40,13 @@ pub record World (rows : List ℕ) (t : Table) (layout : List ℕ) (cells : List
   pub cells_are : cells ≡ cells_in vs
   pub states_are : states ≡ states_in vs
   pub few : length vs ≤ most_variables
-  pub small : (n : ℕ) → size (bodies_of ds n) ≤ body_cells_lem
+  pub small : (n : ℕ) → size (bodies_of ds n) ≤ body_cells
   pub fit : VariablesFit (bodies_of ds) (contents vs)
 
 -- the current value, of a body that the code does not see
 pub record Current (current : List ℤ) (b : Body) (x : Value) : Type 0 where
   pub lies : Lies current first_place b x
-  pub small : size b ≤ body_cells_lem
+  pub small : size b ≤ body_cells
 
 -- an expression that the type check passed, on the current value's body, with the layout table's numbers at each of its rows
 abbrev pub Passed : List ℕ → List Declaration → Expression → Body → Body → Type 0
@@ -137,7 +137,7 @@ pub record UnaryRow (layout : List ℕ) (o : Unary) (row a : ℕ) (c b : Body) :
   pub operand_at : get_or layout (2 * a) 0 ≡ size c
   pub result_at : get_or layout (2 * row) 0 ≡ size b
   pub second_at : get_or layout (2 * row + 1) 0 ≡ unary_second o c
-  pub small : size c ≤ body_cells_lem
+  pub small : size c ≤ body_cells
 
 -- some such bodies, and the operand's result
 pub record HasUnary (layout : List ℕ) (o : Unary) (row a error : ℕ) (stack : List ℤ) : Type 0 where
@@ -153,8 +153,8 @@ pub record BinaryRow (layout : List ℕ) (o : Binary) (row a b : ℕ) (c d g : B
   pub first_at : get_or layout (2 * a) 0 ≡ size c
   pub other_at : get_or layout (2 * b) 0 ≡ size d
   pub second_at : get_or layout (2 * row + 1) 0 ≡ binary_second o c d g
-  pub small : size c ≤ body_cells_lem
-  pub small_other : size d ≤ body_cells_lem
+  pub small : size c ≤ body_cells
+  pub small_other : size d ≤ body_cells
 
 -- some such bodies, and the operands' results
 pub record HasBinary (layout : List ℕ) (o : Binary) (row a b first second : ℕ) (stack : List ℤ) : Type 0 where
@@ -165,7 +165,7 @@ pub record HasBinary (layout : List ℕ) (o : Binary) (row a b first second : �
   pub outcome : Result Value
   pub leaves : Leaves first stack operand outcome
   pub other_outcome : Result Value
-  pub other_leaves : Leaves second (drop body_cells_lem stack) other other_outcome
+  pub other_leaves : Leaves second (drop body_cells stack) other other_outcome
 
 -- ---- what stores and tests of a run ask
 -- a store of a run, of the variables of one scope of a profile: 0 is the profile's own, 1 + k that of procedure k. What the type check found of

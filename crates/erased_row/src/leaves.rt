@@ -1,6 +1,6 @@
 // Expressions without operands: a constant, a variable, the current value. Each puts its cells at the stack's front.
 ghost use Rattle.std.specs.Prelude.{◌≡◌, List, ◌+◌, ◌*◌, ◌<◌, ◌≤◌, length, get_or};
-ghost use Rattle.lingua.specs.Numbers.{expression_section, body_cells_lem};
+ghost use Rattle.lingua.specs.Numbers.{expression_section, body_cells};
 ghost use Rattle.lingua.specs.Errors.{not_filled};
 ghost use Rattle.lingua.specs.Outcome.{ok, or_fail};
 ghost use Rattle.lingua.specs.Body.{Body, size};
@@ -46,7 +46,7 @@ pub fn fetch(
 ) -> u8
     requires has_variable { HasVariable cells.now states.now n (get_or layout.now (2 * row) 0) }
     requires row_in_bounds { 2 * row + 1 < length layout.now }
-    requires body_cells_in_bounds { body_cells_lem ≤ length stack.old }
+    requires body_cells_in_bounds { body_cells ≤ length stack.old }
     ensures { (vs : List Variable) (vars : Bodies) → Memory cells.now states.now vs vars → get_or layout.now (2 * row) 0 ≡ size (vars n)
         → Leaves result stack.new (vars n) (or_fail (values_of (contents vs) n) not_filled) }
 {
@@ -62,7 +62,7 @@ pub fn fetch(
 pub fn copied(layout: &[u16], row: usize, current: &[i64], stack: &mut [i64]) -> u8
     requires has_current { HasCurrent current.now (get_or layout.now (2 * row) 0) }
     requires row_in_bounds { 2 * row + 1 < length layout.now }
-    requires body_cells_in_bounds { body_cells_lem ≤ length stack.old }
+    requires body_cells_in_bounds { body_cells ≤ length stack.old }
     ensures { (b : Body) (x : Value) → Current current.now b x → get_or layout.now (2 * row) 0 ≡ size b → Leaves result stack.new b (ok x) }
 {
     let size = size_at(layout, row);

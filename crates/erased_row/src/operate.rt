@@ -1,6 +1,6 @@
 // An operation on evaluated operands: the first error, or what the values' half gives with the layout table's numbers.
 ghost use Rattle.std.specs.Prelude.{◌+◌, ◌*◌, ◌<◌, ◌≤◌, length, drop};
-ghost use Rattle.lingua.specs.Numbers.{body_cells_lem};
+ghost use Rattle.lingua.specs.Numbers.{body_cells};
 ghost use Rattle.lingua.specs.Outcome.{Result, ◌>>=◌ as bind};
 ghost use Rattle.lingua.specs.Body.{Body};
 ghost use Rattle.lingua.specs.Value.{Value};
@@ -24,7 +24,7 @@ pub fn unary(
 ) -> u8
     requires has_unary { HasUnary layout.now (unary_meaning o) row a error stack.old }
     requires row_in_bounds { (2 * row + 1 < length layout.now) × (2 * a + 1 < length layout.now) }
-    requires body_cells_in_bounds { body_cells_lem ≤ length stack.old }
+    requires body_cells_in_bounds { body_cells ≤ length stack.old }
     ensures { (c b : Body) (p : Result Value) → UnaryRow layout.now (unary_meaning o) row a c b → Leaves error stack.old c p
         → Leaves result stack.new b (bind p (λ x. unary_value (unary_meaning o) x)) }
 {
@@ -50,8 +50,8 @@ pub fn binary(
 ) -> u8
     requires has_binary { HasBinary layout.now (binary_meaning o) row a b first second stack.old }
     requires row_in_bounds { (2 * row + 1 < length layout.now) × (2 * a + 1 < length layout.now) × (2 * b + 1 < length layout.now) }
-    requires body_cells_in_bounds { body_cells_lem + body_cells_lem ≤ length stack.old }
-    ensures { (c d g : Body) (p q : Result Value) → BinaryRow layout.now (binary_meaning o) row a b c d g → Leaves first stack.old c p → Leaves second (drop body_cells_lem stack.old) d q
+    requires body_cells_in_bounds { body_cells + body_cells ≤ length stack.old }
+    ensures { (c d g : Body) (p q : Result Value) → BinaryRow layout.now (binary_meaning o) row a b c d g → Leaves first stack.old c p → Leaves second (drop body_cells stack.old) d q
         → Leaves result stack.new g (bind p (λ x. bind q (λ y. binary_value (binary_meaning o) x y))) }
 {
     if first != NO_ERROR {

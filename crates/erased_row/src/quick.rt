@@ -1,7 +1,7 @@
 // A leaf of one cell, at once. Most second operands are such, and an evaluation's call costs more than the leaf: its cell goes to the stack's front
 // without one. Whatever is not such a leaf is left to the evaluation.
 ghost use Rattle.std.specs.Prelude.{◌+◌, ◌*◌, ◌<◌, ◌≤◌, length};
-ghost use Rattle.lingua.specs.Numbers.{body_cells_lem};
+ghost use Rattle.lingua.specs.Numbers.{body_cells};
 ghost use Rattle.lingua.specs.Trees.{expression_tree};
 ghost use Rattle.erased_row.specs.Meaning.{Ready, EvaluatesUnless};
 
@@ -30,7 +30,7 @@ pub fn leaf(
 ) -> u8
     requires ready { Ready rows.now t layout.now cells.now states.now current.now (expression_tree rows.now row) }
     requires row_lt_count { row < t.count }
-    requires row_in_bounds { body_cells_lem * (row + 2) ≤ length stack.old }
+    requires row_in_bounds { body_cells * (row + 2) ≤ length stack.old }
     ensures { EvaluatesUnless rows.now t layout.now cells.now states.now current.now (expression_tree rows.now row) result stack.new }
 {
     let says = expression_row(rows, t, row);

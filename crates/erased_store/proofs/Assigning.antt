@@ -9,7 +9,7 @@ use native.Mathlib.Omega.{arith}
 use lib.IntN.{ℤ, pos}
 use lib.ListN.{length, take, drop, get_or, set}
 use lib.Seq.{paste}
-use Rattle.lingua.specs.Numbers.{body_cells_lem}
+use Rattle.lingua.specs.Numbers.{body_cells}
 use Rattle.lingua.specs.Errors.{yoke_not_satisfied}
 use Rattle.lingua.specs.Outcome.{ok, fail, Result, require, ◌>>=◌, ◌>>◌}
 use Rattle.lingua.specs.Value.{Value, as_truth, as_whole, Composite}
@@ -96,7 +96,7 @@ module _ {p : Profile} {a : ℕ} {rows : List ℕ} {t : Table} {layout : List �
       pub outside : c ≡ false → Settles yoke_not_satisfied (Running p a rows t layout limits) (lent cells states []) (lent cells states []) (assigned vs n x)
       outside e = keeps yoke_not_satisfied (λ z. omega arith) (limit_fails x f.declared_body_lem s (sym (limit_is c told) ∙ e))
 
-      pub inside : c ≡ true → (after : List ℤ) (words : List ℕ) → after ≡ take (body_cells_lem * n) cells ++ (paste (take body_cells_lem (drop (body_cells_lem * n) cells)) 0 value width ++ drop (body_cells_lem * n + body_cells_lem) cells) → words ≡ fill_at states n
+      pub inside : c ≡ true → (after : List ℤ) (words : List ℕ) → after ≡ take (body_cells * n) cells ++ (paste (take body_cells (drop (body_cells * n) cells)) 0 value width ++ drop (body_cells * n + body_cells) cells) → words ≡ fill_at states n
           → Settles 0 (Running p a rows t layout limits) (lent cells states []) (lent after words []) (assigned vs n x)
       inside e after words p q =
           let ok-is = limit_passes x f.declared_body_lem s (sym (limit_is c told) ∙ e) in
@@ -135,7 +135,7 @@ module _ {p : Profile} {a : ℕ} {rows : List ℕ} {t : Table} {layout : List �
         subst (λ (y : Yoke). Admits r (yoke_holds_erased y (values_of (contents vs)) (some x.value))) (own_yoke e)
         (h.admits (scope_declarations p a) vs (scope_bodies p a n) x.value w.world value_current (own_passed e))
 
-    pub room : body_cells_lem ≤ length value → StoreRoom limits cells states n width value
+    pub room : body_cells ≤ length value → StoreRoom limits cells states n width value
     room long = record {
       limit = omega (arith, w.room, lt);
       part = Parts.cells_room (memory_of w.world) n lt;

@@ -6,7 +6,7 @@ use mathlib.Core.Option.{Option}
 use Prim.Native.Nat.{ℕ, ◌+◌, ◌-◌, ◌*◌, ◌<◌}
 use lib.IntN.{ℤ}
 use lib.ListN.{length, take, drop}
-use Rattle.lingua.specs.Numbers.{body_cells_lem}
+use Rattle.lingua.specs.Numbers.{body_cells}
 use Rattle.lingua.specs.Errors.{not_filled}
 use Rattle.lingua.specs.Outcome.{fail, or_fail, ◌>>=◌}
 use Rattle.lingua.specs.Body.{Body}
@@ -35,6 +35,6 @@ module _ {p : Profile} {a : ℕ} {rows : List ℕ} {t : Table} {layout : List �
     unfolding copied given
     copied_is ws m = sym (ap (λ (c : Option Composite). or_fail c not_filled >>= λ x. assigned ws m x) (filled_is (memory_of w.world) n lt e).1)
 
-    pub given_part : {b : Body} → scope_bodies p a n ≡ b → ValueFor b body_cells_lem (take (body_cells_lem * n + body_cells_lem - body_cells_lem * n) (drop (body_cells_lem * n) cells)) given
+    pub given_part : {b : Body} → scope_bodies p a n ≡ b → ValueFor b body_cells (take (body_cells * n + body_cells - body_cells * n) (drop (body_cells * n) cells)) given
     unfolding given
     given_part q = part_value (memory_of w.world) n lt given (filled_is (memory_of w.world) n lt e).1 q

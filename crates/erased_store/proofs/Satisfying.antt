@@ -7,7 +7,7 @@ use Prim.Native.Nat.{ℕ, ◌+◌, ◌-◌, ◌*◌, ◌<◌}
 use native.Mathlib.Omega.{arith}
 use lib.IntN.{ℤ}
 use lib.ListN.{length, take, drop}
-use Rattle.lingua.specs.Numbers.{body_cells_lem}
+use Rattle.lingua.specs.Numbers.{body_cells}
 use Rattle.lingua.specs.Errors.{yoke_not_satisfied}
 use Rattle.lingua.specs.Outcome.{ok, fail, Result, require, ◌>>=◌}
 use Rattle.lingua.specs.Body.{boolean}
@@ -60,7 +60,7 @@ module _ {rows : List ℕ} {t : Table} {layout : List ℕ} {cells : List ℤ} {s
 -- ---- a variable and a new yoke
 -- its cells, where they lie, are a current value
 part_current : {rows : List ℕ} {t : Table} {layout : List ℕ} {cells : List ℤ} {states : List ℕ} (n : ℕ) (ds : List Declaration) (vs : List Variable) → World rows t layout cells states ds vs → n < length vs → (x : Composite) → (variable_at vs n).content ≡ some x
-    → Current (take (body_cells_lem * n + body_cells_lem - body_cells_lem * n) (drop (body_cells_lem * n) cells)) (bodies_of ds n) x.value
+    → Current (take (body_cells * n + body_cells - body_cells * n) (drop (body_cells * n) cells)) (bodies_of ds n) x.value
 part_current n ds vs w lt x q = record { lies = lies_as (filled (memory_of w) n x q).0 (part_lies (memory_of w) n lt x q); small = w.small n }
 
 module _ {rows : List ℕ} {t : Table} {layout : List ℕ} {cells : List ℤ} {states : List ℕ} (n : ℕ) {y : Yoke} where
@@ -71,12 +71,12 @@ module _ {rows : List ℕ} {t : Table} {layout : List ℕ} {cells : List ℤ} {s
         subst (λ (c : Option Composite). Admits 0 (yoke_holds_erased y (values_of (contents vs)) (value_in c))) (sym (unfilled_is (memory_of w) n lt e)) (admits_ok refl refl);
   }
 
-  pub part_ready : HasChange rows t layout cells states n y → filled_at states n ≡ true → ReadyYoke rows t layout cells states (take (body_cells_lem * n + body_cells_lem - body_cells_lem * n) (drop (body_cells_lem * n) cells)) y
+  pub part_ready : HasChange rows t layout cells states n y → filled_at states n ≡ true → ReadyYoke rows t layout cells states (take (body_cells * n + body_cells - body_cells * n) (drop (body_cells * n) cells)) y
   part_ready r f =
       let x = filled_is (memory_of r.world) n r.there f in
       record { declarations = r.declarations; store = r.store; world = r.world; body = bodies_of r.declarations n; value = x.0.value; is = part_current n r.declarations r.store r.world r.there x.0 x.1; passed = r.passed }
 
-  pub part_admits : {r : ℕ} → filled_at states n ≡ true → AdmitsValue rows t layout cells states (take (body_cells_lem * n + body_cells_lem - body_cells_lem * n) (drop (body_cells_lem * n) cells)) y r → AdmitsYoke rows t layout cells states n y r
+  pub part_admits : {r : ℕ} → filled_at states n ≡ true → AdmitsValue rows t layout cells states (take (body_cells * n + body_cells - body_cells * n) (drop (body_cells * n) cells)) y r → AdmitsYoke rows t layout cells states n y r
   part_admits {r} f h = record {
     admits = λ ds vs w lt d.
         let x = filled_is (memory_of w) n lt f in

@@ -8,7 +8,7 @@ use native.Mathlib.Omega.{arith}
 use lib.IntN.{ℤ, pos}
 use lib.ListN.{length, take, drop, set, replicate, length-take, replicate-append-replicate}
 use lib.Seq.{paste, take_at, take-take, drop_at}
-use Rattle.lingua.specs.Numbers.{body_cells_lem}
+use Rattle.lingua.specs.Numbers.{body_cells}
 use Rattle.lingua.specs.Body.{Body, size}
 use Rattle.lingua.specs.Value.{pad, cells_of, Composite}
 use Rattle.lingua.specs.Store.{Variable, variable_at, with_content, content_cells, cells_in}
@@ -51,7 +51,7 @@ module _ {b : Body} {width : ℕ} {value : List ℤ} {x : Composite} (f : ValueF
   }
 
 -- its own cells alone
-pub value_exact : {b : Body} {width : ℕ} {value : List ℤ} {x : Composite} → x.body ≡ b → Lies value first_place x.body x.value → width ≡ size x.body → size b ≤ body_cells_lem → ValueFor b width value x
+pub value_exact : {b : Body} {width : ℕ} {value : List ℤ} {x : Composite} → x.body ≡ b → Lies value first_place x.body x.value → width ≡ size x.body → size b ≤ body_cells → ValueFor b width value x
 value_exact {width = width} {value} {x} q l e s = record {
   declared_body_lem = q;
   fits = l.fit;
@@ -69,28 +69,28 @@ pad_further m w xs h l =
     ∙ sym (append_assoc xs (replicate (w - length xs) (pos 0)) (replicate (m - w) (pos 0)))
 
 -- a part with another value at its front, which is as wide as the one before
-new_front : (value : List ℤ) (w : ℕ) (xs ys : List ℤ) → take w value ≡ pad w (pos 0) ys → length ys ≤ w → length xs ≤ w → w ≤ body_cells_lem → paste (pad body_cells_lem (pos 0) xs) 0 value w ≡ pad body_cells_lem (pos 0) ys
+new_front : (value : List ℤ) (w : ℕ) (xs ys : List ℤ) → take w value ≡ pad w (pos 0) ys → length ys ≤ w → length xs ≤ w → w ≤ body_cells → paste (pad body_cells (pos 0) xs) 0 value w ≡ pad body_cells (pos 0) ys
 new_front value w xs ys e k l s =
-    ap (λ (t : List ℤ). t ++ drop (0 + w) (pad body_cells_lem (pos 0) xs)) e
-    ∙ ap (λ (j : ℕ). pad w (pos 0) ys ++ drop j (pad body_cells_lem (pos 0) xs)) (let q : 0 + w ≡ w = omega arith in q)
-    ∙ ap (λ (t : List ℤ). pad w (pos 0) ys ++ t) (ap (λ (t : List ℤ). drop w t) (pad_further body_cells_lem w xs l s) ∙ drop_at (pad w (pos 0) xs) (replicate (body_cells_lem - w) (pos 0)) w (length_pad w (pos 0) xs l))
-    ∙ sym (pad_further body_cells_lem w ys k s)
+    ap (λ (t : List ℤ). t ++ drop (0 + w) (pad body_cells (pos 0) xs)) e
+    ∙ ap (λ (j : ℕ). pad w (pos 0) ys ++ drop j (pad body_cells (pos 0) xs)) (let q : 0 + w ≡ w = omega arith in q)
+    ∙ ap (λ (t : List ℤ). pad w (pos 0) ys ++ t) (ap (λ (t : List ℤ). drop w t) (pad_further body_cells w xs l s) ∙ drop_at (pad w (pos 0) xs) (replicate (body_cells - w) (pos 0)) w (length_pad w (pos 0) xs l))
+    ∙ sym (pad_further body_cells w ys k s)
 
 -- ---- a variable's part
 module _ {cells : List ℤ} {states : List ℕ} {vs : List Variable} {vars : Bodies} (h : Memory cells states vs vars) (n : ℕ) (lt : n < length vs) where
-  own_part : take body_cells_lem (drop (body_cells_lem * n) cells) ≡ variable_cells (variable_at vs n)
-  own_part = ap (λ (l : List ℤ). take body_cells_lem (drop (body_cells_lem * n) l)) h.cells_are ∙ cells_at vs n lt (contents_small h)
+  own_part : take body_cells (drop (body_cells * n) cells) ≡ variable_cells (variable_at vs n)
+  own_part = ap (λ (l : List ℤ). take body_cells (drop (body_cells * n) l)) h.cells_are ∙ cells_at vs n lt (contents_small h)
 
   -- a filled variable's 64 cells by themselves, as the code takes them
-  pub part_value : {b : Body} (x : Composite) → (variable_at vs n).content ≡ some x → vars n ≡ b → ValueFor b body_cells_lem (take (body_cells_lem * n + body_cells_lem - body_cells_lem * n) (drop (body_cells_lem * n) cells)) x
+  pub part_value : {b : Body} (x : Composite) → (variable_at vs n).content ≡ some x → vars n ≡ b → ValueFor b body_cells (take (body_cells * n + body_cells - body_cells * n) (drop (body_cells * n) cells)) x
   unfolding content_cells
   part_value x q e = let f = filled h n x q in record {
     declared_body_lem = f.0 ∙ e;
     fits = f.1;
     cells =
-        take-take body_cells_lem (body_cells_lem * n + body_cells_lem - body_cells_lem * n) (drop (body_cells_lem * n) cells) (omega arith)
+        take-take body_cells (body_cells * n + body_cells - body_cells * n) (drop (body_cells * n) cells) (omega arith)
         ∙ own_part
-        ∙ ap (λ (c : Option Composite). pad body_cells_lem (pos 0) (content_cells c)) q;
+        ∙ ap (λ (c : Option Composite). pad body_cells (pos 0) (content_cells c)) q;
     wide = omega (arith, ap size f.0, h.small n lt);
     narrow = omega arith;
   }
@@ -101,7 +101,7 @@ module _ {cells : List ℤ} {states : List ℕ} {vs : List Variable} {vars : Bod
   content_narrow (some y) f l = let q = f y refl in omega (arith, length_cells q.1, ap size q.0, l)
 
   -- with a new value at its front
-  new_part : {width : ℕ} {value : List ℤ} {x : Composite} → ValueFor (vars n) width value x → paste (take body_cells_lem (drop (body_cells_lem * n) cells)) 0 value width ≡ pad body_cells_lem (pos 0) (cells_of x.body x.value)
+  new_part : {width : ℕ} {value : List ℤ} {x : Composite} → ValueFor (vars n) width value x → paste (take body_cells (drop (body_cells * n) cells)) 0 value width ≡ pad body_cells (pos 0) (cells_of x.body x.value)
   new_part {width} {value} {x} f =
       ap (λ (t : List ℤ). paste t 0 value width) own_part
       ∙ new_front value width (content_cells (variable_at vs n).content) (cells_of x.body x.value) f.cells (omega (arith, length_cells f.fits, f.wide))
@@ -109,7 +109,7 @@ module _ {cells : List ℤ} {states : List ℕ} {vs : List Variable} {vars : Bod
 
   -- the zeros behind the value's own cells change nothing
   pub value_stored : {width : ℕ} {value : List ℤ} {x : Composite} → ValueFor (vars n) width value x
-      → take (body_cells_lem * n) cells ++ (paste (take body_cells_lem (drop (body_cells_lem * n) cells)) 0 value width ++ drop (body_cells_lem * n + body_cells_lem) cells) ≡ cells_in (set vs n (with_content (variable_at vs n) x))
+      → take (body_cells * n) cells ++ (paste (take body_cells (drop (body_cells * n) cells)) 0 value width ++ drop (body_cells * n + body_cells) cells) ≡ cells_in (set vs n (with_content (variable_at vs n) x))
   value_stored {width} {value} {x} f =
-      ap (λ (t : List ℤ). take (body_cells_lem * n) cells ++ (t ++ drop (body_cells_lem * n + body_cells_lem) cells)) (new_part f ∙ sym (new_part (value_exact f.declared_body_lem (value_lies f) refl (h.small n lt))))
+      ap (λ (t : List ℤ). take (body_cells * n) cells ++ (t ++ drop (body_cells * n + body_cells) cells)) (new_part f ∙ sym (new_part (value_exact f.declared_body_lem (value_lies f) refl (h.small n lt))))
       ∙ cells_stored h n lt x f.fits f.declared_body_lem value (size x.body) refl (value_lies f).cells

@@ -2,7 +2,7 @@
 -- definitions.
 use Rattle.std.specs.Prelude.{◌≡◌, List, ℕ, ◌+◌, ◌*◌, ◌≤◌, ◌<◌, ℤ, pos, length, take}
 use Rattle.std.proofs.Math.Option.{some}
-use Rattle.lingua.specs.Numbers.{body_cells_lem, instruction_section, scope_table, limit_cells}
+use Rattle.lingua.specs.Numbers.{body_cells, instruction_section, scope_table, limit_cells}
 use Rattle.lingua.specs.Outcome.{ok}
 use Rattle.lingua.specs.Body.{Body, size}
 use Rattle.lingua.specs.Value.{Value, Fits, pad, cells_of, Composite}
@@ -42,7 +42,7 @@ pub record ValueFor (b : Body) (width : ℕ) (value : List ℤ) (x : Composite) 
   pub fits : Fits x.value x.body
   pub cells : take width value ≡ pad width (pos 0) (cells_of x.body x.value)
   pub wide : size x.body ≤ width
-  pub narrow : width ≤ body_cells_lem
+  pub narrow : width ≤ body_cells
 
 -- some store of a run with a variable n, and some such value
 pub record Storable (rows : List ℕ) (t : Table) (layout : List ℕ) (limits : List ℤ) (l : Lent) (n width : ℕ) (value : List ℤ) : Type 0 where
@@ -57,10 +57,10 @@ pub record Storable (rows : List ℕ) (t : Table) (layout : List ℕ) (limits : 
 -- room for the limit, the cells and the flag of variable n, and for its value
 pub record StoreRoom (limits cells : List ℤ) (states : List ℕ) (n width : ℕ) (value : List ℤ) : Type 0 where
   pub limit : limit_cells * n + limit_cells ≤ length limits
-  pub part : body_cells_lem * n + body_cells_lem ≤ length cells
+  pub part : body_cells * n + body_cells ≤ length cells
   pub flag : flag_place n < length states
-  pub narrow : width ≤ body_cells_lem
-  pub front : body_cells_lem ≤ length value
+  pub narrow : width ≤ body_cells
+  pub front : body_cells ≤ length value
 
 -- a value that satisfies variable n's current yoke
 pub record Satisfies (vs : List Variable) (n : ℕ) (x : Composite) : Type 0 where

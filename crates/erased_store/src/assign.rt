@@ -1,7 +1,7 @@
 // Assignment: the expression's value on the stack, of as many cells as the layout table says, is stored. Its row is of the scope that the
 // store is of.
 ghost use Rattle.std.specs.Prelude.{List, [], ℕ, ◌+◌, ◌*◌, ◌<◌, ◌≤◌, length};
-ghost use Rattle.lingua.specs.Numbers.{body_cells_lem};
+ghost use Rattle.lingua.specs.Numbers.{body_cells};
 ghost use Rattle.lingua.specs.Outcome.{◌>>=◌ as bind};
 ghost use Rattle.lingua.specs.Evaluation.{eval as meaning, no_current};
 ghost use Rattle.lingua.specs.Store.{Variable, contents, assigned};
@@ -30,7 +30,7 @@ pub fn assign(
 ) -> u8
     requires has_running { HasRunning rows.now t layout.now kept.now (lent cells.old states.old []) (λ a. AssignRow rows.now a n e) }
     requires e_lt_count { e < t.count }
-    requires count_in_bounds { body_cells_lem * (t.count + 1) ≤ length stack.old }
+    requires count_in_bounds { body_cells * (t.count + 1) ≤ length stack.old }
     ensures { (p : Profile) (a : ℕ) (vs : List Variable) → Running p a rows.now t layout.now kept.now (lent cells.old states.old []) vs → AssignRow rows.now a n e
         → Settles result (Running p a rows.now t layout.now kept.now) (lent cells.old states.old []) (lent cells.new states.new [])
         (bind (meaning (expression_tree rows.now e) (contents vs) no_current) (assigned vs n)) }

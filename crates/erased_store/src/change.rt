@@ -1,7 +1,7 @@
 // Yoke change: the value that the variable has must satisfy the new yoke, which is then noted in its state word. Its row is of the scope that
 // the store is of.
 ghost use Rattle.std.specs.Prelude.{List, [], ℕ, ◌+◌, ◌*◌, ◌≤◌, length};
-ghost use Rattle.lingua.specs.Numbers.{body_cells_lem};
+ghost use Rattle.lingua.specs.Numbers.{body_cells};
 ghost use Rattle.lingua.specs.Store.{Variable, yoke_changed};
 ghost use Rattle.lingua.specs.Run.{Profile};
 ghost use Rattle.lingua.specs.Trees.{yoke_tree};
@@ -27,7 +27,7 @@ pub fn change_yoke(
 ) -> u8
     requires has_running { HasRunning rows.now t layout.now kept.now (lent cells.now states.old []) (λ a. YokeRow rows.now a n y) }
     requires y_le_count { y ≤ t.count }
-    requires count_in_bounds { body_cells_lem * (t.count + 1) ≤ length stack.old }
+    requires count_in_bounds { body_cells * (t.count + 1) ≤ length stack.old }
     ensures { (p : Profile) (a : ℕ) (vs : List Variable) → Running p a rows.now t layout.now kept.now (lent cells.now states.old []) vs → YokeRow rows.now a n y
         → Settles result (Running p a rows.now t layout.now kept.now) (lent cells.now states.old []) (lent cells.now states.new [])
         (yoke_changed vs n (yoke_tree rows.now y)) }

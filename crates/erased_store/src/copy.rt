@@ -1,7 +1,7 @@
 // Copies, between a call's variables and its caller's: variable n of one memory is assigned to variable m of another. Both have one body, so the
 // variable's 64 cells are the value, and no size is asked. It is taken where it lies. Of the one memory's state words the flags alone are asked.
 ghost use Rattle.std.specs.Prelude.{◌≡◌, List, [], ℕ, ◌+◌, ◌*◌, ◌<◌, ◌≤◌, ℤ, length};
-ghost use Rattle.lingua.specs.Numbers.{body_cells_lem};
+ghost use Rattle.lingua.specs.Numbers.{body_cells};
 ghost use Rattle.lingua.specs.Store.{Variable, assigned, copied};
 ghost use Rattle.lingua.specs.Run.{Profile};
 ghost use Rattle.lingua.specs.Typing.{scope_bodies};
@@ -30,7 +30,7 @@ pub fn copy(
     stack: &mut [i64],
 ) -> u8
     requires has_copy { HasCopy rows.now t layout.now from.now flags.now n kept.now (lent cells.old states.old []) m }
-    requires count_in_bounds { body_cells_lem * (t.count + 1) ≤ length stack.old }
+    requires count_in_bounds { body_cells * (t.count + 1) ≤ length stack.old }
     ensures { (p : Profile) (a b : ℕ) (limits : List ℤ) (bodies : List ℕ) (vs ws : List Variable)
         → Running p a rows.now t layout.now limits (lent from.now flags.now bodies) vs → n < length vs
         → Running p b rows.now t layout.now kept.now (lent cells.old states.old []) ws → m < length ws → scope_bodies p a n ≡ scope_bodies p b m

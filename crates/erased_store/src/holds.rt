@@ -1,6 +1,6 @@
 // Whether a value satisfies a yoke, which is evaluated on the stack; and whether a variable takes a new one.
 ghost use Rattle.std.specs.Prelude.{◌+◌, ◌*◌, ◌≤◌, length};
-ghost use Rattle.lingua.specs.Numbers.{body_cells_lem};
+ghost use Rattle.lingua.specs.Numbers.{body_cells};
 ghost use Rattle.lingua.specs.Trees.{yoke_tree};
 ghost use Rattle.erased_row.specs.Meaning.{ReadyYoke};
 ghost use Rattle.erased_store.specs.Meaning.{AdmitsValue, HasChange, AdmitsYoke};
@@ -25,7 +25,7 @@ pub fn satisfies(
 ) -> u8
     requires ready_yoke { ReadyYoke rows.now t layout.now cells.now states.now value.now (yoke_tree rows.now y) }
     requires y_le_count { y ≤ t.count }
-    requires y_in_bounds { body_cells_lem * (y + 1) ≤ length stack.old }
+    requires y_in_bounds { body_cells * (y + 1) ≤ length stack.old }
     ensures { AdmitsValue rows.now t layout.now cells.now states.now value.now (yoke_tree rows.now y) result }
 {
     let x = eval_yoke(rows, t, layout, cells, states, y, value, &mut *stack);
@@ -52,7 +52,7 @@ pub fn yoke_holds(
 ) -> u8
     requires has_change { HasChange rows.now t layout.now cells.now states.now n (yoke_tree rows.now y) }
     requires y_le_count { y ≤ t.count }
-    requires y_in_bounds { body_cells_lem * (y + 1) ≤ length stack.old }
+    requires y_in_bounds { body_cells * (y + 1) ≤ length stack.old }
     ensures { AdmitsYoke rows.now t layout.now cells.now states.now n (yoke_tree rows.now y) result }
 {
     if !is_filled(states, n) {

@@ -1,4 +1,6 @@
 // Stores of the erased run (document 01: chair run): what a variable takes once its yoke and its limit are satisfied.
+#![tactic(auto)]
+
 pub mod assign; // assign.rt: assignment
 pub mod change; // change.rt: yoke change
 pub mod copy; // copy.rt: a variable of one memory to one of another

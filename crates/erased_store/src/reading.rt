@@ -1,7 +1,7 @@
 // Readings (document 01): a number from outside, in its variable's range or an overflow, is stored in it. It is one of the profile's own; the kind
 // of its type row tells whether it is in hundredths, so that no body is needed.
 ghost use Rattle.std.specs.Prelude.{◌≡◌, true, List, [], ◌+◌, ◌*◌, ◌<◌, ◌≤◌, length};
-ghost use Rattle.lingua.specs.Numbers.{body_cells_lem, declaration_section, type_section};
+ghost use Rattle.lingua.specs.Numbers.{body_cells, declaration_section, type_section};
 ghost use Rattle.lingua.specs.Rows.{pair_count};
 ghost use Rattle.lingua.specs.Refusal.{is_quantity_variable};
 ghost use Rattle.lingua.specs.Store.{Variable, reading_taken};
@@ -33,7 +33,7 @@ pub fn take_reading(
     requires has_running { HasRunning rows.now t layout.now kept.now (lent cells.old states.old []) (λ a. a ≡ 0) }
     requires n_bound { (n < pair_count rows.now declaration_section) × (is_quantity_variable rows.now n ≡ true) }
     requires table { IsTable rows.now declaration_section declarations × IsTable rows.now type_section types }
-    requires count_in_bounds { body_cells_lem * (t.count + 1) ≤ length stack.old }
+    requires count_in_bounds { body_cells * (t.count + 1) ≤ length stack.old }
     ensures { (p : Profile) (vs : List Variable) → Running p 0 rows.now t layout.now kept.now (lent cells.old states.old []) vs
         → Settles result (Running p 0 rows.now t layout.now kept.now) (lent cells.old states.old []) (lent cells.new states.new [])
         (reading_taken vs (reading n z)) }

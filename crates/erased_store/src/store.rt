@@ -1,7 +1,7 @@
 // A value of a variable's declared body: its yoke, its limit, and then the store. A value moves as many cells as it has, or all 64 with zeros
 // behind its own.
 ghost use Rattle.std.specs.Prelude.{List, [], ℕ, ◌+◌, ◌*◌, ◌<◌, ◌≤◌, length};
-ghost use Rattle.lingua.specs.Numbers.{body_cells_lem};
+ghost use Rattle.lingua.specs.Numbers.{body_cells};
 ghost use Rattle.lingua.specs.Value.{Composite};
 ghost use Rattle.lingua.specs.Store.{Variable, assigned};
 ghost use Rattle.lingua.specs.Run.{Profile};
@@ -54,7 +54,7 @@ pub fn store(
     stack: &mut [i64],
 ) -> u8
     requires storable { Storable rows.now t layout.now kept.now (lent cells.old states.old []) n width stack.old }
-    requires count_in_bounds { body_cells_lem * (t.count + 1) ≤ length stack.old }
+    requires count_in_bounds { body_cells * (t.count + 1) ≤ length stack.old }
     ensures { (p : Profile) (a : ℕ) (vs : List Variable) (x : Composite) → Running p a rows.now t layout.now kept.now (lent cells.old states.old []) vs
         → n < length vs → ValueFor (scope_bodies p a n) width stack.old x
         → Settles result (Running p a rows.now t layout.now kept.now) (lent cells.old states.old []) (lent cells.new states.new []) (assigned vs n x) }

@@ -3,8 +3,8 @@
 use Rattle.std.specs.Prelude.{◌≡◌, List, [], ◌∷◌, ◌++◌, ℕ, ◌+◌, ◌*◌, ◌≤◌, ℤ, pos, length, take, drop}
 use Rattle.std.proofs.Common.{sym, ap, ◌∙◌, append_assoc, arith, length-append, take-append-drop, take_all, drop_at, length-take-le}
 use Rattle.std.proofs.Math.Seq.{take-append-add, drop-append-add, take-nil, drop-nil}
-use Rattle.lingua.specs.Numbers.{body_cells_lem, cells_length, state_words_lem, states_length, variable_bodies_length, most_variables}
-use Rattle.lingua.specs.Store.{Variable, state_words, store_cells, store_states, cells_in, states_in, bodies_in, call_cells, call_states, call_bodies}
+use Rattle.lingua.specs.Numbers.{body_cells, cells_length, state_words, states_length, variable_bodies_length, most_variables}
+use Rattle.lingua.specs.Store.{Variable, words_of_state, store_cells, store_states, cells_in, states_in, bodies_in, call_cells, call_states, call_bodies}
 use Rattle.lingua.specs.Run.{Profile}
 use Rattle.laws.specs.Lists.{length_pad}
 use Rattle.laws.specs.Stores.{length_parts, variable_cells, store_cells_parts, store_states_parts, Small, small_sized, states_sized}
@@ -63,14 +63,14 @@ length_cells_in : (vs : List Variable) → length vs ≤ most_variables → Smal
 unfolding cells_in
 length_cells_in vs few small =
     length_pad cells_length (pos 0) (store_cells vs)
-    (let e : length (store_cells vs) ≡ body_cells_lem * length vs = ap (λ (l : List ℤ). length l) (store_cells_parts vs) ∙ length_parts variable_cells body_cells_lem vs (small_sized small) in
+    (let e : length (store_cells vs) ≡ body_cells * length vs = ap (λ (l : List ℤ). length l) (store_cells_parts vs) ∙ length_parts variable_cells body_cells vs (small_sized small) in
     omega (arith, e, few))
 
 length_states_in : (vs : List Variable) → length vs ≤ most_variables → length (states_in vs) ≡ states_length
 unfolding states_in
 length_states_in vs few =
     length_pad states_length 0 (store_states vs)
-    (let e : length (store_states vs) ≡ state_words_lem * length vs = ap (λ (l : List ℕ). length l) (store_states_parts vs) ∙ length_parts state_words state_words_lem vs (states_sized vs) in
+    (let e : length (store_states vs) ≡ state_words * length vs = ap (λ (l : List ℕ). length l) (store_states_parts vs) ∙ length_parts words_of_state state_words vs (states_sized vs) in
     omega (arith, e, few))
 
 checked_fills : {c : Context} {l : Lent} {vs : List Variable} → CheckedIn c l vs → Fills way.Checked l vs

@@ -1,7 +1,7 @@
 -- What is done to the variables of the profile or of an open call, in each of the two ways to run: what is asked of their memory, and what it
 -- holds afterwards. Assumes nothing: these are definitions.
 use Rattle.std.specs.Prelude.{◌≡◌, List, [], ℕ, suc, ◌+◌, ◌*◌, ◌/◌, ◌≤◌, ◌<◌, ℤ, length, get_or, replicate}
-use Rattle.lingua.specs.Numbers.{body_cells_lem, most_procedures, variable_bodies_length, type_section, header_table, scope_table}
+use Rattle.lingua.specs.Numbers.{body_cells, most_procedures, variable_bodies_length, type_section, header_table, scope_table}
 use Rattle.lingua.specs.Errors.{no_error}
 use Rattle.lingua.specs.Outcome.{Result, fail}
 use Rattle.lingua.specs.Rows.{table_start, table_count, pair_count, procedure_count, groups}
@@ -63,7 +63,7 @@ pub record Standing (w : Way) (c : Context) (l : Lent) (room : ℕ) (P : ℕ →
   pub store : List Variable
   pub holds : Holds w profile scope c l store
   pub of_scope : P scope
-  pub enough : body_cells_lem * (c.expressions.count + 1) ≤ room
+  pub enough : body_cells * (c.expressions.count + 1) ≤ room
 
 -- the same under some limits, where they are not asked
 pub record StandsUnder (w : Way) (rows : List ℕ) (t : Table) (layout : List ℕ) (l : Lent) (room : ℕ) (P : ℕ → Type 0) : Type 0 where
@@ -105,7 +105,7 @@ pub record HasFacing (w : Way) (from : Lent) (c : Context) (to : Lent) (room : �
   pub taken : List Variable
   pub facing : Facing w profile source target limits from given c to taken
   pub property : P profile source target given taken
-  pub enough : body_cells_lem * (c.expressions.count + 1) ≤ room
+  pub enough : body_cells * (c.expressions.count + 1) ≤ room
 
 -- variable n of the one is assigned to variable m of the other
 pub record Copies (w : Way) (from : Lent) (c : Context) (to after : Lent) (n m r : ℕ) : Type 0 where

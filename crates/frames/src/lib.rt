@@ -1,5 +1,7 @@
 // What is done to the variables of the profile or of an open call, in either way to run: leaves of the walk, copies between a call's variables
 // and its caller's, a call's variables at its start, and the area in which they stay where the run is out of budget.
+#![tactic(auto)]
+
 pub mod area; // area.rt: an open call's variables in the area
 pub mod begin; // begin.rt: a call's variables at its start
 pub mod copies; // copies.rt: a call's copies in and out

@@ -47,7 +47,10 @@ pub map_same : {A : Type 0} (f g : ℕ → A) (bs : List ℕ) → ((a : ℕ) →
 map_same f g [] h = refl
 map_same f g (b ∷ bs) h = ap₂ (λ (y : _) (ys : List _). y ∷ ys) (h b (here refl)) (map_same f g bs (λ a m. h a (there m)))
 
-pub all_in : (p : ℕ → Bool) (bs : List ℕ) → all_of p bs ≡ true → (a : ℕ) → In a bs → p a ≡ true
+all_in_at : (p : ℕ → Bool) (a : ℕ) (bs : List ℕ) → In a bs → all_of p bs ≡ true → p a ≡ true
 unfolding all_of
-all_in p bs e a (here {x = b} {xs = cs} q) = ap p q ∙ and_left (p b) (all_of p cs) e
-all_in p bs e a (there {x = b} {xs = cs} m) = all_in p cs (and_right (p b) (all_of p cs) e) a m
+all_in_at p a bs (here {x = b} {xs = cs} q) e = ap p q ∙ and_left (p b) (all_of p cs) e
+all_in_at p a bs (there {x = b} {xs = cs} m) e = all_in_at p a cs m (and_right (p b) (all_of p cs) e)
+
+pub all_in : (p : ℕ → Bool) (bs : List ℕ) → all_of p bs ≡ true → (a : ℕ) → In a bs → p a ≡ true
+all_in p bs e a m = all_in_at p a bs m e

@@ -4,9 +4,9 @@ use Rattle.std.specs.Prelude.{◌≡◌, refl, List, [], ◌∷◌, ◌++◌, �
 use Rattle.std.proofs.Common.{sym, ap, ◌∙◌, inl, inr, mul-suc, arith, length-append, take_at, drop_at, drop-drop}
 use Rattle.std.proofs.lemmas.List.{length-replicate}
 use Rattle.std.proofs.Math.ListN.{get_or-eq_default}
-use Rattle.lingua.specs.Numbers.{most_variables, body_cells_lem, body_bytes, cells_length, state_words_lem, states_length, variable_bodies_length, most_calls, open_cells_length, open_states_length, open_bodies_length}
+use Rattle.lingua.specs.Numbers.{most_variables, body_cells, body_bytes, cells_length, state_words, states_length, variable_bodies_length, most_calls, open_cells_length, open_states_length, open_bodies_length}
 use Rattle.lingua.specs.Value.{pad}
-use Rattle.lingua.specs.Store.{Variable, state_words, store_cells, store_states, store_bodies, cells_in, states_in, bodies_in, call_cells, call_states, call_bodies, open_cells_in, open_states_in, present_in, flag_at}
+use Rattle.lingua.specs.Store.{Variable, words_of_state, store_cells, store_states, store_bodies, cells_in, states_in, bodies_in, call_cells, call_states, call_bodies, open_cells_in, open_states_in, present_in, flag_at}
 use Rattle.laws.specs.Lists.{length_pad}
 use Rattle.laws.specs.Parts.{pad_get}
 use Rattle.laws.specs.Every.{Every, every_none, every_more, every_implies}
@@ -23,14 +23,14 @@ pub length_cells_in : (vs : List Variable) → Bounded vs → length (cells_in v
 unfolding cells_in
 length_cells_in vs b =
     length_pad cells_length (pos 0) (store_cells vs)
-    (let e : length (store_cells vs) ≡ body_cells_lem * length vs = ap (λ (l : List ℤ). length l) (store_cells_parts vs) ∙ length_parts variable_cells body_cells_lem vs (small_sized b.small) in
+    (let e : length (store_cells vs) ≡ body_cells * length vs = ap (λ (l : List ℤ). length l) (store_cells_parts vs) ∙ length_parts variable_cells body_cells vs (small_sized b.small) in
     omega (arith, e, b.few))
 
 pub length_states_in : (vs : List Variable) → Bounded vs → length (states_in vs) ≡ states_length
 unfolding states_in
 length_states_in vs b =
     length_pad states_length 0 (store_states vs)
-    (let e : length (store_states vs) ≡ state_words_lem * length vs = ap (λ (l : List ℕ). length l) (store_states_parts vs) ∙ length_parts state_words state_words_lem vs (states_sized vs) in
+    (let e : length (store_states vs) ≡ state_words * length vs = ap (λ (l : List ℕ). length l) (store_states_parts vs) ∙ length_parts words_of_state state_words vs (states_sized vs) in
     omega (arith, e, b.few))
 
 pub length_bodies_in : (vs : List Variable) → Bounded vs → length (bodies_in vs) ≡ variable_bodies_length
@@ -120,6 +120,6 @@ bodies_behind vs os b bs =
 pub flag_behind : (vs : List Variable) (n : ℕ) → length vs ≤ n → flag_at (states_in vs) n ≡ 0
 unfolding flag_at states_in
 flag_behind vs n l =
-    pad_get states_length (store_states vs) (state_words_lem * n)
+    pad_get states_length (store_states vs) (state_words * n)
     ∙ get_or-eq_default (store_states vs) 0
-    (let e : length (store_states vs) ≡ state_words_lem * length vs = ap (λ (l : List ℕ). length l) (store_states_parts vs) ∙ length_parts state_words state_words_lem vs (states_sized vs) in omega (arith, e))
+    (let e : length (store_states vs) ≡ state_words * length vs = ap (λ (l : List ℕ). length l) (store_states_parts vs) ∙ length_parts words_of_state state_words vs (states_sized vs) in omega (arith, e))

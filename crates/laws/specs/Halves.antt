@@ -4,7 +4,7 @@ use Rattle.std.specs.Prelude.{◌≡◌, refl, Bool, true, false, not, ◌&&◌,
 use Rattle.std.proofs.Common.{sym, ap, ◌∙◌, subst, arith, ltb-true, ltb-false, eq-eqb}
 use Rattle.std.proofs.Math.Option.{some}
 use Rattle.std.proofs.lemmas.Bool.{not-true}
-use Rattle.lingua.specs.Numbers.{body_cells_lem, body_nodes, body_depth, record_attributes}
+use Rattle.lingua.specs.Numbers.{body_cells, body_nodes, body_depth, record_attributes}
 use Rattle.lingua.specs.Errors.{number_expected, boolean_expected, word_expected, list_expected, record_expected, no_such_attribute, attribute_present, no_coherence, not_comparable, body_too_large, last_attribute}
 use Rattle.lingua.specs.Outcome.{ok, or_fail, is_some, if◌then◌else◌}
 use Rattle.lingua.specs.Body.{Body, boolean, number, word, hundredths, list_of, record_of, Attributes, end, attribute, size, sizes, nodes, depth, width, is_boolean, is_number, is_word, is_hundredths, is_quantity, is_simple, same_body, element_body, attributes_of, count_attributes, attribute_body, attribute_offset, insert_attribute, remove_attribute, too_large}
@@ -29,13 +29,13 @@ bounded_within b {d} e =
 pub in_bounds : (b : Body) → too_large b ≡ false → InBounds b
 unfolding too_large
 in_bounds b e =
-    let cells = ltb body_cells_lem (size b) in
+    let cells = ltb body_cells (size b) in
     let many = ltb body_nodes (nodes b) in
     let deep = ltb body_depth (depth b) in
     let p = or_left (cells || many || deep) (ltb record_attributes (width b)) e in
     let q = or_left (cells || many) deep p in
     record {
-      few_cells = ltb-false body_cells_lem (size b) (or_left cells many q);
+      few_cells = ltb-false body_cells (size b) (or_left cells many q);
       few_nodes = ltb-false body_nodes (nodes b) (or_right cells many q);
       shallow = ltb-false body_depth (depth b) (or_right (cells || many) deep p);
     }
@@ -43,9 +43,9 @@ in_bounds b e =
 pub few_attributes : (b : Body) → too_large b ≡ false → width b ≤ record_attributes
 unfolding too_large
 few_attributes b e =
-    ltb-false record_attributes (width b) (or_right (ltb body_cells_lem (size b) || ltb body_nodes (nodes b) || ltb body_depth (depth b)) (ltb record_attributes (width b)) e)
+    ltb-false record_attributes (width b) (or_right (ltb body_cells (size b) || ltb body_nodes (nodes b) || ltb body_depth (depth b)) (ltb record_attributes (width b)) e)
 
-pub bounded_small : (b : Body) {d : Body} → bounded b ≡ ok d → size d ≤ body_cells_lem
+pub bounded_small : (b : Body) {d : Body} → bounded b ≡ ok d → size d ≤ body_cells
 bounded_small b {d} e = (in_bounds d (bounded_within b e)).few_cells
 
 -- ---- one operand
@@ -144,7 +144,7 @@ pub record Expands (n : ℕ) (b c d : Body) : Type 0 where
   pub absent : present n attributes ≡ false
   pub result : d ≡ record_of (insert_attribute n c attributes)
   pub within : too_large d ≡ false
-  pub small : size d ≤ body_cells_lem
+  pub small : size d ≤ body_cells
 
 pub expand_body : {n : ℕ} {b c d : Body} → binary_body (expand n) b c ≡ ok d → Expands n b c d
 unfolding binary_body
@@ -205,53 +205,53 @@ insert_within n c (attribute m b fs) e = go (eqb n m) refl e (ltb n m) (insert_w
     go false q e true rest = rw (eq-eqb n n refl) (omega arith)
     go false q e false rest = rw q (omega (arith, rest e))
 
-simple_small : {d c : Body} → d ≡ c → size c ≤ body_cells_lem → size d ≤ body_cells_lem
+simple_small : {d c : Body} → d ≡ c → size c ≤ body_cells → size d ≤ body_cells
 simple_small q h = omega (arith, ap size q, h)
 
-element_small : (b : Body) → size (list_of b) ≤ body_cells_lem → size b ≤ body_cells_lem
+element_small : (b : Body) → size (list_of b) ≤ body_cells → size b ≤ body_cells
 unfolding size
 element_small b h = omega arith
 
-attribute_small : (n : ℕ) (fs : Attributes) (d : Body) → attribute_body n fs ≡ some d → size (record_of fs) ≤ body_cells_lem → size d ≤ body_cells_lem
+attribute_small : (n : ℕ) (fs : Attributes) (d : Body) → attribute_body n fs ≡ some d → size (record_of fs) ≤ body_cells → size d ≤ body_cells
 unfolding size
 attribute_small n fs d e h = omega (arith, attribute_within n fs d e, h)
 
-removed_small : (n : ℕ) (fs : Attributes) (d : Body) → attribute_body n fs ≡ some d → size (record_of fs) ≤ body_cells_lem → size (record_of (remove_attribute n fs)) ≤ body_cells_lem
+removed_small : (n : ℕ) (fs : Attributes) (d : Body) → attribute_body n fs ≡ some d → size (record_of fs) ≤ body_cells → size (record_of (remove_attribute n fs)) ≤ body_cells
 unfolding size
 removed_small n fs d e h = omega (arith, (removed_fewer n fs d e).fewer_cells, h)
 
-boolean_small : size boolean ≤ body_cells_lem
+boolean_small : size boolean ≤ body_cells
 unfolding size
 boolean_small = omega arith
 
-number_small : size number ≤ body_cells_lem
+number_small : size number ≤ body_cells
 unfolding size
 number_small = omega arith
 
-word_small : size word ≤ body_cells_lem
+word_small : size word ≤ body_cells
 unfolding size
 word_small = omega arith
 
-hundredths_small : size hundredths ≤ body_cells_lem
+hundredths_small : size hundredths ≤ body_cells
 unfolding size
 hundredths_small = omega arith
 
-pub unary_small : (o : Unary) (b : Body) {d : Body} → size b ≤ body_cells_lem → unary_body o b ≡ ok d → size d ≤ body_cells_lem
+pub unary_small : (o : Unary) (b : Body) {d : Body} → size b ≤ body_cells → unary_body o b ≡ ok d → size d ≤ body_cells
 unfolding unary_body
 unary_small negation b h e = simple_small (negation_body e).1 boolean_small
 unary_small (make_record n) b h e = bounded_small (record_of (attribute n b end)) e
 unary_small (select n) b {d} h e =
-    let s = select_body {n = n} e in attribute_small n s.attributes d s.has (subst (λ (c : Body). size c ≤ body_cells_lem) s.is h)
+    let s = select_body {n = n} e in attribute_small n s.attributes d s.has (subst (λ (c : Body). size c ≤ body_cells) s.is h)
 unary_small make-list b h e = bounded_small (list_of b) e
-unary_small top b {d} h e = element_small d (subst (λ (c : Body). size c ≤ body_cells_lem) (top_body e) h)
+unary_small top b {d} h e = element_small d (subst (λ (c : Body). size c ≤ body_cells) (top_body e) h)
 unary_small pop b {d} h e = let p = pop_body e in simple_small (p.2 ∙ sym p.1) h
 unary_small (remove n) b h e =
     let s = remove_body {n = n} e in
-    simple_small s.result (removed_small n s.attributes s.removed s.has (subst (λ (c : Body). size c ≤ body_cells_lem) s.is h))
+    simple_small s.result (removed_small n s.attributes s.removed s.has (subst (λ (c : Body). size c ≤ body_cells) s.is h))
 unary_small to-hundredths b h e = simple_small (to_hundredths_body e).1 hundredths_small
 unary_small to_number b h e = simple_small (to_number_body e).1 number_small
 
-pub binary_small : (o : Binary) (b c : Body) {d : Body} → size b ≤ body_cells_lem → size c ≤ body_cells_lem → binary_body o b c ≡ ok d → size d ≤ body_cells_lem
+pub binary_small : (o : Binary) (b c : Body) {d : Body} → size b ≤ body_cells → size c ≤ body_cells → binary_body o b c ≡ ok d → size d ≤ body_cells
 unfolding binary_body
 binary_small add b c h k e = simple_small (quantities_body e).2 h
 binary_small subtract b c h k e = simple_small (quantities_body e).2 h

@@ -10,10 +10,10 @@ use native.Mathlib.Omega.{arith}
 use Rattle.std.proofs.Math.ListN.{length, get_or, replicate, length-append}
 use Rattle.std.proofs.lemmas.List.{length-replicate}
 use Rattle.std.proofs.Math.Seq.{paste}
-use Rattle.lingua.specs.Numbers.{most_variables, body_cells_lem, cells_length, state_words_lem, states_length}
+use Rattle.lingua.specs.Numbers.{most_variables, body_cells, cells_length, state_words, states_length}
 use Rattle.lingua.specs.Value.{pad, Composite}
 use Rattle.lingua.specs.Expression.{Yoke, yoke_number}
-use Rattle.lingua.specs.Store.{Variable, no_variable, variable_at, with_content, with_yoke, content_cells, filled_flag, state_words, store_cells, store_states, cells_in, states_in, flag_place, yoke_place, flag_at, yoke_at, fill_at, set_yoke_at}
+use Rattle.lingua.specs.Store.{Variable, no_variable, variable_at, with_content, with_yoke, content_cells, filled_flag, words_of_state, store_cells, store_states, cells_in, states_in, flag_place, yoke_place, flag_at, yoke_at, fill_at, set_yoke_at}
 use Rattle.lingua.specs.Run.{Declaration, unfilled}
 use Rattle.laws.specs.Lists.{length_pad, paste_at, pad_free, pad_append}
 use Rattle.laws.specs.Every.{Every, every_none, every_more, every_implies}
@@ -109,26 +109,26 @@ module _ {A B : Type 0} (f : A → List B) where
 
 -- ---- variables
 abbrev pub variable_cells : Variable → List ℤ
-variable_cells v = pad body_cells_lem (pos 0) (content_cells v.content)
+variable_cells v = pad body_cells (pos 0) (content_cells v.content)
 
 pub store_cells_parts : (vs : List Variable) → store_cells vs ≡ parts variable_cells vs
 unfolding store_cells parts
 store_cells_parts [] = refl
 store_cells_parts (v ∷ vs) = ap (λ (l : List ℤ). variable_cells v ++ l) (store_cells_parts vs)
 
-pub store_states_parts : (vs : List Variable) → store_states vs ≡ parts state_words vs
+pub store_states_parts : (vs : List Variable) → store_states vs ≡ parts words_of_state vs
 unfolding store_states parts
 store_states_parts [] = refl
-store_states_parts (v ∷ vs) = ap (λ (l : List ℕ). state_words v ++ l) (store_states_parts vs)
+store_states_parts (v ∷ vs) = ap (λ (l : List ℕ). words_of_state v ++ l) (store_states_parts vs)
 
 -- every content has at most 64 cells
 abbrev pub Small : List Variable → Type 0
-Small vs = Every (λ v. length (content_cells v.content) ≤ body_cells_lem) vs
+Small vs = Every (λ v. length (content_cells v.content) ≤ body_cells) vs
 
-pub small_sized : {vs : List Variable} → Small vs → Sized variable_cells body_cells_lem vs
-small_sized hs = every_implies (λ v h. length_pad body_cells_lem (pos 0) (content_cells v.content) h) hs
+pub small_sized : {vs : List Variable} → Small vs → Sized variable_cells body_cells vs
+small_sized hs = every_implies (λ v h. length_pad body_cells (pos 0) (content_cells v.content) h) hs
 
-pub states_sized : (vs : List Variable) → Sized state_words state_words_lem vs
+pub states_sized : (vs : List Variable) → Sized words_of_state state_words vs
 states_sized [] = every_none
 states_sized (v ∷ vs) = every_more refl (states_sized vs)
 
@@ -160,26 +160,26 @@ set_second (x ∷ l) (suc k) a b c e =
 
 module _ (vs : List Variable) (n : ℕ) (lt : n < length vs) where
   -- variable n's 64 cells
-  pub cells_at : Small vs → take body_cells_lem (drop (body_cells_lem * n) (cells_in vs)) ≡ variable_cells (variable_at vs n)
+  pub cells_at : Small vs → take body_cells (drop (body_cells * n) (cells_in vs)) ≡ variable_cells (variable_at vs n)
   unfolding cells_in
-  cells_at hs = rw (store_cells_parts vs) (part_at variable_cells body_cells_lem cells_length (pos 0) vs (small_sized hs) n lt no_variable)
+  cells_at hs = rw (store_cells_parts vs) (part_at variable_cells body_cells cells_length (pos 0) vs (small_sized hs) n lt no_variable)
 
   -- another variable n: only its cells and its two state words change
-  pub cells_set : Small vs → (v : Variable) → length (content_cells v.content) ≤ body_cells_lem → cells_in (set vs n v) ≡ paste (cells_in vs) (body_cells_lem * n) (variable_cells v) body_cells_lem
+  pub cells_set : Small vs → (v : Variable) → length (content_cells v.content) ≤ body_cells → cells_in (set vs n v) ≡ paste (cells_in vs) (body_cells * n) (variable_cells v) body_cells
   unfolding cells_in
   cells_set hs v h =
       rw (store_cells_parts (set vs n v), store_cells_parts vs)
-      (part_set variable_cells body_cells_lem cells_length (pos 0) vs (small_sized hs) n lt no_variable v (length_pad body_cells_lem (pos 0) (content_cells v.content) h))
+      (part_set variable_cells body_cells cells_length (pos 0) vs (small_sized hs) n lt no_variable v (length_pad body_cells (pos 0) (content_cells v.content) h))
 
-  pub states_at : take state_words_lem (drop (flag_place n) (states_in vs)) ≡ state_words (variable_at vs n)
+  pub states_at : take state_words (drop (flag_place n) (states_in vs)) ≡ words_of_state (variable_at vs n)
   unfolding states_in
-  states_at = rw (store_states_parts vs) (part_at state_words state_words_lem states_length 0 vs (states_sized vs) n lt no_variable)
+  states_at = rw (store_states_parts vs) (part_at words_of_state state_words states_length 0 vs (states_sized vs) n lt no_variable)
 
   -- its state words, each for itself
-  word_at : (k : ℕ) → k < state_words_lem → get_or (states_in vs) (flag_place n + k) 0 ≡ get_or (state_words (variable_at vs n)) k 0
+  word_at : (k : ℕ) → k < state_words → get_or (states_in vs) (flag_place n + k) 0 ≡ get_or (words_of_state (variable_at vs n)) k 0
   word_at k l =
       sym (get_or-drop (flag_place n) (states_in vs) k 0)
-      ∙ sym (get_or-take state_words_lem (drop (flag_place n) (states_in vs)) k 0 l)
+      ∙ sym (get_or-take state_words (drop (flag_place n) (states_in vs)) k 0 l)
       ∙ ap (λ (l : List ℕ). get_or l k 0) states_at
 
   pub flag_at_lem : flag_at (states_in vs) n ≡ filled_flag (variable_at vs n).content
@@ -191,9 +191,9 @@ module _ (vs : List Variable) (n : ℕ) (lt : n < length vs) where
   yoke_at_lem = word_at 1 (omega arith)
 
   -- another variable n: its state words alone change
-  states_set : (v : Variable) → states_in (set vs n v) ≡ paste (states_in vs) (flag_place n) (state_words v) state_words_lem
+  states_set : (v : Variable) → states_in (set vs n v) ≡ paste (states_in vs) (flag_place n) (words_of_state v) state_words
   unfolding states_in
-  states_set v = rw (store_states_parts (set vs n v), store_states_parts vs) (part_set state_words state_words_lem states_length 0 vs (states_sized vs) n lt no_variable v refl)
+  states_set v = rw (store_states_parts (set vs n v), store_states_parts vs) (part_set words_of_state state_words states_length 0 vs (states_sized vs) n lt no_variable v refl)
 
   pub flag_set : (x : Composite) → fill_at (states_in vs) n ≡ states_in (set vs n (with_content (variable_at vs n) x))
   unfolding fill_at
@@ -227,13 +227,13 @@ unfolding set_yoke_at
 yoke_length states n y = length-set states (yoke_place n) y
 
 -- ---- one variable more, not filled: it gets its declared yoke
-states_append : (vs : List Variable) (d : Declaration) → store_states (vs ++ (unfilled d ∷ [])) ≡ store_states vs ++ state_words (unfilled d)
+states_append : (vs : List Variable) (d : Declaration) → store_states (vs ++ (unfilled d ∷ [])) ≡ store_states vs ++ words_of_state (unfilled d)
 unfolding store_states
 states_append [] d = refl
-states_append (v ∷ vs) d = ap (λ (l : List ℕ). state_words v ++ l) (states_append vs d)
+states_append (v ∷ vs) d = ap (λ (l : List ℕ). words_of_state v ++ l) (states_append vs d)
 
-length_states : (vs : List Variable) → length (store_states vs) ≡ state_words_lem * length vs
-length_states vs = ap (λ (l : List ℕ). length l) (store_states_parts vs) ∙ length_parts state_words state_words_lem vs (states_sized vs)
+length_states : (vs : List Variable) → length (store_states vs) ≡ state_words * length vs
+length_states vs = ap (λ (l : List ℕ). length l) (store_states_parts vs) ∙ length_parts words_of_state state_words vs (states_sized vs)
 
 set_after : (xs : List ℕ) (a b y : ℕ) (r : List ℕ) → set (xs ++ (a ∷ b ∷ r)) (suc (length xs)) y ≡ xs ++ (a ∷ y ∷ r)
 set_after [] a b y r = refl
@@ -245,9 +245,9 @@ yoke_more vs d h =
     let xs = store_states vs in
     let y = yoke_number d.declared in
     let at : suc (length xs) ≡ yoke_place (length vs) = omega (arith, length_states vs) in
-    let room : length xs + state_words_lem ≤ states_length = omega (arith, length_states vs) in
+    let room : length xs + state_words ≤ states_length = omega (arith, length_states vs) in
     ap (λ (l : List ℕ). pad states_length 0 l) (states_append vs d)
-    ∙ pad_append states_length 0 xs (state_words (unfilled d))
-    ∙ sym (set_after xs 0 0 y (replicate (states_length - (length xs + state_words_lem)) 0))
-    ∙ ap (λ (l : List ℕ). set l (suc (length xs)) y) (sym (pad_free states_length state_words_lem 0 xs room))
+    ∙ pad_append states_length 0 xs (words_of_state (unfilled d))
+    ∙ sym (set_after xs 0 0 y (replicate (states_length - (length xs + state_words)) 0))
+    ∙ ap (λ (l : List ℕ). set l (suc (length xs)) y) (sym (pad_free states_length state_words 0 xs room))
     ∙ ap (λ (k : ℕ). set (pad states_length 0 xs) k y) at

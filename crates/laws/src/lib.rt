@@ -4,3 +4,5 @@
 // `determined` (Determined): the cells of a fitting value determine it;
 // `cells-set`, `flag-set`, `yoke-set` (Stores): a store or a yoke change changes its own part of the memory alone;
 // `run-no-type-error` (Classes): no number is in both classes of errors.
+#![tactic(auto)]
+

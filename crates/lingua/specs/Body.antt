@@ -1,7 +1,7 @@
 -- Bodies: their cells, nodes, depth and bounds (document 01, Bodies and registers). Assumes nothing: these are definitions.
 use Rattle.std.specs.Prelude.{Bool, true, false, ◌||◌, ◌&&◌, ℕ, suc, ◌+◌, ◌*◌, max, eqb, ltb}
 use Rattle.std.proofs.Math.Option.{Option, some, none}
-use Rattle.lingua.specs.Numbers.{list_places, body_cells_lem, body_nodes, body_depth, record_attributes}
+use Rattle.lingua.specs.Numbers.{list_places, body_cells, body_nodes, body_depth, record_attributes}
 use Rattle.lingua.specs.Outcome.{if◌then◌else◌}
 
 mutual
@@ -72,7 +72,7 @@ width (record_of fs) = count_attributes fs
 
 unfoldable pub too_large : Body → Bool
 too_large b =
-    ltb body_cells_lem (size b) || ltb body_nodes (nodes b) || ltb body_depth (depth b) || ltb record_attributes (width b)
+    ltb body_cells (size b) || ltb body_nodes (nodes b) || ltb body_depth (depth b) || ltb record_attributes (width b)
 
 -- ---- kinds of bodies
 unfoldable pub is_boolean : Body → Bool

@@ -32,8 +32,8 @@ abbrev pub list_places : ℕ
 list_places = 8
 
 -- ---- bounds of bodies
-abbrev pub body_cells_lem : ℕ
-body_cells_lem = 64
+abbrev pub body_cells : ℕ
+body_cells = 64
 
 abbrev pub body_nodes : ℕ
 body_nodes = 32
@@ -83,8 +83,8 @@ abbrev pub cells_length : ℕ
 cells_length = 1024
 
 -- those of one variable
-abbrev pub state_words_lem : ℕ
-state_words_lem = 2
+abbrev pub state_words : ℕ
+state_words = 2
 
 abbrev pub states_length : ℕ
 states_length = 32

@@ -3,7 +3,7 @@
 use Rattle.std.specs.Prelude.{Bool, true, not, ◌&&◌, List, [], ◌∷◌, ◌++◌, ℕ, suc, ◌+◌, ◌*◌, eqb, get_or, set, ℤ, pos}
 use Rattle.std.proofs.Math.Option.{Option, some, none}
 use Rattle.std.specs.Int.Signed.{le_z}
-use Rattle.lingua.specs.Numbers.{body_cells_lem, cells_length, state_words_lem, states_length, variable_bodies_length, open_cells_length, open_states_length, open_bodies_length}
+use Rattle.lingua.specs.Numbers.{body_cells, cells_length, state_words, states_length, variable_bodies_length, open_cells_length, open_states_length, open_bodies_length}
 use Rattle.lingua.specs.Errors.{overflow, yoke_not_satisfied, not_filled, no_coherence, yoke_expected}
 use Rattle.lingua.specs.Outcome.{ok, Result, require, or_fail, ◌>>=◌, ◌>>◌}
 use Rattle.lingua.specs.Body.{Body, boolean, is_hundredths, coherent}
@@ -125,15 +125,15 @@ filled_flag (some x) = 1
 
 unfoldable pub store_cells : List Variable → List ℤ
 store_cells [] = []
-store_cells (v ∷ vs) = pad body_cells_lem (pos 0) (content_cells v.content) ++ store_cells vs
+store_cells (v ∷ vs) = pad body_cells (pos 0) (content_cells v.content) ++ store_cells vs
 
 -- a variable's state words: whether it is filled, and its current yoke
-abbrev pub state_words : Variable → List ℕ
-state_words v = filled_flag v.content ∷ yoke_number v.yoke ∷ []
+abbrev pub words_of_state : Variable → List ℕ
+words_of_state v = filled_flag v.content ∷ yoke_number v.yoke ∷ []
 
 unfoldable pub store_states : List Variable → List ℕ
 store_states [] = []
-store_states (v ∷ vs) = state_words v ++ store_states vs
+store_states (v ∷ vs) = words_of_state v ++ store_states vs
 
 unfoldable pub store_bodies : List Variable → List ℕ
 store_bodies [] = []
@@ -174,10 +174,10 @@ present_in vs os = bodies_in vs ++ pad open_bodies_length 0 (call_bodies os)
 
 -- where variable n's state words stand among all, by name: nothing else says it
 abbrev pub flag_place : ℕ → ℕ
-flag_place n = state_words_lem * n
+flag_place n = state_words * n
 
 abbrev pub yoke_place : ℕ → ℕ
-yoke_place n = state_words_lem * n + 1
+yoke_place n = state_words * n + 1
 
 unfoldable pub flag_at : List ℕ → ℕ → ℕ
 flag_at states n = get_or states (flag_place n) 0

@@ -1,12 +1,12 @@
 -- Well-formed bodies (document 01, Bodies and registers): a record has 1 to 8 attributes, numbered below 64 and in ascending order; a body is
 -- within its bounds; and all of it holds of every body inside. Assumes nothing: these are definitions.
 use Rattle.std.specs.Prelude.{ℕ, suc, ◌≤◌, ◌<◌}
-use Rattle.lingua.specs.Numbers.{body_cells_lem, body_nodes, body_depth, record_attributes, attribute_numbers}
+use Rattle.lingua.specs.Numbers.{body_cells, body_nodes, body_depth, record_attributes, attribute_numbers}
 use Rattle.lingua.specs.Body.{Body, boolean, number, word, hundredths, list_of, record_of, Attributes, end, attribute, size, nodes, depth, count_attributes}
 
 -- at most 64 cells, 32 nodes and depth 4
 pub record InBounds (b : Body) : Type 0 where
-  pub few_cells : size b ≤ body_cells_lem
+  pub few_cells : size b ≤ body_cells
   pub few_nodes : nodes b ≤ body_nodes
   pub shallow : depth b ≤ body_depth
 

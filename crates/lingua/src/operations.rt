@@ -1,6 +1,6 @@
 // The operations of expression rows, as the code tells them apart; a record's operations name an attribute.
 // Of one operand: kinds 14, 16, 18, 20, 22, 23, 26, 28, 29.
-#[derive(Drop)]
+#[derive(Clone, Copy)]
 pub enum UnaryOperation {
     Negation,
     MakeRecord(u8),
@@ -14,7 +14,7 @@ pub enum UnaryOperation {
 }
 
 // Of two operands: kinds 5 to 10, 13, 17, 19, 21.
-#[derive(Drop)]
+#[derive(Clone, Copy)]
 pub enum BinaryOperation {
     Add,
     Subtract,

@@ -1,6 +1,6 @@
 -- What a call asks before its body and behind it, and what it gives. Assumes nothing: these are definitions.
 use Rattle.std.specs.Prelude.{◌≡◌, List, [], ◌++◌, ℕ, suc, ◌+◌, ◌*◌, ◌≤◌, ◌<◌, ℤ, pos, length, take, drop, replicate}
-use Rattle.lingua.specs.Numbers.{body_cells_lem, cells_length, states_length, variable_bodies_length, limit_cells_length, instruction_section}
+use Rattle.lingua.specs.Numbers.{body_cells, cells_length, states_length, variable_bodies_length, limit_cells_length, instruction_section}
 use Rattle.lingua.specs.Errors.{no_error}
 use Rattle.lingua.specs.Outcome.{fail, Result}
 use Rattle.lingua.specs.Rows.{table_count}
@@ -41,7 +41,7 @@ pub record Calling (row k b c : ℕ) (w : Way) (s : Setting) (l : Lent) (room : 
   pub scope : ℕ
   pub store : List Variable
   pub calls : Calls row k b c w profile scope s l store
-  pub enough : body_cells_lem * (s.context.expressions.count + 1) ≤ room
+  pub enough : body_cells * (s.context.expressions.count + 1) ≤ room
 
 -- memory for a call's variables
 unfoldable pub ZeroBodies : Way → List ℕ → Type 0
@@ -95,7 +95,7 @@ pub record Leaving (row k c : ℕ) (w : Way) (x : Context) (heads : List ℕ) (o
   pub store : List Variable
   pub progress : Progress
   pub left : Left row k field c w profile scope may x heads before own l area store ended progress
-  pub enough : body_cells_lem * (x.expressions.count + 1) ≤ room
+  pub enough : body_cells * (x.expressions.count + 1) ≤ room
 
 -- the run stands where the definition's call does
 pub record Leaves (row k c : ℕ) (w : Way) (x : Context) (own l area after free : Lent) (ended r : Status) : Type 0 where

@@ -2,7 +2,7 @@
 -- definitions.
 use Rattle.std.specs.Prelude.{◌≡◌, ℕ, ◌+◌, ◌*◌, ◌≤◌, ◌<◌, ℤ, length}
 use mathlib.Core.List.{List, [], Memᴰ}
-use Rattle.lingua.specs.Numbers.{body_cells_lem, cells_length, states_length, variable_bodies_length, instruction_section}
+use Rattle.lingua.specs.Numbers.{body_cells, cells_length, states_length, variable_bodies_length, instruction_section}
 use Rattle.lingua.specs.Rows.{instruction_row}
 use Rattle.lingua.specs.Store.{Variable}
 use Rattle.lingua.specs.Run.{Calling, exec, Profile}
@@ -67,7 +67,7 @@ pub record AskedLeaf (row : ℕ) (w : Way) (c : Context) (u : Table) (l : Lent) 
   pub store : List Variable
   pub holds : Holds w profile scope c l store
   pub under : Under c.rows scope row
-  pub enough : body_cells_lem * (c.expressions.count + 1) ≤ room
+  pub enough : body_cells * (c.expressions.count + 1) ≤ room
   pub instructions : IsTable c.rows instruction_section u
   pub there : row < u.count
   pub going : Going m

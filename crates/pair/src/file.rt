@@ -12,7 +12,7 @@ use lingua::errors::NO_ERROR;
 use rules::refusal::rows_refusal;
 
 // The lowest of a file's own rules, 0 where none applies; then its rows are so many bytes, in these tables.
-#[derive(Drop)]
+#[derive(Clone, Copy)]
 pub struct Taken {
     pub refusal: u8,
     pub length: usize,

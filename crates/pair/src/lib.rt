@@ -1,4 +1,6 @@
 // Both files taken whole: the first number in order over both, or their rows and the bodies of the profile's types.
+#![tactic(auto)]
+
 ghost use Rattle.std.specs.Prelude.{◌≡◌};
 ghost use Rattle.lingua.specs.Refusal.{rank};
 ghost use Rattle.laws.specs.Lowest.{lesser};
@@ -16,7 +18,7 @@ pub mod file; // file.rt: one file
 
 // The first rule of both files, 0 where none applies; then their rows are so many bytes, the profile's in these tables, the limits in this
 // one, and each limit is that of the variable of this number.
-#[derive(Drop)]
+#[derive(Clone, Copy)]
 pub struct Pair {
     pub refusal: u8,
     pub rows: usize,

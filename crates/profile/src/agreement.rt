@@ -22,7 +22,7 @@ use decoder::tables::Table;
 use lingua::sizes::{BODY_BYTES, MOST_READINGS};
 
 // Whose a limit is: a number or hundredths variable of the profile, or nobody's.
-#[derive(Drop)]
+#[derive(Clone, Copy)]
 pub enum Owner {
     Of(usize),
     Nobody,

@@ -10,7 +10,7 @@ use decoder::tables::Table;
 use row_rules::names::same_bytes;
 
 // The declaration that has a name, if there is one, and how many declarations the search looked at.
-#[derive(Drop)]
+#[derive(Clone, Copy)]
 pub enum Found {
     At { index: usize, looked: usize },
     Nothing { looked: usize },

@@ -7,7 +7,7 @@ use native.Mathlib.Omega.{arith}
 use lib.Dec.{eqb, ltb}
 use lib.ListN.{length, drop, length-append, length-take}
 use lib.IntN.{ℤ, pos, negsuc}
-use Rattle.lingua.specs.Numbers.{body_cells_lem, declaration_section}
+use Rattle.lingua.specs.Numbers.{body_cells, declaration_section}
 use Rattle.lingua.specs.Outcome.{if◌then◌else◌}
 use Rattle.lingua.specs.Body.{size}
 use Rattle.lingua.specs.Store.{Variable, variable_at, present_body, filled_at}
@@ -20,7 +20,7 @@ use Rattle.lingua.specs.Report.{digits_in, decimal, signed_decimal, end_line, ce
 use Rattle.safety.specs.Accepted.{length_until}
 use Rattle.text.specs.Line.{content_of, variable_line}
 use Rattle.report.specs.Call.{answer_text}
-use Rattle.report.specs.Memory.{Left, body_cells, memory_line, memory_lines, lines_unless, variables_text}
+use Rattle.report.specs.Memory.{Left, cells_of_bodies, memory_line, memory_lines, lines_unless, variables_text}
 use Rattle.report.specs.Written.{most_text}
 
 -- ---- numbers
@@ -66,16 +66,16 @@ unfolding name_at bytes_at
 name_length rows d = omega (arith, length-take 8 (drop (10 * name_row rows declaration_section d + 2) rows))
 
 module _ {rows present : List ℕ} {cells : List ℤ} {states : List ℕ} {vs : List Variable} (left : Left rows present cells states vs) where
-  body_length : (d : ℕ) → d < pair_count rows declaration_section → length (body_cells cells vs d) ≤ 64
-  unfolding body_cells
+  body_length : (d : ℕ) → d < pair_count rows declaration_section → length (cells_of_bodies cells vs d) ≤ 64
+  unfolding cells_of_bodies
   body_length d l =
-      omega (arith, length-take (size (present_body (variable_at vs d))) (drop (body_cells_lem * d) cells), (left.stored.holdable d (omega (arith, l, left.count))).few_cells)
+      omega (arith, length-take (size (present_body (variable_at vs d))) (drop (body_cells * d) cells), (left.stored.holdable d (omega (arith, l, left.count))).few_cells)
 
   line_length : (d : ℕ) → d < pair_count rows declaration_section → length (memory_line rows cells states vs d) ≤ 1417
   unfolding memory_line variable_line
   line_length d l =
       simp length-append
-      (omega (arith, length_until (name_at rows declaration_section d), name_length rows d, content_length (filled_at states d) (body_cells cells vs d) (body_length d l)))
+      (omega (arith, length_until (name_at rows declaration_section d), name_length rows d, content_length (filled_at states d) (cells_of_bodies cells vs d) (body_length d l)))
 
   lines_length : (d n : ℕ) → d + n ≤ pair_count rows declaration_section → length (memory_lines rows cells states vs d n) ≤ 1417 * n
   unfolding memory_lines

@@ -8,7 +8,7 @@ use native.Mathlib.Numerals.{add-one}
 use native.Mathlib.Omega.{arith}
 use lib.ListN.{length, take, drop}
 use lib.IntN.{ℤ}
-use Rattle.lingua.specs.Numbers.{body_cells_lem, declaration_section}
+use Rattle.lingua.specs.Numbers.{body_cells, declaration_section}
 use Rattle.lingua.specs.Body.{size}
 use Rattle.lingua.specs.Store.{Variable, variable_at, present_body, filled_at}
 use Rattle.lingua.specs.Rows.{bytes_at, pair_count}
@@ -19,7 +19,7 @@ use Rattle.profile.proofs.Declaring.{name_place, pairs}
 use Rattle.text.specs.Appended.{Appended}
 use Rattle.text.specs.Line.{variable_line}
 use Rattle.text.proofs.Texts.{append_none, append_both}
-use Rattle.report.specs.Memory.{Left, body_cells, memory_line, memory_lines}
+use Rattle.report.specs.Memory.{Left, cells_of_bodies, memory_line, memory_lines}
 
 -- ---- one variable
 pub there : {rows present : List ℕ} {cells : List ℤ} {states : List ℕ} {vs : List Variable} {t : Table} {d : ℕ} → Left rows present cells states vs → IsTable rows declaration_section t → d < t.count / 2 → d < length vs
@@ -31,15 +31,15 @@ pub line_put :
     name ≡ bytes_at rows (t.start + 2 * d) →
     count ≡ size (present_body (variable_at vs d)) →
     filled ≡ filled_at states d →
-    Appended out at (variable_line name filled (take (body_cells_lem * d + count - body_cells_lem * d) (drop (body_cells_lem * d) cells))) last end →
+    Appended out at (variable_line name filled (take (body_cells * d + count - body_cells * d) (drop (body_cells * d) cells))) last end →
     Appended out at (memory_line rows cells states vs d) last end
-unfolding memory_line body_cells name_at
+unfolding memory_line cells_of_bodies name_at
 line_put {out} {last} {at} {end} rows cells states vs name t d count filled is named counted flag p =
     let n : name ≡ name_at rows declaration_section d = named ∙ ap (bytes_at rows) (name_place rows declaration_section t is d) in
-    let k : body_cells_lem * d + count - body_cells_lem * d ≡ size (present_body (variable_at vs d)) = omega (arith, counted) in
-    subst (λ (j : ℕ). Appended out at (variable_line (name_at rows declaration_section d) (filled_at states d) (take j (drop (body_cells_lem * d) cells))) last end) k
-    (subst (λ (l : List ℕ). Appended out at (variable_line l (filled_at states d) (take (body_cells_lem * d + count - body_cells_lem * d) (drop (body_cells_lem * d) cells))) last end) n
-    (subst (λ (b : Bool). Appended out at (variable_line name b (take (body_cells_lem * d + count - body_cells_lem * d) (drop (body_cells_lem * d) cells))) last end) flag p))
+    let k : body_cells * d + count - body_cells * d ≡ size (present_body (variable_at vs d)) = omega (arith, counted) in
+    subst (λ (j : ℕ). Appended out at (variable_line (name_at rows declaration_section d) (filled_at states d) (take j (drop (body_cells * d) cells))) last end) k
+    (subst (λ (l : List ℕ). Appended out at (variable_line l (filled_at states d) (take (body_cells * d + count - body_cells * d) (drop (body_cells * d) cells))) last end) n
+    (subst (λ (b : Bool). Appended out at (variable_line name b (take (body_cells * d + count - body_cells * d) (drop (body_cells * d) cells))) last end) flag p))
 
 -- ---- all of them
 module _ (rows : List ℕ) (cells : List ℤ) (states : List ℕ) (vs : List Variable) where

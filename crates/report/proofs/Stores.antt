@@ -10,7 +10,7 @@ use native.Mathlib.Omega.{arith}
 use lib.Dec.{eqb}
 use lib.ListN.{length, take, drop}
 use lib.IntN.{ℤ}
-use Rattle.lingua.specs.Numbers.{body_cells_lem, declaration_section}
+use Rattle.lingua.specs.Numbers.{body_cells, declaration_section}
 use Rattle.lingua.specs.Body.{size}
 use Rattle.lingua.specs.WellFormed.{WellFormed}
 use Rattle.lingua.specs.Value.{cells_of, Composite}
@@ -30,7 +30,7 @@ use Rattle.rules.specs.Accepted.{counts}
 use Rattle.run.proofs.Parts.{content_at}
 use Rattle.checked_row.proofs.Storing.{memory_of}
 use Rattle.text.specs.Line.{content_of, variable_line}
-use Rattle.report.specs.Memory.{Left, body_cells, memory_line, memory_lines}
+use Rattle.report.specs.Memory.{Left, cells_of_bodies, memory_line, memory_lines}
 
 -- ---- line by line
 line_behind : (name content rest : List ℕ) → name ++ (content ++ (newline ∷ rest)) ≡ (name ++ (content ++ (newline ∷ []))) ++ rest
@@ -39,18 +39,18 @@ line_behind name content rest =
 
 lines_of : (rows lims : List ℕ) (cells : List ℤ) (states : List ℕ) (ws : List Variable) (i n : ℕ) (vs : List Variable)
     → length vs ≡ n
-    → ((k : ℕ) → k < n → content_text (variable_at vs k).content ≡ content_of (filled_at states (i + k)) (body_cells cells ws (i + k)))
+    → ((k : ℕ) → k < n → content_text (variable_at vs k).content ≡ content_of (filled_at states (i + k)) (cells_of_bodies cells ws (i + k)))
     → variable_lines (tabulate_from i n (λ d. declaration_at rows lims d)) vs ≡ memory_lines rows cells states ws i n
 unfolding variable_lines tabulate_from memory_lines memory_line variable_line declaration_in declaration_at
 lines_of rows lims cells states ws i zero vs e h = refl
 lines_of rows lims cells states ws i (suc n) [] e h = absurd (let z : ⊥ = omega arith in z)
 lines_of rows lims cells states ws i (suc n) (v ∷ vs) e h =
-    let first : content_text v.content ≡ content_of (filled_at states i) (body_cells cells ws i) =
-    subst (λ (j : ℕ). content_text v.content ≡ content_of (filled_at states j) (body_cells cells ws j)) (let z : i + zero ≡ i = omega arith in z) (h zero (omega arith)) in
+    let first : content_text v.content ≡ content_of (filled_at states i) (cells_of_bodies cells ws i) =
+    subst (λ (j : ℕ). content_text v.content ≡ content_of (filled_at states j) (cells_of_bodies cells ws j)) (let z : i + zero ≡ i = omega arith in z) (h zero (omega arith)) in
     let others = lines_of rows lims cells states ws (suc i) n vs (omega arith)
-    (λ k l. subst (λ (j : ℕ). content_text (variable_at vs k).content ≡ content_of (filled_at states j) (body_cells cells ws j)) (let z : i + suc k ≡ suc i + k = omega arith in z) (h (suc k) (omega arith))) in
+    (λ k l. subst (λ (j : ℕ). content_text (variable_at vs k).content ≡ content_of (filled_at states j) (cells_of_bodies cells ws j)) (let z : i + suc k ≡ suc i + k = omega arith in z) (h (suc k) (omega arith))) in
     ap₂ (λ (c r : List ℕ). until_zero (name_at rows declaration_section i) ++ (c ++ (newline ∷ r))) first others
-    ∙ line_behind (until_zero (name_at rows declaration_section i)) (content_of (filled_at states i) (body_cells cells ws i)) (memory_lines rows cells states ws (suc i) n)
+    ∙ line_behind (until_zero (name_at rows declaration_section i)) (content_of (filled_at states i) (cells_of_bodies cells ws i)) (memory_lines rows cells states ws (suc i) n)
 
 length_tabulate : {A : Type 0} (f : ℕ → A) (i n : ℕ) → length (tabulate_from i n f) ≡ n
 unfolding tabulate_from
@@ -95,10 +95,10 @@ module _ (prof lims : List ℕ) (e : lowest (pair_rules prof lims) ≡ 0) (budge
   }
 
   -- the first cells of a filled variable's place
-  filled_cells : (d : ℕ) (x : Composite) → d < pair_count rows declaration_section → contents store d ≡ some x → body_cells (cells_in store) store d ≡ cells_of x.body x.value
-  unfolding body_cells
+  filled_cells : (d : ℕ) (x : Composite) → d < pair_count rows declaration_section → contents store d ≡ some x → cells_of_bodies (cells_in store) store d ≡ cells_of x.body x.value
+  unfolding cells_of_bodies
   filled_cells d x l q =
-      ap (λ (c : Option Composite). take (size (present_of (variable_at store d).body c)) (drop (body_cells_lem * d) (cells_in store))) q
+      ap (λ (c : Option Composite). take (size (present_of (variable_at store d).body c)) (drop (body_cells * d) (cells_in store))) q
       ∙ content_at (memory_of store_left.stored) d (omega (arith, store_length)) x q
 
   flag_there : (d : ℕ) (o : Option Composite) → d < pair_count rows declaration_section → contents store d ≡ o → filled_at (states_in store) d ≡ not (eqb (filled_flag o) 0)
@@ -107,11 +107,11 @@ module _ (prof lims : List ℕ) (e : lowest (pair_rules prof lims) ≡ 0) (budge
       let m : d < length store = omega (arith, store_length) in
       ap (λ (n : ℕ). not (eqb n 0)) ((states_at store d m).0 ∙ ap filled_flag q)
 
-  content_by : (d : ℕ) (o : Option Composite) → d < pair_count rows declaration_section → contents store d ≡ o → content_text o ≡ content_of (filled_at (states_in store) d) (body_cells (cells_in store) store d)
+  content_by : (d : ℕ) (o : Option Composite) → d < pair_count rows declaration_section → contents store d ≡ o → content_text o ≡ content_of (filled_at (states_in store) d) (cells_of_bodies (cells_in store) store d)
   unfolding content_text content_of
-  content_by d none l q = ap (λ (t : Bool). content_of t (body_cells (cells_in store) store d)) (sym (flag_there d none l q))
+  content_by d none l q = ap (λ (t : Bool). content_of t (cells_of_bodies (cells_in store) store d)) (sym (flag_there d none l q))
   content_by d (some x) l q =
-      ap cell_texts (sym (filled_cells d x l q)) ∙ ap (λ (t : Bool). content_of t (body_cells (cells_in store) store d)) (sym (flag_there d (some x) l q))
+      ap cell_texts (sym (filled_cells d x l q)) ∙ ap (λ (t : Bool). content_of t (cells_of_bodies (cells_in store) store d)) (sym (flag_there d (some x) l q))
 
   pub store_lines : variable_lines (profile_of (rows_of prof) (rows_of lims)).declarations store ≡ memory_lines rows (cells_in store) (states_in store) store 0 (pair_count rows declaration_section)
   unfolding profile_of tabulate

@@ -1,6 +1,6 @@
 -- The variables' lines as they are read off the caller's memory that a run leaves. Assumes nothing: these are definitions.
 use Rattle.std.specs.Prelude.{◌≡◌, List, [], ◌++◌, ℕ, zero, suc, ◌*◌, ◌<◌, length, take, drop, ℤ}
-use Rattle.lingua.specs.Numbers.{body_cells_lem, declaration_section}
+use Rattle.lingua.specs.Numbers.{body_cells, declaration_section}
 use Rattle.lingua.specs.Body.{size}
 use Rattle.lingua.specs.Store.{Variable, variable_at, present_body, filled_at}
 use Rattle.lingua.specs.Rows.{pair_count}
@@ -29,12 +29,12 @@ pub record HasLeft (rows present : List ℕ) (cells : List ℤ) (states : List �
   pub left : Left rows present cells states store
 
 -- the cells of variable d's present body
-unfoldable pub body_cells : List ℤ → List Variable → ℕ → List ℤ
-body_cells cells vs d = take (size (present_body (variable_at vs d))) (drop (body_cells_lem * d) cells)
+unfoldable pub cells_of_bodies : List ℤ → List Variable → ℕ → List ℤ
+cells_of_bodies cells vs d = take (size (present_body (variable_at vs d))) (drop (body_cells * d) cells)
 
 unfoldable pub memory_line : List ℕ → List ℤ → List ℕ → List Variable → ℕ → List ℕ
 memory_line rows cells states vs d =
-    variable_line (name_at rows declaration_section d) (filled_at states d) (body_cells cells vs d)
+    variable_line (name_at rows declaration_section d) (filled_at states d) (cells_of_bodies cells vs d)
 
 -- the lines of n variables from d on
 unfoldable pub memory_lines : List ℕ → List ℤ → List ℕ → List Variable → ℕ → ℕ → List ℕ

@@ -1,4 +1,6 @@
 // The program `report`: document 01's report of the checked run of clinic.prf under motor.lim, both in the current folder.
+#![tactic(auto)]
+
 mod answers; // answers.rt: the first line, by the run's answer
 mod files; // files.rt: a file's bytes
 mod lines; // lines.rt: the variables' lines, from the memory that a run leaves

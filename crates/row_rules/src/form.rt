@@ -108,7 +108,7 @@ fn used_bytes(rows: &[u8], i: usize, section: u8) -> usize
     0
 }
 
-fn row_fits_lem(file: FileKind, rows: &[u8], i: usize) -> bool
+fn row_fits(file: FileKind, rows: &[u8], i: usize) -> bool
     requires { 10 * i + 10 ≤ length rows.now }
     ensures { result ≡ row_fits (fileMeaning file) rows.now i }
 {

@@ -60,10 +60,10 @@ fn call_fits(rows: &[u8], t: Tables, row: InstructionRow) -> bool
     match row {
         InstructionRow::Call(k, b, c) => {
             let procedure = procedure_at(rows, t, k);
-            if bits_above_lem(b, procedure.values) != 0 {
+            if bits_above(b, procedure.values) != 0 {
                 return false;
             }
-            bits_above_lem(c, procedure.references) == 0
+            bits_above(c, procedure.references) == 0
         }
         _ => true,
     }

@@ -7,7 +7,7 @@ use native.Mathlib.Omega.{arith}
 use lib.IntN.{ℤ, pos}
 use lib.ListN.{length, take, drop, get_or, set, length-drop}
 use lib.Seq.{drop-drop, get_or-drop, paste, paste-zero, paste-suc}
-use Rattle.lingua.specs.Numbers.{body_cells_lem}
+use Rattle.lingua.specs.Numbers.{body_cells}
 use Rattle.lingua.specs.Body.{Body, size}
 use Rattle.lingua.specs.Value.{Value, Fits, cells_of}
 use Rattle.cells.specs.Stack.{Lies}
@@ -30,13 +30,13 @@ one_cell s from at n z e f h k =
     ∙ ap (λ (m : ℕ). paste s 0 (drop at from) m) (let m : 0 + 1 ≡ n = omega (arith, f) in m)
 
 -- the store's part comes back between what lies before it and what lies behind it
-pub put_is : (cells value part : List ℤ) (n width : ℕ) → part ≡ paste (take (body_cells_lem * n + body_cells_lem - body_cells_lem * n) (drop (body_cells_lem * n) cells)) 0 value width
-    → take (body_cells_lem * n) cells ++ (part ++ drop (body_cells_lem * n + body_cells_lem - body_cells_lem * n) (drop (body_cells_lem * n) cells)) ≡ take (body_cells_lem * n) cells ++ (paste (take body_cells_lem (drop (body_cells_lem * n) cells)) 0 value width ++ drop (body_cells_lem * n + body_cells_lem) cells)
+pub put_is : (cells value part : List ℤ) (n width : ℕ) → part ≡ paste (take (body_cells * n + body_cells - body_cells * n) (drop (body_cells * n) cells)) 0 value width
+    → take (body_cells * n) cells ++ (part ++ drop (body_cells * n + body_cells - body_cells * n) (drop (body_cells * n) cells)) ≡ take (body_cells * n) cells ++ (paste (take body_cells (drop (body_cells * n) cells)) 0 value width ++ drop (body_cells * n + body_cells) cells)
 put_is cells value part n width e =
-    let k : body_cells_lem * n + body_cells_lem - body_cells_lem * n ≡ body_cells_lem = omega arith in
-    ap (λ (l : List ℤ). take (body_cells_lem * n) cells ++ (l ++ drop (body_cells_lem * n + body_cells_lem - body_cells_lem * n) (drop (body_cells_lem * n) cells))) e
-    ∙ ap (λ (j : ℕ). take (body_cells_lem * n) cells ++ (paste (take j (drop (body_cells_lem * n) cells)) 0 value width ++ drop j (drop (body_cells_lem * n) cells))) k
-    ∙ ap (λ (l : List ℤ). take (body_cells_lem * n) cells ++ (paste (take body_cells_lem (drop (body_cells_lem * n) cells)) 0 value width ++ l)) (drop-drop body_cells_lem (body_cells_lem * n) cells)
+    let k : body_cells * n + body_cells - body_cells * n ≡ body_cells = omega arith in
+    ap (λ (l : List ℤ). take (body_cells * n) cells ++ (l ++ drop (body_cells * n + body_cells - body_cells * n) (drop (body_cells * n) cells))) e
+    ∙ ap (λ (j : ℕ). take (body_cells * n) cells ++ (paste (take j (drop (body_cells * n) cells)) 0 value width ++ drop j (drop (body_cells * n) cells))) k
+    ∙ ap (λ (l : List ℤ). take (body_cells * n) cells ++ (paste (take body_cells (drop (body_cells * n) cells)) 0 value width ++ l)) (drop-drop body_cells (body_cells * n) cells)
 
 -- ---- a value copied to the front
 pub copied_lies : {after : List ℤ} (s from : List ℤ) (at n : ℕ) (b : Body) (v : Value) → after ≡ paste s 0 (drop at from) n → n ≡ size b → at + n ≤ length from → take (size b) (drop at from) ≡ cells_of b v → Fits v b → Lies after 0 b v

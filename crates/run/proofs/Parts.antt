@@ -11,7 +11,7 @@ use lib.Dec.{eqb}
 use lib.ListN.{length, take, drop}
 use lib.Seq.{take_at, take-take}
 use borrow.Author.Tests.{eqb-true, eqb-false, not-true, not-false}
-use Rattle.lingua.specs.Numbers.{body_cells_lem, states_length, expression_section}
+use Rattle.lingua.specs.Numbers.{body_cells, states_length, expression_section}
 use Rattle.lingua.specs.Body.{size}
 use Rattle.lingua.specs.Value.{pad, cells_of, Composite}
 use Rattle.lingua.specs.Expression.{yoke_number}
@@ -35,11 +35,11 @@ module _ {cells : List ℤ} {states : List ℕ} {vs : List Variable} {vars : Bod
   unfolding VariablesFit
   filled n x q = h.fit n x q
 
-  content_small : (n : ℕ) → n < length vs → length (content_cells (variable_at vs n).content) ≤ body_cells_lem
+  content_small : (n : ℕ) → n < length vs → length (content_cells (variable_at vs n).content) ≤ body_cells
   unfolding content_cells
   content_small n l = by (variable_at vs n).content (filled n)
     where
-      by : (c : Option Composite) → ((x : Composite) → c ≡ some x → (x.body ≡ vars n) × Fitting x) → length (content_cells c) ≤ body_cells_lem
+      by : (c : Option Composite) → ((x : Composite) → c ≡ some x → (x.body ≡ vars n) × Fitting x) → length (content_cells c) ≤ body_cells
       by none g = omega arith
       by (some x) g =
           let q = g x refl in
@@ -50,7 +50,7 @@ module _ {cells : List ℤ} {states : List ℕ} {vs : List Variable} {vars : Bod
 
   module _ (n : ℕ) (lt : n < length vs) where
     -- ---- its room
-    pub cells_room : body_cells_lem * n + body_cells_lem ≤ length cells
+    pub cells_room : body_cells * n + body_cells ≤ length cells
     cells_room = omega (arith, ap (λ (l : List ℤ). length l) h.cells_are, cells_long vs, h.few, lt)
 
     long : states_length ≤ length states
@@ -96,22 +96,22 @@ module _ {cells : List ℤ} {states : List ℕ} {vs : List Variable} {vars : Bod
       own_yoke = ap (λ (k : ℕ). yoke_tree rows k) yoke_number_lem ∙ sym y.is
 
     -- ---- its value
-    pub content_at : (x : Composite) → (variable_at vs n).content ≡ some x → take (size x.body) (drop (body_cells_lem * n) cells) ≡ cells_of x.body x.value
+    pub content_at : (x : Composite) → (variable_at vs n).content ≡ some x → take (size x.body) (drop (body_cells * n) cells) ≡ cells_of x.body x.value
     unfolding content_cells pad
     content_at x q =
         let f = filled n x q in
-        let sm : size x.body ≤ body_cells_lem = omega (arith, ap size f.0, h.small n lt) in
-        ap (λ (l : List ℤ). take (size x.body) (drop (body_cells_lem * n) l)) h.cells_are
-        ∙ sym (take-take (size x.body) body_cells_lem (drop (body_cells_lem * n) (cells_in vs)) sm)
+        let sm : size x.body ≤ body_cells = omega (arith, ap size f.0, h.small n lt) in
+        ap (λ (l : List ℤ). take (size x.body) (drop (body_cells * n) l)) h.cells_are
+        ∙ sym (take-take (size x.body) body_cells (drop (body_cells * n) (cells_in vs)) sm)
         ∙ ap (λ (l : List ℤ). take (size x.body) l) (cells_at vs n lt contents_small)
-        ∙ ap (λ (c : Option Composite). take (size x.body) (pad body_cells_lem (pos 0) (content_cells c))) q
+        ∙ ap (λ (c : Option Composite). take (size x.body) (pad body_cells (pos 0) (content_cells c))) q
         ∙ take_at (cells_of x.body x.value) _ (size x.body) (length_cells f.1)
 
     -- its 64 cells by themselves, as the code takes them
-    pub part_lies : (x : Composite) → (variable_at vs n).content ≡ some x → Lies (take (body_cells_lem * n + body_cells_lem - body_cells_lem * n) (drop (body_cells_lem * n) cells)) 0 x.body x.value
+    pub part_lies : (x : Composite) → (variable_at vs n).content ≡ some x → Lies (take (body_cells * n + body_cells - body_cells * n) (drop (body_cells * n) cells)) 0 x.body x.value
     part_lies x q = let f = filled n x q in record {
       cells =
-          take-take (size x.body) (body_cells_lem * n + body_cells_lem - body_cells_lem * n) (drop (body_cells_lem * n) cells) (omega (arith, ap size f.0, h.small n lt))
+          take-take (size x.body) (body_cells * n + body_cells - body_cells * n) (drop (body_cells * n) cells) (omega (arith, ap size f.0, h.small n lt))
           ∙ content_at x q;
       fit = f.1;
     }

@@ -8,7 +8,7 @@ use native.Mathlib.Omega.{arith}
 use lib.IntN.{ℤ, pos}
 use lib.ListN.{length, take, drop, set, replicate, length-set}
 use lib.Seq.{paste, drop_at, take_all}
-use Rattle.lingua.specs.Numbers.{body_cells_lem, cells_length}
+use Rattle.lingua.specs.Numbers.{body_cells, cells_length}
 use Rattle.lingua.specs.Body.{size}
 use Rattle.lingua.specs.Value.{pad, cells_of, Composite}
 use Rattle.lingua.specs.Expression.{Yoke}
@@ -28,18 +28,18 @@ use Rattle.run.proofs.Parts.{filled, contents_small}
 
 -- ---- a store: the variable's cells
 -- a part that held nothing, or a value of as many cells, with other cells at its front
-new_front : (value : List ℤ) (w : ℕ) (xs ys : List ℤ) → take w value ≡ ys → length ys ≡ w → w ≤ body_cells_lem → (length xs ≡ 0) ⊎ (length xs ≡ w) → paste (pad body_cells_lem (pos 0) xs) 0 value w ≡ pad body_cells_lem (pos 0) ys
+new_front : (value : List ℤ) (w : ℕ) (xs ys : List ℤ) → take w value ≡ ys → length ys ≡ w → w ≤ body_cells → (length xs ≡ 0) ⊎ (length xs ≡ w) → paste (pad body_cells (pos 0) xs) 0 value w ≡ pad body_cells (pos 0) ys
 unfolding pad
 new_front value w xs ys e z s (inl k) =
-    ap (λ (l : List ℤ). l ++ drop (0 + w) (xs ++ replicate (body_cells_lem - length xs) (pos 0))) e
-    ∙ ap (λ (l : List ℤ). ys ++ l) (ap (λ (j : ℕ). drop j (xs ++ replicate (body_cells_lem - length xs) (pos 0))) (let q : 0 + w ≡ w = omega arith in q) ∙ empty xs k ∙ drop_replicate w body_cells_lem (pos 0) ∙ ap (λ (j : ℕ). replicate (body_cells_lem - j) (pos 0)) (sym z))
+    ap (λ (l : List ℤ). l ++ drop (0 + w) (xs ++ replicate (body_cells - length xs) (pos 0))) e
+    ∙ ap (λ (l : List ℤ). ys ++ l) (ap (λ (j : ℕ). drop j (xs ++ replicate (body_cells - length xs) (pos 0))) (let q : 0 + w ≡ w = omega arith in q) ∙ empty xs k ∙ drop_replicate w body_cells (pos 0) ∙ ap (λ (j : ℕ). replicate (body_cells - j) (pos 0)) (sym z))
   where
-    empty : (l : List ℤ) → length l ≡ 0 → drop w (l ++ replicate (body_cells_lem - length l) (pos 0)) ≡ drop w (replicate body_cells_lem (pos 0))
+    empty : (l : List ℤ) → length l ≡ 0 → drop w (l ++ replicate (body_cells - length l) (pos 0)) ≡ drop w (replicate body_cells (pos 0))
     empty [] q = refl
     empty (a ∷ l) q = absurd (let j : ⊥ = omega arith in j)
 new_front value w xs ys e z s (inr k) =
-    ap (λ (l : List ℤ). l ++ drop (0 + w) (xs ++ replicate (body_cells_lem - length xs) (pos 0))) e
-    ∙ ap (λ (l : List ℤ). ys ++ l) (ap (λ (j : ℕ). drop j (xs ++ replicate (body_cells_lem - length xs) (pos 0))) (let q : 0 + w ≡ w = omega arith in q) ∙ drop_at xs (replicate (body_cells_lem - length xs) (pos 0)) w k ∙ ap (λ (j : ℕ). replicate (body_cells_lem - j) (pos 0)) (k ∙ sym z))
+    ap (λ (l : List ℤ). l ++ drop (0 + w) (xs ++ replicate (body_cells - length xs) (pos 0))) e
+    ∙ ap (λ (l : List ℤ). ys ++ l) (ap (λ (j : ℕ). drop j (xs ++ replicate (body_cells - length xs) (pos 0))) (let q : 0 + w ≡ w = omega arith in q) ∙ drop_at xs (replicate (body_cells - length xs) (pos 0)) w k ∙ ap (λ (j : ℕ). replicate (body_cells - j) (pos 0)) (k ∙ sym z))
 
 module _ {cells : List ℤ} {states : List ℕ} {vs : List Variable} {vars : Bodies} (h : Memory cells states vs vars) (n : ℕ) (lt : n < length vs) (x : Composite) (fits : Fitting x) (body : x.body ≡ vars n) where
   content_length : (c : Option Composite) → ((y : Composite) → c ≡ some y → (y.body ≡ vars n) × Fitting y) → (length (content_cells c) ≡ 0) ⊎ (length (content_cells c) ≡ size x.body)
@@ -47,24 +47,24 @@ module _ {cells : List ℤ} {states : List ℕ} {vs : List Variable} {vars : Bod
   content_length none f = inl refl
   content_length (some y) f = let q = f y refl in inr (length_cells q.1 ∙ ap size (q.0 ∙ sym body))
 
-  small : size x.body ≤ body_cells_lem
+  small : size x.body ≤ body_cells
   small = omega (arith, ap size body, h.small n lt)
 
   pub cells_stored : (value : List ℤ) (w : ℕ) → w ≡ size x.body → take w value ≡ cells_of x.body x.value
-      → take (body_cells_lem * n) cells ++ (paste (take body_cells_lem (drop (body_cells_lem * n) cells)) 0 value w ++ drop (body_cells_lem * n + body_cells_lem) cells) ≡ cells_in (set vs n (with_content (variable_at vs n) x))
+      → take (body_cells * n) cells ++ (paste (take body_cells (drop (body_cells * n) cells)) 0 value w ++ drop (body_cells * n + body_cells) cells) ≡ cells_in (set vs n (with_content (variable_at vs n) x))
   unfolding content_cells
   cells_stored value w z e =
       let sm = contents_small h in
       let new : List ℤ = variable_cells (with_content (variable_at vs n) x) in
-      let part : take body_cells_lem (drop (body_cells_lem * n) cells) ≡ variable_cells (variable_at vs n) = ap (λ (l : List ℤ). take body_cells_lem (drop (body_cells_lem * n) l)) h.cells_are ∙ cells_at vs n lt sm in
-      let front : paste (take body_cells_lem (drop (body_cells_lem * n) cells)) 0 value w ≡ new =
+      let part : take body_cells (drop (body_cells * n) cells) ≡ variable_cells (variable_at vs n) = ap (λ (l : List ℤ). take body_cells (drop (body_cells * n) l)) h.cells_are ∙ cells_at vs n lt sm in
+      let front : paste (take body_cells (drop (body_cells * n) cells)) 0 value w ≡ new =
       ap (λ (l : List ℤ). paste l 0 value w) part
       ∙ new_front value w (content_cells (variable_at vs n).content) (cells_of x.body x.value) e (length_cells fits ∙ sym z) (omega (arith, small, z)) (subst (λ (k : ℕ). (length (content_cells (variable_at vs n).content) ≡ 0) ⊎ (length (content_cells (variable_at vs n).content) ≡ k)) (sym z) (content_length (variable_at vs n).content (filled h n))) in
-      let short : length (cells_of x.body x.value) ≤ body_cells_lem = omega (arith, length_cells fits, small) in
-      ap (λ (l : List ℤ). take (body_cells_lem * n) cells ++ (l ++ drop (body_cells_lem * n + body_cells_lem) cells)) front
-      ∙ sym (append_assoc (take (body_cells_lem * n) cells) new (drop (body_cells_lem * n + body_cells_lem) cells))
-      ∙ ap (λ (l : List ℤ). (take (body_cells_lem * n) cells ++ l) ++ drop (body_cells_lem * n + body_cells_lem) cells) (sym (take_all body_cells_lem new (omega (arith, length_pad body_cells_lem (pos 0) (cells_of x.body x.value) short))))
-      ∙ ap (λ (l : List ℤ). paste l (body_cells_lem * n) new body_cells_lem) h.cells_are
+      let short : length (cells_of x.body x.value) ≤ body_cells = omega (arith, length_cells fits, small) in
+      ap (λ (l : List ℤ). take (body_cells * n) cells ++ (l ++ drop (body_cells * n + body_cells) cells)) front
+      ∙ sym (append_assoc (take (body_cells * n) cells) new (drop (body_cells * n + body_cells) cells))
+      ∙ ap (λ (l : List ℤ). (take (body_cells * n) cells ++ l) ++ drop (body_cells * n + body_cells) cells) (sym (take_all body_cells new (omega (arith, length_pad body_cells (pos 0) (cells_of x.body x.value) short))))
+      ∙ ap (λ (l : List ℤ). paste l (body_cells * n) new body_cells) h.cells_are
       ∙ sym (cells_set vs n lt sm (with_content (variable_at vs n) x) short)
 
 -- ---- its filled flag

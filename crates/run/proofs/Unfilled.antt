@@ -8,7 +8,7 @@ use native.Mathlib.Omega.{arith}
 use lib.IntN.{ℤ, pos}
 use lib.ListN.{length, get_or, take, replicate, length-replicate, length-map, replicate-append-replicate}
 use lib.Seq.{take-suc, take_all, length-take-le}
-use Rattle.lingua.specs.Numbers.{most_variables, body_cells_lem, cells_length, states_length, scope_table}
+use Rattle.lingua.specs.Numbers.{most_variables, body_cells, cells_length, states_length, scope_table}
 use Rattle.lingua.specs.Value.{pad}
 use Rattle.lingua.specs.Expression.{yoke_number}
 use Rattle.lingua.specs.Store.{Variable, no_variable, variable_at, content_cells, store_cells, store_states, cells_in, states_in, set_yoke_at}
@@ -46,18 +46,18 @@ module _ (rows limits : List ℕ) (a : ℕ) (h : a ≤ procedure_count rows) whe
       ∙ mapped_at unfilled (pair_count rows (scope_table a)) (λ d. scope_declaration rows limits a d) n no_variable l
 
 -- ---- its cells
-no_cells : (ds : List Declaration) → store_cells (map unfilled ds) ≡ replicate (body_cells_lem * length ds) (pos 0)
+no_cells : (ds : List Declaration) → store_cells (map unfilled ds) ≡ replicate (body_cells * length ds) (pos 0)
 unfolding store_cells content_cells pad
 no_cells [] = refl
 no_cells (d ∷ ds) =
-    ap (λ (l : List ℤ). replicate body_cells_lem (pos 0) ++ l) (no_cells ds)
-    ∙ replicate-append-replicate body_cells_lem (body_cells_lem * length ds) (pos 0)
-    ∙ ap (λ (k : ℕ). replicate k (pos 0)) (let e : body_cells_lem + body_cells_lem * length ds ≡ body_cells_lem * suc (length ds) = omega arith in e)
+    ap (λ (l : List ℤ). replicate body_cells (pos 0) ++ l) (no_cells ds)
+    ∙ replicate-append-replicate body_cells (body_cells * length ds) (pos 0)
+    ∙ ap (λ (k : ℕ). replicate k (pos 0)) (let e : body_cells + body_cells * length ds ≡ body_cells * suc (length ds) = omega arith in e)
 
 cells_none : (ds : List Declaration) → length ds ≤ most_variables → cells_in (map unfilled ds) ≡ replicate cells_length (pos 0)
 unfolding cells_in pad
 cells_none ds h =
-    let n = body_cells_lem * length ds in
+    let n = body_cells * length ds in
     ap (λ (l : List ℤ). l ++ replicate (cells_length - length l) (pos 0)) (no_cells ds)
     ∙ replicate-append-replicate n (cells_length - length (replicate n (pos 0))) (pos 0)
     ∙ ap (λ (k : ℕ). replicate k (pos 0)) (let e : n + (cells_length - length (replicate n (pos 0))) ≡ cells_length = omega (arith, length-replicate n (pos 0)) in e)

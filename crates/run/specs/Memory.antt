@@ -1,6 +1,6 @@
 -- The caller's memory with a store in it, and what a new value's checks give. Assumes nothing: these are definitions.
 use Rattle.std.specs.Prelude.{◌≡◌, List, ℕ, ◌≤◌, ◌<◌, ℤ, length}
-use Rattle.lingua.specs.Numbers.{body_cells_lem, most_variables}
+use Rattle.lingua.specs.Numbers.{body_cells, most_variables}
 use Rattle.lingua.specs.Errors.{no_error}
 use Rattle.lingua.specs.Outcome.{ok, fail, Result}
 use Rattle.lingua.specs.Body.{size}
@@ -13,7 +13,7 @@ pub record Memory (cells : List ℤ) (states : List ℕ) (vs : List Variable) (v
   pub cells_are : cells ≡ cells_in vs
   pub states_are : states ≡ states_in vs
   pub few : length vs ≤ most_variables
-  pub small : (n : ℕ) → n < length vs → size (vars n) ≤ body_cells_lem
+  pub small : (n : ℕ) → n < length vs → size (vars n) ≤ body_cells
   pub fit : VariablesFit vars (contents vs)
 
 -- a reading of variable n

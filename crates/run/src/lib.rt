@@ -1,4 +1,6 @@
 // What both runs share: what is recorded beside the store, the memory at a run's start, and what is done to it without a body.
+#![tactic(auto)]
+
 pub mod bodies; // bodies.rt: the declared bodies, for the checked run
 pub mod copies; // copies.rt: cells from one place to another
 pub mod limits; // limits.rt: whether a number lies within a variable's limit

@@ -9,7 +9,7 @@ ghost use Rattle.run.specs.Statuses.{state_of, progress_of, StepOf, recorded};
 use lingua::RunAnswer;
 use lingua::errors::NO_ERROR;
 
-#[derive(Drop)]
+#[derive(Clone, Copy)]
 pub struct Status {
     pub error: u8,
     pub place: u16,
@@ -18,7 +18,7 @@ pub struct Status {
 }
 
 // What a test gave: an error, or whether it holds.
-#[derive(Drop)]
+#[derive(Clone, Copy)]
 pub struct Truth {
     pub error: u8,
     pub holds: bool,

@@ -25,6 +25,7 @@ module _ {A : Type 0} {P : A → Type 0} where
   every_right (x ∷ xs) ys (every_more h p) = every_right xs ys p
 
   pub every_at : {x : A} {xs : List A} → Every P xs → Memᴰ x xs → P x
+  every_at every_none m = elim m [ ]
   every_at (every_more h p) (Memᴰ.head e) = subst P (sym e) h
   every_at (every_more h p) (Memᴰ.tail m) = every_at p m
 

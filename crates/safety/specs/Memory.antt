@@ -9,7 +9,7 @@ use mathlib.Core.List.{List, [], ◌∷◌, ◌++◌, map}
 use Rattle.std.proofs.Math.Option.{Option, some, none}
 use native.Mathlib.Omega.{arith}
 use Rattle.std.proofs.Math.ListN.{length, length-map}
-use Rattle.lingua.specs.Numbers.{most_variables, body_cells_lem, body_bytes, cells_length, states_length, variable_bodies_length, most_calls, open_cells_length, open_states_length, open_bodies_length, declaration_section, variable_table}
+use Rattle.lingua.specs.Numbers.{most_variables, body_cells, body_bytes, cells_length, states_length, variable_bodies_length, most_calls, open_cells_length, open_states_length, open_bodies_length, declaration_section, variable_table}
 use Rattle.lingua.specs.Errors.{overflow, not_filled}
 use Rattle.lingua.specs.Outcome.{ok}
 use Rattle.lingua.specs.Body.{Body, number, size, attributes_of}
@@ -50,7 +50,7 @@ use Rattle.safety.specs.Named.{AllNamed, run_named, open_named}
 use Rattle.safety.specs.Accepted.{AcceptedRows, accepted_pair, profile_well_made, few_variables}
 
 -- ---- a declared body has at most 64 cells
-pub declared_size : (rows lims : List ℕ) → AcceptedRows rows → (d : ℕ) → d < pair_count rows declaration_section → size (declaration_at rows lims d).body ≤ body_cells_lem
+pub declared_size : (rows lims : List ℕ) → AcceptedRows rows → (d : ℕ) → d < pair_count rows declaration_section → size (declaration_at rows lims d).body ≤ body_cells
 declared_size rows lims accepted d l = (formed_bounds (declared_formed rows accepted lims d l)).few_cells
 
 -- ---- a run keeps the number of variables of each scope
@@ -130,10 +130,10 @@ module _ (p : Profile) where
 -- ---- a variable's part of the memory, and its two state words
 -- the contents take at most 64 cells each
 unfoldable pub ContentsFit : List Variable → Type 0
-ContentsFit vs = (n : ℕ) → length (content_cells (variable_at vs n).content) ≤ body_cells_lem
+ContentsFit vs = (n : ℕ) → length (content_cells (variable_at vs n).content) ≤ body_cells
 
 pub cells_at : (vs : List Variable) → ContentsFit vs → (n : ℕ) → n < length vs
-    → take body_cells_lem (drop (body_cells_lem * n) (cells_in vs)) ≡ pad body_cells_lem (pos 0) (content_cells (variable_at vs n).content)
+    → take body_cells (drop (body_cells * n) (cells_in vs)) ≡ pad body_cells (pos 0) (content_cells (variable_at vs n).content)
 unfolding ContentsFit
 cells_at vs h n l = lent_cells vs n l (every_by no_variable vs (λ k m. h k))
 
@@ -147,7 +147,7 @@ states_at vs n l = (flag_at_lem vs n l, yoke_at_lem vs n l)
 pub record HoldsBody (rows : List ℕ) (ds : List Declaration) (cells : List ℤ) (states : List ℕ) (n : ℕ) (b : Body) : Type 0 where
   pub value : Value
   pub fits : Fits value b
-  pub in_cells : take body_cells_lem (drop (body_cells_lem * n) cells) ≡ pad body_cells_lem (pos 0) (cells_of b value)
+  pub in_cells : take body_cells (drop (body_cells * n) cells) ≡ pad body_cells (pos 0) (cells_of b value)
   pub satisfied : (vars : Variables) → eval_yoke (yoke_tree rows (yoke_at states n)) vars (composite b value) ≡ ok (boolean_of true)
   pub limited : within (variable_at (map unfilled ds) n).limit (as_whole value) ≡ true
 
@@ -197,7 +197,7 @@ module _ (rows : List ℕ) (ds : List Declaration) (vs : List Variable) (known :
   unfolding ContentsFit content_cells
   contents_fit n = by (contents vs n) refl
     where
-      by : (c : Option Composite) → contents vs n ≡ c → length (content_cells c) ≤ body_cells_lem
+      by : (c : Option Composite) → contents vs n ≡ c → length (content_cells c) ≤ body_cells
       by none e = omega arith
       by (some x) e = omega (arith, length_cells (filled_well n x e).fits, (formed_bounds (filled_formed n x e)).few_cells)
 
@@ -239,7 +239,7 @@ module _ (rows : List ℕ) (ds : List Declaration) (vs : List Variable) (known :
       record {
         value = x.value;
         fits = k.fits;
-        in_cells = cells_at vs contents_fit n m ∙ ap (λ (c : Option Composite). pad body_cells_lem (pos 0) (content_cells c)) f;
+        in_cells = cells_at vs contents_fit n m ∙ ap (λ (c : Option Composite). pad body_cells (pos 0) (content_cells c)) f;
         satisfied = λ vars. ap (λ (y : Yoke). eval_yoke y vars x) (sym (yoke_is n m)) ∙ k.satisfied vars;
         limited = k.limited;
       }

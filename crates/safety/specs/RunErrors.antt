@@ -6,7 +6,7 @@ use Rattle.std.proofs.Math.Bool.{true, false}
 use Rattle.std.proofs.Math.Option.{Option, some}
 use Rattle.std.proofs.Math.ListN.{length}
 use Rattle.std.proofs.lemmas.Bool.{not-true}
-use Rattle.lingua.specs.Numbers.{word_length, list_places, body_cells_lem, body_nodes, body_depth, record_attributes, parts_of_one}
+use Rattle.lingua.specs.Numbers.{word_length, list_places, body_cells, body_nodes, body_depth, record_attributes, parts_of_one}
 use Rattle.lingua.specs.Errors.{is_run_error, overflow, division_by_zero, list_full, word_too_long, number_expected, word_expected, list_expected, record_expected, no_such_attribute, attribute_present, not_comparable, body_too_large}
 use Rattle.lingua.specs.Outcome.{ok, fail, Result, ◌>>=◌, ◌>>◌, require, or_fail, if◌then◌else◌}
 use Rattle.lingua.specs.Body.{Body, boolean, record_of, Attributes, end, attribute, size, nodes, depth, count_attributes, width, too_large, is_boolean, is_quantity, is_word, is_simple, same_body, element_body, attributes_of, attribute_body, insert_attribute}
@@ -174,7 +174,7 @@ unfolding bounded too_large width
 has_room n c d fs e =
     let b = record_of (insert_attribute n c fs) in
     let p = required (not (too_large b)) body_too_large (ok b) d e in
-    let w = or_right (ltb body_cells_lem (size b) || ltb body_nodes (nodes b) || ltb body_depth (depth b)) (ltb record_attributes (width b)) (not-true (too_large b) p.0) in
+    let w = or_right (ltb body_cells (size b) || ltb body_nodes (nodes b) || ltb body_depth (depth b)) (ltb record_attributes (width b)) (not-true (too_large b) p.0) in
     lt-ltb (count_attributes fs) record_attributes (omega (arith, ltb-false record_attributes (width b) w, count_insert n c fs))
 
 expand_passes : (n : ℕ) (b c d : Body) → binary_body (expand n) b c ≡ ok d → expand_met n b ≡ ok tt

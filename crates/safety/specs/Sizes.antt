@@ -4,7 +4,7 @@ use Rattle.std.specs.Prelude.{◌≡◌, refl, Bool, true, false, List, map, ℕ
 use Rattle.std.proofs.Common.{subst, arith}
 use Rattle.std.specs.Bool.{beq}
 use Rattle.std.proofs.Math.Option.{some}
-use Rattle.lingua.specs.Numbers.{expression_section, body_cells_lem}
+use Rattle.lingua.specs.Numbers.{expression_section, body_cells}
 use Rattle.lingua.specs.Errors.{boolean_expected, yoke_expected, not_filled}
 use Rattle.lingua.specs.Outcome.{ok, Result, ◌>>=◌, if◌then◌else◌, all_answers}
 use Rattle.lingua.specs.Body.{Body, boolean, size, is_boolean}
@@ -25,7 +25,7 @@ use Rattle.safety.specs.Derivation.{Derived, of_constant, of_variable, of_curren
 
 -- at most 64 cells
 unfoldable pub Small : Body → Type 0
-Small b = size b ≤ body_cells_lem
+Small b = size b ≤ body_cells
 
 abbrev pub SmallComposite : Composite → Type 0
 SmallComposite x = Small x.body

@@ -7,3 +7,5 @@
 // layout table (Layout, EntryRows, Once, RowRules, EveryRow); steps (Steps); what fails is met (Failures, Recorded); the run without
 // bodies is the run (Erasure, ErasedSteps, ErasedRuns); and both runs of a passed pair of files (TwoRuns), with a pair of which every
 // clause speaks (Witness).
+#![tactic(auto)]
+

@@ -9,7 +9,7 @@ use text::put::{put, put_bytes};
 use text::report::put_refused_line;
 
 // What a run that was made answers; `end` is 0 finished, 1 failed, 2 out.
-#[derive(Drop)]
+#[derive(Clone, Copy)]
 pub struct Ended {
     pub end: u8,
     pub error: u8,

@@ -14,14 +14,14 @@ use lingua::sizes::{
     PRESENT_BODIES_LENGTH, ROWS_LENGTH, STATES_LENGTH,
 };
 
-#[derive(Drop)]
+#[derive(Clone, Copy)]
 pub enum KindFound {
     Of(FileKind),
     Bad,
 }
 
 // Which run a line asks for, and what of it is shown.
-#[derive(Drop)]
+#[derive(Clone, Copy)]
 pub enum RunKind {
     Desk,
     Bodies,

@@ -11,7 +11,7 @@ use libc::STDIN_FILENO;
 
 // Where the input stands: what was read and not yet taken lies from `from` to `to`. While `skipping`, it belongs to a
 // line that was too long and has its answer already.
-#[derive(Drop)]
+#[derive(Clone, Copy)]
 pub struct Reading {
     pub from: usize,
     pub to: usize,

@@ -1,5 +1,7 @@
 // The program `trials`: reads cases from standard input, one a line, and writes one answer line for each, in order.
 // The forms of the cases and of their answers are in docs/TRIALS.md.
+#![tactic(auto)]
+
 mod answers; // answers.rt: each call's answer as a line
 mod cases; // cases.rt: a line taken apart, and the call that it asks for
 mod fields; // fields.rt: the parts of a line

@@ -6,25 +6,25 @@ use crate::fields::{find, is_none};
 use crate::first;
 
 // How many elements were parsed into a caller's buffer.
-#[derive(Drop)]
+#[derive(Clone, Copy)]
 pub enum Count {
     Of(usize),
     Bad,
 }
 
-#[derive(Drop)]
+#[derive(Clone, Copy)]
 pub enum Natural {
     Of(u64),
     Bad,
 }
 
-#[derive(Drop)]
+#[derive(Clone, Copy)]
 pub enum Word {
     Of(u16),
     Bad,
 }
 
-#[derive(Drop)]
+#[derive(Clone, Copy)]
 pub enum Whole {
     Of(i64),
     Bad,

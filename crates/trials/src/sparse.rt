@@ -4,7 +4,7 @@ use text::number::{put_decimal, put_signed};
 use text::put::put;
 
 // Where a list stands: the place behind its last entry, and whether it has one.
-#[derive(Drop)]
+#[derive(Clone, Copy)]
 pub struct List {
     pub at: usize,
     pub some: bool,

@@ -26,7 +26,7 @@ use typing::leaves::variable_body;
 use typing::walk::{Scope, check};
 
 // The type error that is named and its place, or error 0.
-#[derive(Drop)]
+#[derive(Clone, Copy)]
 pub struct Verdict {
     pub error: u8,
     pub place: u16,

@@ -7,7 +7,7 @@ use mathlib.Core.Option.{Option}
 use Prim.Native.Nat.{ℕ, ◌+◌, ◌*◌, ◌≤◌}
 use native.Mathlib.Omega.{arith}
 use lib.ListN.{set}
-use Rattle.lingua.specs.Numbers.{body_cells_lem}
+use Rattle.lingua.specs.Numbers.{body_cells}
 use Rattle.lingua.specs.Errors.{boolean_expected, no_coherence, yoke_expected}
 use Rattle.lingua.specs.Outcome.{ok, Result, answer_of, both}
 use Rattle.lingua.specs.Body.{Body, boolean, size, is_boolean, same_body}
@@ -33,7 +33,7 @@ module _ (h : HalfTyped) (o : Result Body) (second : Body → ℕ) (k : Half h o
   pub half_held : Held h.body
   half_held = let q = half_passed h o second k z in record { body = q.body; holds = q.passes.holds }
 
-  pub half_small : h.offset ≤ body_cells_lem
+  pub half_small : h.offset ≤ body_cells
   half_small = (half_passed h o second k z).passes.small
 
 -- ---- the layout table

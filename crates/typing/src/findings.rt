@@ -11,7 +11,7 @@ use lingua::sizes::BODY_BYTES;
 
 // Where `known`, the row has `body`. An error other than 0 is that of the lowest row at fault, `place`. A row can have no body and
 // error 0: where it hangs on a current value that has none.
-#[derive(Drop)]
+#[derive(Clone, Copy)]
 pub struct Checked {
     pub known: bool,
     pub error: u8,

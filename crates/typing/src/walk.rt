@@ -23,7 +23,7 @@ use profile::constants::constant_body;
 use profile::row::expression_row;
 
 // The tables that are read: the expressions', and that of the variables which they name.
-#[derive(Drop)]
+#[derive(Clone, Copy)]
 pub struct Scope {
     pub expressions: Table,
     pub variables: Table,

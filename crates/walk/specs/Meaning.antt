@@ -1,6 +1,6 @@
 -- What the one walk of instructions asks of its memory and gives, in each of the two ways to run. Assumes nothing: these are definitions.
 use Rattle.std.specs.Prelude.{◌≡◌, List, ℕ, ◌+◌, ◌*◌, ◌≤◌, ◌<◌, ℤ, pos, length, replicate}
-use Rattle.lingua.specs.Numbers.{body_cells_lem, cells_length, states_length, variable_bodies_length, instruction_section}
+use Rattle.lingua.specs.Numbers.{body_cells, cells_length, states_length, variable_bodies_length, instruction_section}
 use Rattle.lingua.specs.Store.{Variable, assigned}
 use Rattle.lingua.specs.Run.{Calling, exec, called, Profile}
 use Rattle.lingua.specs.Trees.{instruction_tree, given_values, given_references}
@@ -33,7 +33,7 @@ pub record Asked (row : ℕ) (w : Way) (s : Setting) (u : Table) (l o : Lent) (m
   pub may : ℕ
   pub store : List Variable
   pub stands : Stands row w profile scope may s l o store
-  pub enough : body_cells_lem * (s.context.expressions.count + 1) ≤ room
+  pub enough : body_cells * (s.context.expressions.count + 1) ≤ room
   pub instructions : IsTable s.context.rows instruction_section u
   pub there : row < u.count
   pub going : Going m
