@@ -1,5 +1,5 @@
 -- What the search for a variable by its name finds, and how many declarations it looks at: the first that has the name, with it and all before
--- it, or none, with all (`lookup-tells`). Assumes nothing.
+-- it, or none, with all (`lookup_tells`). Assumes nothing.
 use Rattle.std.specs.Prelude.{◌≡◌, Bool, List}
 use Rattle.std.proofs.Math.Path.{refl, ap, subst}
 use Rattle.std.proofs.Common.{sym, ◌∙◌, ⊎_elim, add-one}

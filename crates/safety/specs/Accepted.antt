@@ -1,6 +1,6 @@
 -- What acceptance shows of a profile: no rule applies to its rows, so in every scope its constants fit, its yokes read no variable, its
 -- declared bodies are those of its type rows, and its program and bodies are the trees of instruction rows. So the invariant of runs holds
--- of every accepted pair of files: `accepted-invariant`. A scope is 0 for the profile, and 1 + k for procedure k. Assumes nothing.
+-- of every accepted pair of files: `accepted_invariant`. A scope is 0 for the profile, and 1 + k for procedure k. Assumes nothing.
 use Rattle.std.specs.Prelude.{◌≡◌, Bool, false, ◌&&◌, List, [], ◌∷◌, ◌++◌, length}
 use Rattle.std.proofs.Math.Path.{refl}
 use Rattle.std.proofs.Common.{sym, ap, ◌∙◌, subst, ⊎_elim, arith}

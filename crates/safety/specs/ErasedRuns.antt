@@ -1,5 +1,5 @@
 -- The run without bodies (document 01: chair run), on values: it asks no check on bodies. Where the type check passed, it is the run, state
--- by state, at every budget and for readings of number variables: `run-erased`, `accepted-erased`. Assumes nothing.
+-- by state, at every budget and for readings of number variables: `run_erased_lem`, `accepted_erased`. Assumes nothing.
 use Rattle.std.specs.Prelude.{◌≡◌, Bool, length, set}
 use Rattle.std.proofs.Math.Path.{refl, sym, ap}
 use Rattle.std.proofs.Common.{◌∙◌}

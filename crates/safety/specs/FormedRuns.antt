@@ -1,5 +1,5 @@
--- Every filled variable has a well-formed body at the end of every run of an accepted pair of files, at every budget: `filled-formed`; and
--- so have those of the calls that are open: `open-formed`. Assumes nothing.
+-- Every filled variable has a well-formed body at the end of every run of an accepted pair of files, at every budget: `filled_formed`; and
+-- so have those of the calls that are open: `open_formed`. Assumes nothing.
 use Rattle.std.specs.Prelude.{◌≡◌, List, Bool, true, false}
 use Rattle.std.proofs.Common.{sym, ◌∙◌, subst}
 use Prim.Native.Nat.{ℕ, zero, suc, ◌≤◌, ◌<◌}

@@ -1,5 +1,5 @@
 -- The invariant of runs: at the end of every run at every budget, each filled variable fits its present body, satisfies its current
--- yoke and lies within its limit (`run-invariant`), and so do those of every open call (`open_kept`), whether or not the type check
+-- yoke and lies within its limit (`run_invariant`), and so do those of every open call (`open_kept`), whether or not the type check
 -- passes the profile. It is asked of the profile that constants fit and that yokes read no variable. Assumes nothing.
 use Rattle.std.specs.Prelude.{◌≡◌, refl, true, List, [], ◌∷◌, map, ℕ, zero, suc}
 use Rattle.std.proofs.Common.{sym, ap, ◌∙◌, subst}

@@ -1,7 +1,7 @@
 -- The invariant of runs, read in the caller's memory: where a variable's flag says that it is filled, its cells hold a value of the body that
--- its 96 bytes say, which satisfies the yoke that its state word names and lies within its limit (`accepted-memory`); and so it is with the
--- variables of each open call (`open-memory`). Where the type check passes, that is the declared body, and no run changes one
--- (`passed-memory`, `passed-open`). Assumes nothing.
+-- its 96 bytes say, which satisfies the yoke that its state word names and lies within its limit (`accepted_memory`); and so it is with the
+-- variables of each open call (`open_memory`). Where the type check passes, that is the declared body, and no run changes one
+-- (`passed_memory`, `passed_open`). Assumes nothing.
 use Rattle.std.specs.Prelude.{◌≡◌, true, ℕ, zero, suc, ◌-◌, ◌*◌, ◌≤◌, ◌<◌, get_or, take, drop, replicate, ℤ, pos}
 use Rattle.std.proofs.Math.Path.{refl, sym, ap, subst}
 use Rattle.std.proofs.Common.{◌∙◌, ⊎_elim, length-set}

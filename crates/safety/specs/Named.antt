@@ -1,5 +1,5 @@
 -- Every yoke that a run of a profile has is the tree of the row that its number names, so that a variable's state word tells which yoke is
--- its current one: `run-named`, and `open-named` for the calls that are open. Assumes nothing.
+-- its current one: `run_named`, and `open_named` for the calls that are open. Assumes nothing.
 use Rattle.std.specs.Prelude.{◌≡◌, List, map}
 use Rattle.std.proofs.Math.Path.{refl, subst}
 use Rattle.std.proofs.Common.{sym, ap, arith}

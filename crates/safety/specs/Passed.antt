@@ -1,7 +1,7 @@
 -- The type check of an accepted pair of files is sound: where it passes, no run of the pair meets a type error, for readings of number
--- variables and at every budget (`accepted-safe`). So each call that is not refused runs without type errors: `run-call-safe`,
--- `erased-call-safe`. Carried by scopes: each instruction row passes by the bodies of the variables that it names (`rows-derive`), so the
--- program passes by the profile's and each procedure's body by its own (`profile-derives`). Assumes nothing.
+-- variables and at every budget (`accepted_safe`). So each call that is not refused runs without type errors: `run_call_safe`,
+-- `erased_call_safe`. Carried by scopes: each instruction row passes by the bodies of the variables that it names (`rows_derive`), so the
+-- program passes by the profile's and each procedure's body by its own (`profile_derives`). Assumes nothing.
 use Rattle.std.specs.Prelude.{◌≡◌, refl, Bool, true, false, not, ◌&&◌, eqb, ltb, length, get_or, ℤ}
 use Rattle.std.proofs.Common.{sym, ap, ◌∙◌, ⊎_elim, arith, ltb-true}
 use Rattle.std.proofs.Math.Path.{subst}

@@ -1,5 +1,5 @@
 -- The type check is sound for whole programs: a well made profile whose yokes and instructions all pass meets no type error in any run,
--- for readings of number variables and at every budget: `run-safe`. Assumes nothing.
+-- for readings of number variables and at every budget: `run_safe`. Assumes nothing.
 use Rattle.std.specs.Prelude.{◌≡◌, true, ℕ, suc, ◌+◌, length}
 use Rattle.std.proofs.Math.Path.{refl, sym, subst}
 use Rattle.std.proofs.Common.{ap, ◌∙◌, arith}

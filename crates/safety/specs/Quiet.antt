@@ -1,5 +1,5 @@
 -- Where each instruction's own checks give no type error in the states that a run passes through, nor the copies of its calls, the whole
--- run meets none, wherever the budget stops it: `exec-quiet`, `called-quiet`, `readings-quiet`. Assumes nothing.
+-- run meets none, wherever the budget stops it: `exec_quiet`, `called_quiet`, `readings_quiet`. Assumes nothing.
 use Rattle.std.specs.Prelude.{◌≡◌, refl, Bool, true, false, eqb, length}
 use mathlib.Core.List.{List, [], ◌∷◌, ◌++◌}
 use Prim.Native.Nat.{ℕ, zero, suc}

@@ -1,5 +1,5 @@
--- Every error that a run records is among those that it meets (`run-recorded`), so a passed pair of files ends with no type error recorded
--- (`accepted-error`). Assumes nothing.
+-- Every error that a run records is among those that it meets (`run_recorded`), so a passed pair of files ends with no type error recorded
+-- (`accepted_error`). Assumes nothing.
 use Rattle.std.specs.Prelude.{◌≡◌, refl, ◌⊎◌, Bool, true, false, ℕ, zero, suc, ◌+◌, eqb, length}
 use Rattle.std.proofs.Common.{sym, ap, ◌∙◌, subst, inl, inr}
 use Rattle.std.proofs.Math.Option.{Option, some, none}

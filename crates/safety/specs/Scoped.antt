@@ -1,6 +1,6 @@
 -- Where rules 10 and 11 pass, every row of a procedure's body names the procedure's variables, and every row of the program the
--- profile's (`body-scope`, `program-scope`); an expression's rows name those of the instruction that evaluates it or sets it as a yoke
--- (`term-scope`). Carried by counting: a row is used once, so whatever leads to it leads to the one that uses it. Assumes nothing.
+-- profile's (`body_scope`, `program_scope`); an expression's rows name those of the instruction that evaluates it or sets it as a yoke
+-- (`term_scope`). Carried by counting: a row is used once, so whatever leads to it leads to the one that uses it. Assumes nothing.
 use Rattle.std.specs.Prelude.{◌≡◌, refl, ◌⊎◌, Bool, true, false, not, ◌&&◌}
 use Rattle.std.proofs.Common.{sym, ◌∙◌, subst, inl, inr}
 use Rattle.std.proofs.Math.Path.{ap}

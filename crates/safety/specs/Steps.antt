@@ -1,5 +1,5 @@
 -- Steps: none is given back, those taken and those left are the budget, and a run is out of budget only with none left, so the bound on
--- a loop's turns never stops it: `run-steps`. Assumes nothing.
+-- a loop's turns never stops it: `run_steps`. Assumes nothing.
 use Rattle.std.specs.Prelude.{◌≡◌, refl, Bool, eqb}
 use Rattle.std.proofs.Math.Path.{ap, subst}
 use Rattle.std.proofs.Common.{◌∙◌}
