@@ -5,4 +5,3 @@
 // `cells-set`, `flag-set`, `yoke-set` (Stores): a store or a yoke change changes its own part of the memory alone;
 // `run-no-type-error` (Classes): no number is in both classes of errors.
 #![tactic(auto)]
-

@@ -3,4 +3,3 @@
 // `read-then-write`: an accepted file's rows written again give the same bytes;
 // `write-then-read-call`, `read-then-write-call`: the same of the public calls.
 #![tactic(auto)]
-

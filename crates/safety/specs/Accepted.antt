@@ -13,7 +13,7 @@ use Rattle.lingua.specs.Numbers.{word_length, most_variables, most_types, most_e
 use Rattle.lingua.specs.Errors.{is_error}
 use Rattle.lingua.specs.Outcome.{ok, fail, Result, is_ok, if◌then◌else◌}
 use Rattle.lingua.specs.Body.{Body, size}
-use Rattle.lingua.specs.Value.{whole, fit_truth, fit_whole, fit_text, is_character, all_of, is_text, Composite, fit_hundredths}
+use Rattle.lingua.specs.Value.{fit_truth, fit_whole, fit_text, is_character, all_of, is_text, Composite, fit_hundredths}
 use Rattle.lingua.specs.Expression.{Instruction, skip}
 use Rattle.lingua.specs.Store.{Reading, contents, variable_at}
 use Rattle.lingua.specs.Run.{scope_program, run, last_state, open_calls}

@@ -10,7 +10,7 @@ use Prim.Native.Nat.{ℕ, zero, suc, ◌+◌, ◌≤◌, ◌<◌, pred}
 use Rattle.std.proofs.lemmas.Bool.{not-false}
 use Rattle.lingua.specs.Numbers.{layout_length, declaration_section, instruction_section, declaration_place, most_readings}
 use Rattle.lingua.specs.Outcome.{Outcome, ok, fail, Result, is_ok, all_answers}
-use Rattle.lingua.specs.Body.{Body, boolean, number, is_quantity}
+use Rattle.lingua.specs.Body.{Body, boolean, is_quantity}
 use Rattle.lingua.specs.Value.{all_of}
 use Rattle.lingua.specs.Expression.{Instruction, skip}
 use Rattle.lingua.specs.Store.{variable_at, Reading}

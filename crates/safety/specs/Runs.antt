@@ -5,7 +5,6 @@ use Rattle.std.specs.Prelude.{◌≡◌, Bool, eqb, length}
 use Rattle.std.proofs.Math.Path.{refl, subst}
 use Rattle.std.proofs.Math.Bool.{true, false}
 use mathlib.Core.List.{List, [], ◌∷◌, ◌++◌}
-use Rattle.std.proofs.Math.Option.{some, none}
 use Prim.Native.Nat.{ℕ, zero, suc, ◌+◌}
 use Rattle.lingua.specs.Numbers.{reading_place}
 use Rattle.lingua.specs.Errors.{no_error, too_deep}

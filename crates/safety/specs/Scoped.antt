@@ -17,7 +17,7 @@ use Rattle.lingua.specs.Numbers.{expression_section, instruction_section}
 use Rattle.lingua.specs.Errors.{is_among}
 use Rattle.lingua.specs.Outcome.{if◌then◌else◌}
 use Rattle.lingua.specs.Typing.{joined}
-use Rattle.lingua.specs.Rows.{table_count, procedure_count, body_row, instruction_row, operands, parts, evaluated, yoke_set}
+use Rattle.lingua.specs.Rows.{table_count, procedure_count, body_row, instruction_row, evaluated, yoke_set}
 use Rattle.lingua.specs.Trees.{tabulate_from, tabulate, instruction_scope, expression_scope}
 use Rattle.lingua.specs.Format.{every_below}
 use Rattle.lingua.specs.References.{rows_refer, variables_wrong, reference_wrong, occurrences, declared_roots, yoke_roots, plain_roots, expression_uses, instruction_uses, use_wrong}
