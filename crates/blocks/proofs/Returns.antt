@@ -1,6 +1,6 @@
 -- What each way out of the rules' functions shows: the test of the rule, from what the branches on the way said. Assumes nothing.
 use Rattle.std.proofs.Common.{◌≡◌, ℕ, ◌+◌, ◌-◌, ◌*◌, ◌/◌, ◌<◌, ◌≤◌, Bool, true, false, not, ltb, leb, List, length, get_or, take, drop, sym, refl, ap, ◌∙◌, arith, le-ltb, lt-ltb, eq-eqb, ne_eqb, le-leb, leb-false, leb-true}
-use borrow.Author.Tests.{lt-leb, not-true, not-false}
+use borrow.Author.Tests.{lt-leb}
 use Rattle.lingua.specs.Numbers.{block_bytes, most_blocks}
 use Rattle.lingua.specs.Compute.{same_text}
 use Rattle.lingua.specs.Rows.{word16}
@@ -62,14 +62,14 @@ module _ (file : List ℕ) (q : ℕ → List ℕ → Bool) (k : ℕ) where
   asked : (r : Bool) → r ≡ q k (take (block_bytes * k + block_bytes - block_bytes * k) (drop (block_bytes * k) file)) → r ≡ q k (block_at file k)
   asked r e = e ∙ ap (λ (b : List ℕ). q k b) (part_block file k)
 
-  pub wrong_at : (r : Bool) → r ≡ q k (take (block_bytes * k + block_bytes - block_bytes * k) (drop (block_bytes * k) file)) → not r ≡ true
+  pub wrong_at : (r : Bool) → r ≡ q k (take (block_bytes * k + block_bytes - block_bytes * k) (drop (block_bytes * k) file)) → r ≡ false
       → k < block_count file → not (every_below (block_count file) (λ j. q j (block_at file j))) ≡ true
   wrong_at r e n h =
-      ap not (every_false (block_count file) (λ j. q j (block_at file j)) k (sym (asked r e) ∙ not-true r n) h)
+      ap not (every_false (block_count file) (λ j. q j (block_at file j)) k (sym (asked r e) ∙ n) h)
 
-  pub right_at : (r : Bool) → r ≡ q k (take (block_bytes * k + block_bytes - block_bytes * k) (drop (block_bytes * k) file)) → not r ≡ false
+  pub right_at : (r : Bool) → r ≡ q k (take (block_bytes * k + block_bytes - block_bytes * k) (drop (block_bytes * k) file)) → r ≡ true
       → every_below k (λ j. q j (block_at file j)) ≡ true → every_below (k + 1) (λ j. q j (block_at file j)) ≡ true
-  right_at r e n a = every_more k (λ j. q j (block_at file j)) a (sym (asked r e) ∙ not-false r n)
+  right_at r e n a = every_more k (λ j. q j (block_at file j)) a (sym (asked r e) ∙ n)
 
   pub all_right : k ≤ block_count file → block_count file ≤ k → every_below k (λ j. q j (block_at file j)) ≡ true
       → not (every_below (block_count file) (λ j. q j (block_at file j))) ≡ false

@@ -1,11 +1,13 @@
 -- One turn of each loop over rows and blocks, and what a loop leaves at its end. Assumes nothing.
 use Rattle.std.proofs.Common.{◌≡◌, ℕ, ◌+◌, ◌-◌, ◌*◌, ◌<◌, ◌≤◌, Bool, true, false, List, ◌++◌, length, take, drop, sym, ap, ◌∙◌, arith, take-take, take_at}
+use lib.Seq.{take-length}
 use borrow.Rule.Slice.PartMut.{put_mid}
 use Rattle.lingua.specs.Numbers.{row_bytes, block_bytes, header_bytes, area_bytes, check_place}
 use Rattle.lingua.specs.Outcome.{if◌then◌else◌}
+use Rattle.lingua.specs.Value.{pad}
 use Rattle.lingua.specs.Rows.{row_count}
 use Rattle.lingua.specs.Format.{block_count, block_at, row_area, areas_from, all_zero, used_rows, rows_of}
-use Rattle.laws.specs.Parts.{length_part, copy_whole, put_next}
+use Rattle.laws.specs.Parts.{pad_front, put_next}
 use Rattle.laws.specs.Blocks.{length_block, length_area}
 use Rattle.laws.specs.Areas.{part_area, areas_next, length_areas, used_last, used_inside, length_rows, count_rows}
 use Rattle.blocks.specs.Blocks.{Gathered}
@@ -32,12 +34,9 @@ unfolding used_rows
 used_none bytes n e = ap (λ (m : ℕ). used_rows m bytes) e
 
 -- ---- a block's rows behind those of the blocks before it
--- what is copied, and what it is written over
+-- what is copied
 abbrev source : List ℕ → ℕ → List ℕ
 source file k = take (block_bytes * k + check_place - (block_bytes * k + header_bytes)) (drop (block_bytes * k + header_bytes) file)
-
-abbrev target : List ℕ → ℕ → List ℕ
-target areas k = take (area_bytes * k + area_bytes - area_bytes * k) (drop (area_bytes * k) areas)
 
 pub length_source : (file : List ℕ) (k : ℕ) → k < block_count file → length (source file k) ≡ area_bytes
 length_source file k h =
@@ -45,21 +44,24 @@ length_source file k h =
 
 pub gather_next : (file areas₀ areas last : List ℕ) (k : ℕ) → k < block_count file → area_bytes * block_count file ≤ length areas
     → areas ≡ areas_from 0 k file ++ drop (area_bytes * k) areas₀
-    → last ≡ take (length (source file k)) (source file k) ++ drop (length (source file k)) (target areas k)
+    → last ≡ source file k
     → put_mid (area_bytes * k) (area_bytes * k + area_bytes - area_bytes * k) areas last ≡ areas_from 0 (k + 1) file ++ drop (area_bytes * (k + 1)) areas₀
 gather_next file areas₀ areas last k h room is copied =
     let a : ℕ = area_bytes * k in
     let e : ℕ = area_bytes * k + area_bytes in
     let whole : last ≡ row_area (block_at file k) =
-    copied
-    ∙ copy_whole (source file k) (target areas k) (length_source file k h ∙ sym (length_part areas (area_bytes * k) area_bytes (omega arith)))
-    ∙ part_area file k in
+    copied ∙ part_area file k in
     let n : e ≡ area_bytes * (k + 1) = omega arith in
     ap (λ (l : List ℕ). put_mid a (e - a) areas l) whole
     ∙ ap (λ (l : List ℕ). put_mid a (e - a) l (row_area (block_at file k))) is
     ∙ put_next (areas_from 0 k file) areas₀ (row_area (block_at file k)) a e (length_areas 0 k file (omega arith)) (omega arith)
     ∙ ap (λ (l : List ℕ). l ++ drop e areas₀) (sym (areas_next file k))
     ∙ ap (λ (m : ℕ). areas_from 0 (k + 1) file ++ drop m areas₀) n
+
+-- ---- the rows at the front of what they are copied to
+pub rows_first : (rows out last : List ℕ) → last ≡ rows → take (length rows) (last ++ drop (length rows) out) ≡ pad (length rows) 0 rows
+rows_first rows out last is =
+    pad_front 0 rows out (last ++ drop (length rows) out) (ap (λ (l : List ℕ). l ++ drop (length rows) out) (is ∙ sym (take-length rows)))
 
 -- ---- the rows of the areas that were gathered
 module _ (file areas last : List ℕ) (r : ℕ) (room : area_bytes * block_count file ≤ length areas)

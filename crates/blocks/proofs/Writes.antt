@@ -1,7 +1,7 @@
 -- What the stores of the writer leave: the part of the rows that a block has, its header, its check, the block, and the blocks one
 -- after the other. Assumes nothing.
 use Rattle.std.proofs.Common.{◌≡◌, ℕ, ◌+◌, ◌-◌, ◌*◌, ◌/◌, ◌%◌, ◌≤◌, List, [], ◌∷◌, ◌++◌, length, take, drop, set, sym, ap, ◌∙◌, ap₂, append_assoc, append-nil, arith, length-append, length-drop, take-append-drop, drop_of_length-le, length-take-le, take_all, take_at}
-use lib.Seq.{take-nil, take-length, drop-length}
+use lib.Seq.{take-nil, drop-length}
 use borrow.Rule.Slice.PartMut.{put_mid}
 use Rattle.lingua.specs.Numbers.{block_bytes, header_bytes, area_bytes, check_place}
 use Rattle.lingua.specs.Value.{pad}
@@ -32,12 +32,12 @@ module _ (rows : List ℕ) (k : ℕ) where
 
 -- ---- a block's header, over eight bytes
 pub header_stored : (f : File) (model k n : ℕ) (m header last : List ℕ) (a b : ℕ) → length header ≡ header_bytes → m ≡ marker f
-    → last ≡ take (length m) m ++ drop (length m) header → a ≡ model % 256 → b ≡ model / 256 % 256
-    → set (set (set (set last 4 k) 5 n) 6 a) 7 b ≡ header_of f model k n
+    → last ≡ m → a ≡ model % 256 → b ≡ model / 256 % 256
+    → set (set (set (set (last ++ drop 4 header) 4 k) 5 n) 6 a) 7 b ≡ header_of f model k n
 unfolding header_of bytes16
 header_stored f model k n m header last a b h is copied ea eb =
     let four : length m ≡ 4 = ap length is ∙ length_marker f in
-    let from : last ≡ m ++ drop (length m) header = copied ∙ ap (λ (l : List ℕ). l ++ drop (length m) header) (take-length m) in
+    let from : last ++ drop 4 header ≡ m ++ drop (length m) header = ap₂ (λ (l : List ℕ) (n : ℕ). l ++ drop n header) copied (sym four) in
     ap (λ (l : List ℕ). set (set (set (set l 4 k) 5 n) 6 a) 7 b) from
     ∙ store_four_at 4 m (drop (length m) header) k n a b four (length-drop (length m) header ∙ (let e : length header - length m ≡ 4 = omega arith in e))
     ∙ ap₂ (λ (x y : ℕ). m ++ (k ∷ n ∷ x ∷ y ∷ [])) ea eb

@@ -19,8 +19,9 @@ pub fn gather(file: &[u8], areas: &mut [u8])
     while k < count {
         let start = BLOCK_BYTES * k;
         let at = AREA_BYTES * k;
-        areas[at..at + AREA_BYTES]
-            .copy_from_slice(&file[start + HEADER_BYTES..start + CHECK_PLACE]);
+        areas[at..at + AREA_BYTES].copy_from_slice(
+            &file[start + HEADER_BYTES..start + CHECK_PLACE],
+        );
         k += 1;
     }
 }
