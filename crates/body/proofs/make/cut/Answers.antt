@@ -1,4 +1,4 @@
--- `body::make::cut` meets its contract: `cut-spots` says where each part goes, `cut_holds` what they make. Assumes nothing.
+-- `body::make::cut` meets its contract: `cut_spots` says where each part goes, `cut_holds` what they make. Assumes nothing.
 use native.Mathlib.Omega.{arith}
 use Rattle.body.proofs.Removing.{some_placed, cut_spots, cut_holds}
 use Rattle.body.proofs.make.cut.Goals as goal

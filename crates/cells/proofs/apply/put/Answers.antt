@@ -1,4 +1,4 @@
--- `put` meets its contract, by `put_whole` and `put-error`. Assumes nothing.
+-- `put` meets its contract, by `put_whole` and `put_error`. Assumes nothing.
 use Rattle.cells.proofs.Numbers.{put_whole, put_error}
 use Rattle.cells.proofs.apply.put.Goals as goal
 

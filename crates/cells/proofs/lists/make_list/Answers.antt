@@ -1,4 +1,4 @@
--- `make_list` meets its contract, by `single-law`. Assumes nothing.
+-- `make_list` meets its contract, by `single_law`. Assumes nothing.
 use mathlib.Core.Path.{◌∙◌}
 use native.Mathlib.Omega.{arith}
 use lib.ListN.{length-set}

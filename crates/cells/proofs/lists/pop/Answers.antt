@@ -1,4 +1,4 @@
--- `pop` meets its contract, by `pop-empty` and `pop-law`. Assumes nothing.
+-- `pop` meets its contract, by `pop_empty` and `pop_law`. Assumes nothing.
 use native.Mathlib.Omega.{arith}
 use Rattle.cells.proofs.Elements.{count_back, counted_cell, counted_few, last_room, pop_empty, pop_law}
 use Rattle.cells.proofs.lists.pop.Goals as goal

@@ -1,4 +1,4 @@
--- `push` meets its contract, by `push-full` and `push-law`. Assumes nothing.
+-- `push` meets its contract, by `push_full` and `push_law`. Assumes nothing.
 use native.Mathlib.Omega.{arith}
 use Rattle.cells.proofs.Elements.{count_back, counted_cell, counted_room, push_full, push_law}
 use Rattle.cells.proofs.lists.push.Goals as goal

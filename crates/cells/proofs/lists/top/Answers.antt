@@ -1,4 +1,4 @@
--- `top` meets its contract, by `top-empty` and `top-law`. Assumes nothing.
+-- `top` meets its contract, by `top_empty` and `top_law`. Assumes nothing.
 use native.Mathlib.Omega.{arith}
 use Rattle.cells.proofs.Elements.{count_back, counted_cell, last_room, top_empty, top_law}
 use Rattle.cells.proofs.lists.top.Goals as goal

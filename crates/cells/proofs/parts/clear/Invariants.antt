@@ -1,4 +1,4 @@
--- `clear` meets its contract: after i turns the first i cells are zeros. Carried by `fill-turn`. Assumes nothing.
+-- `clear` meets its contract: after i turns the first i cells are zeros. Carried by `fill_turn`. Assumes nothing.
 use mathlib.Core.Path.{◌≡◌}
 use Prim.Native.Nat.{◌-◌, ◌≤◌}
 use lib.ListN.{length, replicate}

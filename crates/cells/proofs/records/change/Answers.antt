@@ -1,4 +1,4 @@
--- `change` meets its contract, by `change-law`. Assumes nothing.
+-- `change` meets its contract, by `change_law`. Assumes nothing.
 use Rattle.cells.proofs.Fields.{change_law}
 use Rattle.cells.proofs.records.change.Goals as goal
 

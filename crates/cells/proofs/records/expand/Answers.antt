@@ -1,4 +1,4 @@
--- `expand` meets its contract, by `expand-law`. Assumes nothing.
+-- `expand` meets its contract, by `expand_law`. Assumes nothing.
 use native.Mathlib.Omega.{arith}
 use Rattle.cells.proofs.Fields.{expand_law}
 use Rattle.cells.proofs.records.expand.Goals as goal

@@ -1,4 +1,4 @@
--- `remove` meets its contract, by `remove-law`. Assumes nothing.
+-- `remove` meets its contract, by `remove_law`. Assumes nothing.
 use native.Mathlib.Omega.{arith}
 use Rattle.cells.proofs.Fields.{remove_law}
 use Rattle.cells.proofs.records.remove.Goals as goal

@@ -1,4 +1,4 @@
--- `equal` meets its contract, by `equal-yes` and `equal-no`. Assumes nothing.
+-- `equal` meets its contract, by `equal_yes` and `equal_no`. Assumes nothing.
 use native.Mathlib.Omega.{arith}
 use Rattle.cells.proofs.Singles.{equal_yes, equal_no}
 use Rattle.cells.proofs.simple.equal.Goals as goal

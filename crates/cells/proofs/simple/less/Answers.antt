@@ -1,4 +1,4 @@
--- `less` meets its contract, by `less-law`. Assumes nothing.
+-- `less` meets its contract, by `less_law`. Assumes nothing.
 use mathlib.Core.Path.{refl}
 use mathlib.Core.Bool.{true, false}
 use native.Mathlib.Omega.{arith}

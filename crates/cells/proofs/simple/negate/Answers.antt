@@ -1,4 +1,4 @@
--- `negate` meets its contract, by `negate_zero` and `negate-other`. Assumes nothing.
+-- `negate` meets its contract, by `negate_zero` and `negate_other`. Assumes nothing.
 use Rattle.cells.proofs.Singles.{negate_zero, negate_other}
 use Rattle.cells.proofs.simple.negate.Goals as goal
 

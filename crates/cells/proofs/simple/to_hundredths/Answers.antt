@@ -1,4 +1,4 @@
--- `to_hundredths` meets its contract, by `to-hundredths-law`. Assumes nothing.
+-- `to_hundredths` meets its contract, by `to_hundredths_law`. Assumes nothing.
 use Rattle.cells.proofs.Singles.{to_hundredths_law}
 use Rattle.cells.proofs.simple.to_hundredths.Goals as goal
 

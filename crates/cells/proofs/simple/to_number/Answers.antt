@@ -1,4 +1,4 @@
--- `to_number` meets its contract, by `to-number-law`. Assumes nothing.
+-- `to_number` meets its contract, by `to_number_law`. Assumes nothing.
 use Rattle.cells.proofs.Singles.{to_number_law}
 use Rattle.cells.proofs.simple.to_number.Goals as goal
 

@@ -1,4 +1,4 @@
--- `glue` meets its contract, by `glue-none` and `glue-law`. Assumes nothing.
+-- `glue` meets its contract, by `glue_none` and `glue_law`. Assumes nothing.
 use native.Mathlib.Omega.{arith}
 use Rattle.cells.proofs.Glue.{word_read, numbered_cell, numbered_word, numbered_fits, glued_fits, glue_none, glue_law}
 use Rattle.cells.proofs.words.glue.Goals as goal
