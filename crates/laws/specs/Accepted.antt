@@ -1,6 +1,6 @@
 -- Rows that no rule refuses: each has a section, so none is zero, and there are at most as many as the reader's buffer holds.
 -- Carried by counting: each row of a profile is in one of four tables or is a procedure's. Assumes nothing.
-use Rattle.std.specs.Prelude.{◌≡◌, refl, Bool, true, false, ◌&&◌, ◌||◌, List, [], ◌∷◌, ◌⊎◌, ℕ, zero, suc, ◌+◌, ◌*◌, ◌/◌, ◌%◌, ◌≤◌, ◌<◌, eqb, ltb, leb, get_or}
+use Rattle.std.specs.Prelude.{◌≡◌, refl, Bool, true, false, ◌&&◌, ◌||◌, List, [], ◌∷◌, ◌⊎◌, ℕ, zero, suc, ◌+◌, ◌*◌, ◌/◌, ◌%◌, ◌≤◌, ◌<◌, eqb, ltb, leb, get_or, if◌then◌else◌}
 use Rattle.std.proofs.Common.{sym, ap, ◌∙◌, arith}
 use Rattle.std.proofs.Math.Path.{subst}
 use Rattle.std.proofs.Math.Bool.{beq}
@@ -9,7 +9,6 @@ use Rattle.std.proofs.Math.Logic.{inl, inr, ⊎_elim}
 use borrow.Author.Tests.{eqb-true, eq-eqb, ne_eqb, ltb-true, lt-ltb, leb-true, not-false}
 use Rattle.lingua.specs.Numbers.{row_bytes, rows_length, most_variables, most_types, most_expressions, most_instructions, most_limits, most_procedures, most_parameters, declaration_section, type_section, expression_section, instruction_section, limit_section, procedure_section, header_table, variable_table}
 use Rattle.lingua.specs.Errors.{no_error, bad_form, bad_count, bad_name, bad_constant, bad_reference, bad_use, misplaced, bad_type, bad_parameters}
-use Rattle.lingua.specs.Outcome.{if◌then◌else◌}
 use Rattle.lingua.specs.Rows.{row_count, section_at, kind_at, bytes_at, count_below, procedure_kind, begins_procedure, table_at, table_start, table_count, pair_count, procedure_count, value_count, reference_count}
 use Rattle.lingua.specs.Format.{File, profile, limits, every_below}
 use Rattle.lingua.specs.Rules.{used_bytes, section_belongs, bytes_fit, row_fits, ascending, paired, procedure_pairs, between, form_wrong, count_wrong, name_wrong, constant_wrong}

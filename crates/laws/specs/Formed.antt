@@ -1,11 +1,11 @@
 -- Operations make well-formed bodies of well-formed bodies, where the attributes that they name are numbered below 64: `unary_formed`,
 -- `binary_formed`. Assumes nothing.
-use Rattle.std.specs.Prelude.{◌≡◌, refl, Bool, true, false, [], ◌∷◌, ℕ, suc, ◌≤◌, ◌<◌, eqb, ltb}
+use Rattle.std.specs.Prelude.{◌≡◌, refl, Bool, true, false, [], ◌∷◌, ℕ, suc, ◌≤◌, ◌<◌, eqb, ltb, if◌then◌else◌}
 use Rattle.std.proofs.Common.{sym, subst, ◌∙◌, arith, ltb-true, ltb-false}
 use Rattle.std.proofs.Math.Option.{some}
 use Rattle.std.proofs.lemmas.Bool.{eqb-false}
 use Rattle.lingua.specs.Numbers.{attribute_numbers}
-use Rattle.lingua.specs.Outcome.{ok, is_some, if◌then◌else◌}
+use Rattle.lingua.specs.Outcome.{ok, is_some}
 use Rattle.lingua.specs.Body.{Body, list_of, record_of, Attributes, end, attribute, size, nodes, depth, count_attributes, width, too_large, attribute_body, insert_attribute, remove_attribute}
 use Rattle.lingua.specs.WellFormed.{InBounds, WellFormed, formed_boolean, formed_number, formed_word, formed_hundredths, formed_list, formed_record, FormedFrom, formed_end, formed_attribute}
 use Rattle.lingua.specs.Value.{all_of}

@@ -1,12 +1,12 @@
 -- What it shows that an operation's half on bodies gave a body: what the operands' bodies are, and what the result's is.
 -- One law for each operation. Then: where the operands' bodies have at most 64 cells, the result's has. Assumes nothing.
-use Rattle.std.specs.Prelude.{◌≡◌, refl, Bool, true, false, not, ◌&&◌, ◌||◌, ℕ, ◌+◌, ◌≤◌, ◌<◌, eqb, ltb}
+use Rattle.std.specs.Prelude.{◌≡◌, refl, Bool, true, false, not, ◌&&◌, ◌||◌, ℕ, ◌+◌, ◌≤◌, ◌<◌, eqb, ltb, if◌then◌else◌}
 use Rattle.std.proofs.Common.{sym, ap, ◌∙◌, subst, arith, ltb-true, ltb-false, eq-eqb}
 use Rattle.std.proofs.Math.Option.{some}
 use Rattle.std.proofs.lemmas.Bool.{not-true}
 use Rattle.lingua.specs.Numbers.{body_cells, body_nodes, body_depth, record_attributes}
 use Rattle.lingua.specs.Errors.{number_expected, boolean_expected, word_expected, list_expected, record_expected, no_such_attribute, attribute_present, no_coherence, not_comparable, body_too_large, last_attribute}
-use Rattle.lingua.specs.Outcome.{ok, or_fail, is_some, if◌then◌else◌}
+use Rattle.lingua.specs.Outcome.{ok, or_fail, is_some}
 use Rattle.lingua.specs.Body.{Body, boolean, number, word, hundredths, list_of, record_of, Attributes, end, attribute, size, sizes, nodes, depth, width, is_boolean, is_number, is_word, is_hundredths, is_quantity, is_simple, same_body, element_body, attributes_of, count_attributes, attribute_body, attribute_offset, insert_attribute, remove_attribute, too_large}
 use Rattle.lingua.specs.WellFormed.{InBounds}
 use Rattle.lingua.specs.Operation.{Unary, negation, make_record, select, make-list, top, pop, remove, to-hundredths, to_number, Binary, add, subtract, multiply, divide, less, equal, glue, expand, change, push, bounded, present, unary_body, quantities_to, binary_body}

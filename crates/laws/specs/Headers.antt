@@ -1,6 +1,6 @@
 -- Each procedure that is begun has one row that begins it, and its variables stand behind that row. Carried by counting one row more at a
 -- time. Assumes nothing.
-use Rattle.std.specs.Prelude.{◌≡◌, Bool, false, List, ◌⊎◌, length}
+use Rattle.std.specs.Prelude.{◌≡◌, Bool, false, List, ◌⊎◌, length, if◌then◌else◌}
 use Rattle.std.proofs.Math.Path.{refl, sym, ap}
 use Rattle.std.proofs.Common.{◌∙◌, inl, inr, ⊎_elim}
 use Rattle.std.proofs.Math.Bool.{true}
@@ -9,7 +9,6 @@ use native.Mathlib.Omega.{arith}
 use Rattle.std.proofs.Math.Dec.{eqb, ltb}
 use borrow.Author.Tests.{eqb-true, ltb-true, lt-ltb, le-ltb, eq-eqb, ne_eqb}
 use Rattle.lingua.specs.Numbers.{procedure_section, header_table, variable_table}
-use Rattle.lingua.specs.Outcome.{if◌then◌else◌}
 use Rattle.lingua.specs.Rows.{row_count, section_at, kind_at, count_below, procedure_kind, begins_procedure, table_at, table_start, table_count, procedure_count, header_row, row_in}
 use Rattle.laws.specs.Outcomes.{and_left}
 use Rattle.laws.specs.Tests.{below_or}

@@ -1,6 +1,6 @@
 -- What the search for a variable by its name finds, and how many declarations it looks at: the first that has the name, with it and all before
 -- it, or none, with all (`lookup_tells`). Assumes nothing.
-use Rattle.std.specs.Prelude.{◌≡◌, Bool, List}
+use Rattle.std.specs.Prelude.{◌≡◌, Bool, List, if◌then◌else◌}
 use Rattle.std.proofs.Math.Path.{refl, ap, subst}
 use Rattle.std.proofs.Common.{sym, ◌∙◌, ⊎_elim, add-one}
 use Rattle.std.proofs.Math.Bool.{true, false}
@@ -8,7 +8,6 @@ use Rattle.std.proofs.Math.Option.{Option, some, none}
 use Prim.Native.Nat.{ℕ, zero, suc, ◌+◌, ◌-◌, ◌<◌}
 use native.Mathlib.Omega.{arith}
 use Rattle.lingua.specs.Numbers.{declaration_section}
-use Rattle.lingua.specs.Outcome.{if◌then◌else◌}
 use Rattle.lingua.specs.Compute.{same_text}
 use Rattle.lingua.specs.Rows.{pair_count}
 use Rattle.lingua.specs.Trees.{name_at}

@@ -1,6 +1,6 @@
 -- How many rows procedures have: where each row of kind 0 in section 6, and no other, has one of kind 1 behind it, a procedure's variables
 -- are whole pairs, so that one with at most 16 of them has at most 33 rows. Carried by counting one row more at a time. Assumes nothing.
-use Rattle.std.specs.Prelude.{◌≡◌, Bool, ◌&&◌, List, ◌⊎◌}
+use Rattle.std.specs.Prelude.{◌≡◌, Bool, ◌&&◌, List, ◌⊎◌, if◌then◌else◌}
 use Rattle.std.proofs.Math.Path.{refl, sym, ap}
 use Rattle.std.proofs.Common.{◌∙◌}
 use Rattle.std.proofs.Math.Bool.{true, false}
@@ -10,7 +10,6 @@ use native.Mathlib.Omega.{arith}
 use Rattle.std.proofs.Math.Dec.{eqb, ltb}
 use borrow.Author.Tests.{eqb-true, ltb-true, ltb-false, lt-ltb, le-ltb}
 use Rattle.lingua.specs.Numbers.{most_variables, procedure_section, header_table, variable_table}
-use Rattle.lingua.specs.Outcome.{if◌then◌else◌}
 use Rattle.lingua.specs.Rows.{row_count, section_at, kind_at, count_below, procedure_kind, begins_procedure, table_at, table_start, table_count, pair_count, procedure_count}
 use Rattle.laws.specs.Outcomes.{and_left, and_right, and_both}
 use Rattle.laws.specs.Tests.{not_true_false, true_not_false, below_or}

@@ -1,10 +1,10 @@
 -- Attributes of a record on its cells: select is a window at the attribute's offset, change a paste there, remove leaves the
 -- cells around it, and expand is an insertion there; and each result fits. Carried by two splits of the cells, at an attribute
 -- and where a new one goes, by induction over the fields. That attributes ascend is not needed. Assumes nothing.
-use Rattle.std.specs.Prelude.{◌≡◌, refl, Bool, true, false, List, [], ◌++◌, ℕ, ◌+◌, eqb, ltb, length, take, drop, ℤ}
+use Rattle.std.specs.Prelude.{◌≡◌, refl, Bool, true, false, List, [], ◌++◌, ℕ, ◌+◌, eqb, ltb, length, take, drop, ℤ, if◌then◌else◌}
 use Rattle.std.proofs.Common.{sym, ap, ap₂, ◌∙◌, subst, append_assoc, append-nil, arith, length-append, take_at, drop_at, eq-eqb}
 use Rattle.std.proofs.Math.Option.{some}
-use Rattle.lingua.specs.Outcome.{is_some, if◌then◌else◌}
+use Rattle.lingua.specs.Outcome.{is_some}
 use Rattle.lingua.specs.Body.{Body, record_of, Attributes, end, attribute, size, sizes, attribute_body, attribute_offset, insert_attribute, remove_attribute}
 use Rattle.lingua.specs.Value.{Value, fields, Fields, no_fields, field, Fits, fit_fields, FieldsFit, fit_end, fit_field, as_fields, cells_of, field_cells}
 use Rattle.lingua.specs.Operation.{present}

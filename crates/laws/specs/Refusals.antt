@@ -1,10 +1,9 @@
 -- The first number in order of a list of rules: a rule that applies before all others is the refusal, and where there is none, none applies.
 -- The order is that of the ranks; of a rank nothing is used but that it is a number. Assumes nothing.
-use Rattle.std.specs.Prelude.{◌≡◌, refl, Bool, true, false, ◌&&◌, List, [], ◌∷◌, ◌++◌, ◌⊎◌, ℕ, ◌≤◌, ◌<◌, eqb, ltb, leb}
+use Rattle.std.specs.Prelude.{◌≡◌, refl, Bool, true, false, ◌&&◌, List, [], ◌∷◌, ◌++◌, ◌⊎◌, ℕ, ◌≤◌, ◌<◌, eqb, ltb, leb, if◌then◌else◌}
 use Rattle.std.proofs.Common.{sym, ap, ◌∙◌, inl, inr, ⊎_elim, arith, eq-eqb, ltb-true, ltb-false, leb-true, lt-ltb}
 use Rattle.std.proofs.lemmas.Bool.{eqb-false}
 use Rattle.lingua.specs.Errors.{no_error}
-use Rattle.lingua.specs.Outcome.{if◌then◌else◌}
 use Rattle.lingua.specs.Value.{all_of}
 use Rattle.lingua.specs.Refusal.{Rule, rule, rank, lower_of, lowest}
 use Rattle.laws.specs.Outcomes.{false_is_true, and_left, and_right}

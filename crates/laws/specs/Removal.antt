@@ -1,8 +1,7 @@
 -- A record without one of its attributes: it has fewer cells, nodes and attributes, and is no deeper. Assumes nothing.
-use Rattle.std.specs.Prelude.{◌≡◌, refl, Bool, true, false, ℕ, suc, ◌+◌, ◌≤◌, eqb}
+use Rattle.std.specs.Prelude.{◌≡◌, refl, Bool, true, false, ℕ, suc, ◌+◌, ◌≤◌, eqb, if◌then◌else◌}
 use Rattle.std.proofs.Common.{ap, arith}
 use Rattle.std.proofs.Math.Option.{some}
-use Rattle.lingua.specs.Outcome.{if◌then◌else◌}
 use Rattle.lingua.specs.Body.{Body, Attributes, end, attribute, size, sizes, nodes, attribute_nodes, attribute_depth, count_attributes, attribute_body, remove_attribute}
 use Rattle.laws.specs.Outcomes.{none_is_some, some_same}
 

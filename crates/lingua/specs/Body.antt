@@ -1,8 +1,7 @@
 -- Bodies: their cells, nodes, depth and bounds (document 01, Bodies and registers). Assumes nothing: these are definitions.
-use Rattle.std.specs.Prelude.{Bool, true, false, ◌||◌, ◌&&◌, ℕ, suc, ◌+◌, ◌*◌, max, eqb, ltb}
+use Rattle.std.specs.Prelude.{Bool, true, false, ◌||◌, ◌&&◌, ℕ, suc, ◌+◌, ◌*◌, max, eqb, ltb, if◌then◌else◌}
 use Rattle.std.proofs.Math.Option.{Option, some, none}
 use Rattle.lingua.specs.Numbers.{list_places, body_cells, body_nodes, body_depth, record_attributes}
-use Rattle.lingua.specs.Outcome.{if◌then◌else◌}
 
 mutual
   pub data Body : Type 0 where

@@ -1,12 +1,12 @@
 -- The operations' half on values: the operands' values give the result's value, or a run error (document 01, Evaluation).
 -- It is asked only where the half on bodies has passed, so it reads each operand as its body says and knows no bodies.
 -- Assumes nothing: these are definitions.
-use Rattle.std.specs.Prelude.{Bool, true, false, not, ◌&&◌, List, [], ◌∷◌, ◌++◌, ℕ, ◌+◌, eqb, ltb, leb, length, ℤ, pos, negsuc, ◌+ℤ◌, ◌-ℤ◌, ◌*ℤ◌}
+use Rattle.std.specs.Prelude.{Bool, true, false, not, ◌&&◌, List, [], ◌∷◌, ◌++◌, ℕ, ◌+◌, eqb, ltb, leb, length, ℤ, pos, negsuc, ◌+ℤ◌, ◌-ℤ◌, ◌*ℤ◌, if◌then◌else◌}
 use Rattle.std.specs.Bool.{beq}
 use Rattle.std.specs.Int.Signed.{lt_z, quot_z}
 use Rattle.lingua.specs.Numbers.{parts_of_one, word_length, list_places}
 use Rattle.lingua.specs.Errors.{overflow, division_by_zero, list_empty, list_full, word_too_long}
-use Rattle.lingua.specs.Outcome.{ok, fail, Result, require, if◌then◌else◌, ◌>>◌}
+use Rattle.lingua.specs.Outcome.{ok, fail, Result, require, ◌>>◌}
 use Rattle.lingua.specs.Value.{Value, truth, whole, count, text, items, fields, Values, no_items, item, Fields, no_fields, field, count_values, in_range_of, is_count, quantity, as_truth, as_whole, as_text, as_items, as_fields}
 use Rattle.lingua.specs.Rounding.{nearest}
 use Rattle.lingua.specs.Operation.{Unary, negation, make_record, select, make-list, top, pop, remove, to-hundredths, to_number, Binary, add, subtract, multiply, divide, less, equal, glue, expand, change, push}

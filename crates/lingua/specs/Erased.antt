@@ -1,11 +1,11 @@
 -- The run without bodies (document 01: chair run), on values: the values' half of evaluation, yokes, tests, stores and instructions, with no
 -- check on bodies. Where the type check passed, it is the run (`accepted_erased` in crate safety). Assumes nothing: these are definitions.
-use Rattle.std.specs.Prelude.{Bool, true, false, ◌&&◌, List, [], ◌∷◌, map, ℕ, suc, ◌+◌, eqb, set}
+use Rattle.std.specs.Prelude.{Bool, true, false, ◌&&◌, List, [], ◌∷◌, map, ℕ, suc, ◌+◌, eqb, set, if◌then◌else◌}
 use Rattle.std.specs.Bool.{beq}
 use Rattle.std.proofs.Math.Option.{Option, some, none}
 use Rattle.lingua.specs.Numbers.{reading_place, most_calls}
 use Rattle.lingua.specs.Errors.{no_error, overflow, yoke_not_satisfied, not_filled}
-use Rattle.lingua.specs.Outcome.{ok, Result, ◌>>=◌, ◌>>◌, require, or_fail, if◌then◌else◌, all_answers}
+use Rattle.lingua.specs.Outcome.{ok, Result, ◌>>=◌, ◌>>◌, require, or_fail, all_answers}
 use Rattle.lingua.specs.Value.{Value, truth, in_range_of, quantity, as_truth, as_whole, as_items, value_list, all_of, Composite, composite}
 use Rattle.lingua.specs.Compute.{unary_value, binary_value}
 use Rattle.lingua.specs.Expression.{settled_by, Expression, constant, variable, current, unary, binary, lazy, choice, all_list, Yoke, always, yoke, Instruction, skip, assign, set_yoke, sequence, branch, loop, handle, call}

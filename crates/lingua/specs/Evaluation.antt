@@ -1,9 +1,9 @@
 -- What an expression gives in a store and for a current value (document 01, Evaluation). Assumes nothing: these are definitions.
-use Rattle.std.specs.Prelude.{Bool, true, false, List, map, ℕ}
+use Rattle.std.specs.Prelude.{Bool, true, false, List, map, ℕ, if◌then◌else◌}
 use Rattle.std.specs.Bool.{beq}
 use Rattle.std.proofs.Math.Option.{Option}
 use Rattle.lingua.specs.Errors.{boolean_expected, list_expected, yoke_expected, not_filled}
-use Rattle.lingua.specs.Outcome.{ok, Result, ◌>>=◌, require, or_fail, if◌then◌else◌, all_answers, ◌>>◌}
+use Rattle.lingua.specs.Outcome.{ok, Result, ◌>>=◌, require, or_fail, all_answers, ◌>>◌}
 use Rattle.lingua.specs.Body.{boolean, is_boolean, element_body}
 use Rattle.lingua.specs.Value.{truth, as_truth, as_items, value_list, all_of, Composite, composite}
 use Rattle.lingua.specs.Operation.{Unary, Binary, unary_body, binary_body}

@@ -1,7 +1,6 @@
 -- Files: blocks of 512 bytes, each with its own check, and the rows in them (document 01, Files). Assumes nothing: these are definitions.
-use Rattle.std.specs.Prelude.{Bool, true, false, not, ◌&&◌, List, [], ◌∷◌, ◌++◌, ℕ, zero, suc, ◌+◌, ◌-◌, ◌*◌, ◌/◌, ◌%◌, ◌^◌, max, eqb, leb, length, get_or, take, drop}
+use Rattle.std.specs.Prelude.{Bool, true, false, not, ◌&&◌, List, [], ◌∷◌, ◌++◌, ℕ, zero, suc, ◌+◌, ◌-◌, ◌*◌, ◌/◌, ◌%◌, ◌^◌, max, eqb, leb, length, get_or, take, drop, if◌then◌else◌}
 use Rattle.lingua.specs.Numbers.{row_bytes, block_bytes, block_rows, header_bytes, area_bytes, checked_words, check_place, most_blocks}
-use Rattle.lingua.specs.Outcome.{if◌then◌else◌}
 use Rattle.lingua.specs.Value.{pad, all_of}
 use Rattle.lingua.specs.Compute.{same_text}
 use Rattle.lingua.specs.Rows.{word16, word32, row_count}

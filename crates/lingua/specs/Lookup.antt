@@ -1,9 +1,8 @@
 -- The search for a variable by its name (document 02, request 4): the profile's declarations are looked at one after another, and the search
 -- ends at the one that has the name. Assumes nothing: these are definitions.
-use Rattle.std.specs.Prelude.{List, ℕ, zero, suc}
+use Rattle.std.specs.Prelude.{List, ℕ, zero, suc, if◌then◌else◌}
 use Rattle.std.proofs.Math.Option.{Option, some, none}
 use Rattle.lingua.specs.Numbers.{declaration_section}
-use Rattle.lingua.specs.Outcome.{if◌then◌else◌}
 use Rattle.lingua.specs.Compute.{same_text}
 use Rattle.lingua.specs.Rows.{pair_count}
 use Rattle.lingua.specs.Trees.{name_at}

@@ -1,4 +1,5 @@
 -- What a check or an evaluation gives: an answer, or what was wrong. Assumes nothing: these are definitions.
+pub use Rattle.std.specs.Prelude.{if◌then◌else◌}
 use Rattle.std.specs.Prelude.{Bool, true, false, List, [], ◌∷◌, ◌++◌, ℕ}
 use Rattle.std.proofs.Math.Option.{Option, some, none}
 
@@ -25,11 +26,6 @@ fail e >> o = fail e
 abbrev pub require : {E : Type 0} → Bool → E → Outcome E (Unit {0})
 require true e = ok tt
 require false e = fail e
-
-infix 5 if◌then◌else◌
-abbrev pub if◌then◌else◌ : {A : Type 0} → Bool → A → A → A
-if true then a else b = a
-if false then a else b = b
 
 -- what an option holds, or e
 abbrev pub or_fail : {E A : Type 0} → Option A → E → Outcome E A

@@ -1,9 +1,9 @@
 -- Rules 10 to 13, 18 and 19: what is wrong with what a profile's rows name (document 01, What refuses; document 02, 3). Each rule is a test of its own, total on any
 -- bytes; where a lower rule applies, it may say anything. Assumes nothing: these are definitions.
-use Rattle.std.specs.Prelude.{Bool, true, false, not, ◌&&◌, ◌||◌, List, [], ◌∷◌, ◌++◌, ℕ, suc, ◌+◌, ◌/◌, ◌^◌, pred, min, eqb, ltb, leb}
+use Rattle.std.specs.Prelude.{Bool, true, false, not, ◌&&◌, ◌||◌, List, [], ◌∷◌, ◌++◌, ℕ, suc, ◌+◌, ◌/◌, ◌^◌, pred, min, eqb, ltb, leb, if◌then◌else◌}
 use Rattle.lingua.specs.Numbers.{most_variables, most_parameters, declaration_section, type_section, expression_section, instruction_section, variable_table, scope_table}
 use Rattle.lingua.specs.Errors.{is_among}
-use Rattle.lingua.specs.Outcome.{is_ok, if◌then◌else◌}
+use Rattle.lingua.specs.Outcome.{is_ok}
 use Rattle.lingua.specs.Value.{all_of}
 use Rattle.lingua.specs.Expression.{Expression, constant, variable, current, unary, binary, lazy, choice, all_list}
 use Rattle.lingua.specs.Typing.{joined}

@@ -1,9 +1,9 @@
 -- The refusal of each call: of the rules that apply, the first in order (document 01, What refuses). Assumes nothing: these are definitions.
-use Rattle.std.specs.Prelude.{Bool, true, false, not, ◌&&◌, ◌||◌, List, [], ◌∷◌, ◌++◌, ℕ, suc, ◌%◌, eqb, ltb, length}
+use Rattle.std.specs.Prelude.{Bool, true, false, not, ◌&&◌, ◌||◌, List, [], ◌∷◌, ◌++◌, ℕ, suc, ◌%◌, eqb, ltb, length, if◌then◌else◌}
 use Rattle.std.specs.Int.Signed.{le_z}
 use Rattle.lingua.specs.Numbers.{row_bytes, rows_length, cells_length, states_length, layout_length, open_cells_length, open_states_length, present_bodies_length, most_readings, declaration_section, limit_section}
 use Rattle.lingua.specs.Errors.{no_error, bad_buffer, bad_length, bad_marker, bad_header, bad_check, bad_form, bad_count, bad_name, bad_constant, bad_reference, bad_use, misplaced, bad_type, models_differ, bad_limit, bad_reading, type_error_found, bad_parameters, repeated_reference, refusal_order}
-use Rattle.lingua.specs.Outcome.{ok, fail, Result, is_ok, if◌then◌else◌}
+use Rattle.lingua.specs.Outcome.{ok, fail, Result, is_ok}
 use Rattle.lingua.specs.Body.{Body, is_hundredths, is_quantity}
 use Rattle.lingua.specs.Value.{in_range_of, all_of}
 use Rattle.lingua.specs.Compute.{same_text}

@@ -1,8 +1,7 @@
 -- The report's text, in bytes (document 01, Report). Assumes nothing: these are definitions.
-use Rattle.std.specs.Prelude.{List, [], ◌∷◌, ◌++◌, ℕ, zero, suc, ◌+◌, ◌/◌, ◌%◌, ltb, replicate, ℤ, pos, negsuc}
+use Rattle.std.specs.Prelude.{List, [], ◌∷◌, ◌++◌, ℕ, zero, suc, ◌+◌, ◌/◌, ◌%◌, ltb, replicate, ℤ, pos, negsuc, if◌then◌else◌}
 use Rattle.std.proofs.Math.Option.{Option, some, none}
 use Rattle.lingua.specs.Numbers.{cells_length, states_length, open_cells_length, open_states_length, present_bodies_length, report_budget}
-use Rattle.lingua.specs.Outcome.{if◌then◌else◌}
 use Rattle.lingua.specs.Value.{Composite, cells_of}
 use Rattle.lingua.specs.Store.{Variable}
 use Rattle.lingua.specs.Run.{Progress, last_state, Declaration}

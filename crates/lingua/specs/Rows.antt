@@ -1,11 +1,10 @@
 -- Rows of 10 bytes and what each says: the fields, the tables, and for each table of rows its kinds (document 01, Files).
 -- Total on any bytes; what a malformed row reads as does not matter, since it is refused. Assumes nothing: these are definitions.
-use Rattle.std.specs.Prelude.{Bool, not, ◌&&◌, List, [], ◌∷◌, ℕ, zero, suc, ◌+◌, ◌*◌, ◌/◌, ◌%◌, eqb, ltb, length, get_or, take, drop, ℤ}
+use Rattle.std.specs.Prelude.{Bool, not, ◌&&◌, List, [], ◌∷◌, ℕ, zero, suc, ◌+◌, ◌*◌, ◌/◌, ◌%◌, eqb, ltb, length, get_or, take, drop, ℤ, if◌then◌else◌}
 use Rattle.std.proofs.Math.Option.{Option, some, none}
 use Rattle.std.specs.Int.{w32, w64}
 use Rattle.std.proofs.Common.{to_z}
 use Rattle.lingua.specs.Numbers.{row_bytes, type_section, expression_section, instruction_section, procedure_section, header_table}
-use Rattle.lingua.specs.Outcome.{if◌then◌else◌}
 use Rattle.lingua.specs.Body.{Body, boolean, number, word, hundredths}
 use Rattle.lingua.specs.Value.{truth, whole, count, text, Composite, composite}
 use Rattle.lingua.specs.Operation.{Unary, negation, make_record, select, make-list, top, pop, remove, to-hundredths, to_number, Binary, add, subtract, multiply, divide, less, equal, glue, expand, change, push}

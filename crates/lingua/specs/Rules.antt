@@ -1,11 +1,10 @@
 -- Rules 6 to 9: what is wrong with a file's rows, each by itself (document 01, What refuses). Each rule is a test of its own, total on any
 -- bytes; where a lower rule applies, it may say anything. Assumes nothing: these are definitions.
-use Rattle.std.specs.Prelude.{Bool, true, false, not, ◌&&◌, ◌||◌, List, [], ◌∷◌, ℕ, suc, ◌+◌, ◌-◌, ◌%◌, eqb, ltb, leb, length, get_or, drop}
+use Rattle.std.specs.Prelude.{Bool, true, false, not, ◌&&◌, ◌||◌, List, [], ◌∷◌, ℕ, suc, ◌+◌, ◌-◌, ◌%◌, eqb, ltb, leb, length, get_or, drop, if◌then◌else◌}
 use Rattle.std.specs.Bool.{beq}
 use Rattle.std.proofs.Math.Option.{Option, some, none}
 use Rattle.lingua.specs.Numbers.{attribute_numbers, word_length, most_variables, most_types, most_expressions, most_instructions, most_limits, most_procedures, declaration_section, type_section, expression_section, instruction_section, limit_section, procedure_section, scope_table}
 use Rattle.lingua.specs.Errors.{is_error}
-use Rattle.lingua.specs.Outcome.{if◌then◌else◌}
 use Rattle.lingua.specs.Value.{in_range, in_counts, is_character, all_of}
 use Rattle.lingua.specs.Operation.{Unary, negation, make_record, select, make-list, top, pop, remove, to-hundredths, to_number, Binary, add, subtract, multiply, divide, less, equal, glue, expand, change, push}
 use Rattle.lingua.specs.Compute.{same_text}

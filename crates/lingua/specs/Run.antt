@@ -1,9 +1,9 @@
 -- The run of a program at a budget: its end, error, place and steps (document 01, Runs). Assumes nothing: these are definitions.
-use Rattle.std.specs.Prelude.{Bool, true, false, List, [], ◌∷◌, ◌++◌, map, ℕ, zero, suc, ◌+◌, ◌-◌, eqb, length, get_or}
+use Rattle.std.specs.Prelude.{Bool, true, false, List, [], ◌∷◌, ◌++◌, map, ℕ, zero, suc, ◌+◌, ◌-◌, eqb, length, get_or, if◌then◌else◌}
 use Rattle.std.proofs.Math.Option.{Option, none}
 use Rattle.lingua.specs.Numbers.{reading_place, most_calls}
 use Rattle.lingua.specs.Errors.{no_error, too_deep}
-use Rattle.lingua.specs.Outcome.{ok, fail, Result, ◌>>=◌, if◌then◌else◌}
+use Rattle.lingua.specs.Outcome.{ok, fail, Result, ◌>>=◌}
 use Rattle.lingua.specs.Body.{Body}
 use Rattle.lingua.specs.Expression.{Yoke, Instruction, skip, assign, set_yoke, sequence, branch, loop, handle, call}
 use Rattle.lingua.specs.Evaluation.{eval, eval_test, no_current}

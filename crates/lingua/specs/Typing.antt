@@ -1,10 +1,10 @@
 -- The type check (document 01: inspection): the checks of a run on bodies alone, and the layout table (document 01: sheet).
 -- Assumes nothing: these are definitions.
-use Rattle.std.specs.Prelude.{Bool, true, ◌&&◌, List, [], ◌∷◌, ◌++◌, map, ℕ, suc, ◌+◌, ◌*◌, ltb, get_or, set, replicate}
+use Rattle.std.specs.Prelude.{Bool, true, ◌&&◌, List, [], ◌∷◌, ◌++◌, map, ℕ, suc, ◌+◌, ◌*◌, ltb, get_or, set, replicate, if◌then◌else◌}
 use Rattle.std.proofs.Math.Option.{Option, some, none}
 use Rattle.lingua.specs.Numbers.{layout_length, instruction_place, declaration_place}
 use Rattle.lingua.specs.Errors.{boolean_expected, list_expected, no_coherence, yoke_expected}
-use Rattle.lingua.specs.Outcome.{Outcome, ok, fail, Result, require, if◌then◌else◌, or_fail, or_else, answer_of, both, all_answers, ◌>>=◌, ◌>>◌}
+use Rattle.lingua.specs.Outcome.{Outcome, ok, fail, Result, require, or_fail, or_else, answer_of, both, all_answers, ◌>>=◌, ◌>>◌}
 use Rattle.lingua.specs.Body.{Body, boolean, Attributes, size, same_body, is_boolean, is_hundredths, element_body, attributes_of, attribute_offset}
 use Rattle.lingua.specs.Operation.{Unary, negation, make_record, select, make-list, top, pop, remove, to-hundredths, to_number, Binary, add, subtract, multiply, divide, less, equal, glue, expand, change, push, unary_body, binary_body}
 use Rattle.lingua.specs.Expression.{Expression, constant, variable, current, unary, binary, lazy, choice, all_list, Yoke, always, yoke, Instruction, skip, assign, set_yoke, sequence, branch, loop, handle, call}

@@ -1,7 +1,7 @@
 -- What acceptance shows of a profile: no rule applies to its rows, so in every scope its constants fit, its yokes read no variable, its
 -- declared bodies are those of its type rows, and its program and bodies are the trees of instruction rows. So the invariant of runs holds
 -- of every accepted pair of files: `accepted_invariant`. A scope is 0 for the profile, and 1 + k for procedure k. Assumes nothing.
-use Rattle.std.specs.Prelude.{◌≡◌, Bool, false, ◌&&◌, List, [], ◌∷◌, ◌++◌, length}
+use Rattle.std.specs.Prelude.{◌≡◌, Bool, false, ◌&&◌, List, [], ◌∷◌, ◌++◌, length, if◌then◌else◌}
 use Rattle.std.proofs.Math.Path.{refl}
 use Rattle.std.proofs.Common.{sym, ap, ◌∙◌, subst, ⊎_elim, arith}
 use Rattle.std.proofs.Math.Bool.{true, not}
@@ -11,7 +11,7 @@ use Rattle.std.proofs.Math.Dec.{eqb, ltb, leb}
 use borrow.Author.Tests.{eqb-true, ne_eqb, ltb-true, leb-true, le-leb, not-false, not-true}
 use Rattle.lingua.specs.Numbers.{word_length, most_variables, most_types, most_expressions, most_instructions, most_procedures, most_parameters, declaration_section, type_section, expression_section, instruction_section, limit_section, procedure_section, variable_table, scope_table}
 use Rattle.lingua.specs.Errors.{is_error}
-use Rattle.lingua.specs.Outcome.{ok, fail, Result, is_ok, if◌then◌else◌}
+use Rattle.lingua.specs.Outcome.{ok, fail, Result, is_ok}
 use Rattle.lingua.specs.Body.{Body, size}
 use Rattle.lingua.specs.Value.{fit_truth, fit_whole, fit_text, is_character, all_of, is_text, Composite, fit_hundredths}
 use Rattle.lingua.specs.Expression.{Instruction, skip}

@@ -1,9 +1,9 @@
 -- Expressions whose constants fit their bodies, and expressions that read no variable: those give the same in every store.
 -- Assumes nothing.
-use Rattle.std.specs.Prelude.{◌≡◌, refl, false, ◌||◌, map}
+use Rattle.std.specs.Prelude.{◌≡◌, refl, false, ◌||◌, map, if◌then◌else◌}
 use Rattle.std.specs.Bool.{beq}
 use Rattle.lingua.specs.Errors.{boolean_expected}
-use Rattle.lingua.specs.Outcome.{ok, ◌>>=◌, if◌then◌else◌}
+use Rattle.lingua.specs.Outcome.{ok, ◌>>=◌}
 use Rattle.lingua.specs.Value.{Fits, Composite}
 use Rattle.lingua.specs.Expression.{settled_by, Expression, constant, variable, current, unary, binary, lazy, choice, all_list, Yoke, always, yoke}
 use Rattle.lingua.specs.Evaluation.{Variables, apply_unary, apply_binary, truth_or, boolean_of, all_true, elements_of, eval, eval_yoke}

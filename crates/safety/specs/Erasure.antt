@@ -1,12 +1,12 @@
 -- Evaluation without bodies (document 01: chair run): where the type check passed, evaluation gives the value that the values' half alone
 -- gives, with the body that the check found (`eval_erased_lem`). The same of yokes, tests, assignments and yoke changes. Assumes nothing.
-use Rattle.std.specs.Prelude.{◌≡◌, Bool, true, false, ◌&&◌, List, [], ◌∷◌, map, ℕ}
+use Rattle.std.specs.Prelude.{◌≡◌, Bool, true, false, ◌&&◌, List, [], ◌∷◌, map, ℕ, if◌then◌else◌}
 use Rattle.std.proofs.Math.Path.{refl, ap}
 use Rattle.std.proofs.Common.{◌∙◌}
 use Rattle.std.proofs.Math.Bool.{beq}
 use Rattle.std.proofs.Math.Option.{Option, some, none}
 use Rattle.lingua.specs.Errors.{boolean_expected, list_expected, yoke_expected, not_filled}
-use Rattle.lingua.specs.Outcome.{ok, fail, Result, ◌>>=◌, ◌>>◌, require, or_fail, if◌then◌else◌, all_answers}
+use Rattle.lingua.specs.Outcome.{ok, fail, Result, ◌>>=◌, ◌>>◌, require, or_fail, all_answers}
 use Rattle.lingua.specs.Body.{Body, boolean, is_boolean}
 use Rattle.lingua.specs.Value.{Value, truth, as_truth, as_items, value_list, all_of, Composite, composite}
 use Rattle.lingua.specs.Operation.{unary_body, binary_body}

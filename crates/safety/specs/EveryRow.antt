@@ -1,7 +1,7 @@
 -- Every expression row of an accepted profile stands in the trees that the type check goes through, just once (`row_occurs`). So a check that
 -- passes records an entry of each row, and the layout table holds its two numbers (`row_entry`, `accepted_entry`). Carried by rule 11, from
 -- the highest row down: a row is a root, or a higher row uses it. Assumes nothing.
-use Rattle.std.specs.Prelude.{◌≡◌, Bool, ℕ, zero, suc, ◌+◌, ◌≤◌, ◌<◌, eqb}
+use Rattle.std.specs.Prelude.{◌≡◌, Bool, ℕ, zero, suc, ◌+◌, ◌≤◌, ◌<◌, eqb, if◌then◌else◌}
 use Rattle.std.proofs.Math.Path.{refl, ap}
 use Rattle.std.proofs.Common.{sym, ◌∙◌, arith}
 use Rattle.std.proofs.Math.Bool.{true, false}
@@ -9,7 +9,7 @@ use mathlib.Core.List.{List, [], ◌∷◌, map, Memᴰ}
 use Rattle.std.proofs.Math.Dec.{ltb}
 use borrow.Author.Tests.{eqb-true, ltb-true, ltb-false}
 use Rattle.lingua.specs.Numbers.{expression_section}
-use Rattle.lingua.specs.Outcome.{ok, if◌then◌else◌}
+use Rattle.lingua.specs.Outcome.{ok}
 use Rattle.lingua.specs.Typing.{Entry, joined, check_profile, layout_of}
 use Rattle.lingua.specs.Rows.{table_count}
 use Rattle.lingua.specs.Trees.{tabulate_from, tabulate, profile_of}

@@ -1,10 +1,10 @@
 -- Evaluation gives values that fit their bodies, with no assumption on types: `eval_fits`. Assumes nothing.
-use Rattle.std.specs.Prelude.{◌≡◌, Bool, true, false, List, map, ℕ}
+use Rattle.std.specs.Prelude.{◌≡◌, Bool, true, false, List, map, ℕ, if◌then◌else◌}
 use Rattle.std.proofs.Common.{ap, ◌∙◌, subst}
 use Rattle.std.specs.Bool.{beq}
 use Rattle.std.proofs.Math.Option.{some}
 use Rattle.lingua.specs.Errors.{boolean_expected, yoke_expected, not_filled}
-use Rattle.lingua.specs.Outcome.{ok, Result, ◌>>=◌, if◌then◌else◌, all_answers}
+use Rattle.lingua.specs.Outcome.{ok, Result, ◌>>=◌, all_answers}
 use Rattle.lingua.specs.Body.{Body, boolean, is_boolean}
 use Rattle.lingua.specs.Value.{Value, Fits, fit_truth, as_truth, all_of, Composite, composite}
 use Rattle.lingua.specs.Operation.{Unary, Binary, unary_body, binary_body}

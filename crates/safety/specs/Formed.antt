@@ -1,13 +1,13 @@
 -- The bodies of an accepted profile are well-formed: those of its type rows (`type_formed`), those of its own and its procedures'
 -- declarations (`scope_formed`), those of whatever its expressions give (`eval_formed`, `tree_eval_formed`). Assumes nothing.
-use Rattle.std.specs.Prelude.{◌≡◌, refl, Bool, true, false, List, [], ◌∷◌, map, eqb}
+use Rattle.std.specs.Prelude.{◌≡◌, refl, Bool, true, false, List, [], ◌∷◌, map, eqb, if◌then◌else◌}
 use Rattle.std.proofs.Common.{subst, arith}
 use Rattle.std.specs.Bool.{beq}
 use Rattle.std.proofs.Math.Option.{some}
 use Prim.Native.Nat.{ℕ, zero, suc, ◌≤◌, ◌<◌}
 use Rattle.lingua.specs.Numbers.{declaration_section, type_section, expression_section, scope_table}
 use Rattle.lingua.specs.Errors.{boolean_expected, yoke_expected, not_filled, record_expected}
-use Rattle.lingua.specs.Outcome.{ok, fail, Result, ◌>>=◌, if◌then◌else◌, all_answers}
+use Rattle.lingua.specs.Outcome.{ok, fail, Result, ◌>>=◌, all_answers}
 use Rattle.lingua.specs.Body.{Body, is_boolean}
 use Rattle.lingua.specs.WellFormed.{WellFormed, formed_boolean, formed_number, formed_word, formed_hundredths}
 use Rattle.lingua.specs.Value.{Composite, all_of}

@@ -4,7 +4,7 @@
 -- and each row is used once. Assumes nothing.
 use Rattle.std.proofs.Math.Path.{◌≡◌, refl, ap, subst}
 use Rattle.std.proofs.Common.{sym, ap₂, ◌∙◌}
-use Rattle.std.specs.Prelude.{◌≢◌, ◌⊎◌, Bool}
+use Rattle.std.specs.Prelude.{◌≢◌, ◌⊎◌, Bool, if◌then◌else◌}
 use Rattle.std.proofs.Math.Logic.{inl, inr}
 use Rattle.std.proofs.Math.Bool.{true, false}
 use mathlib.Core.List.{List, [], ◌∷◌, ◌++◌, map, append-nil, append_assoc}
@@ -14,7 +14,7 @@ use native.Mathlib.Omega.{arith}
 use Rattle.std.proofs.Math.Dec.{eqb, ltb, leb}
 use borrow.Author.Tests.{eqb-true, eqb-false, ltb-true, ltb-false, leb-true, leb-false, le-leb, lt-leb, ne_eqb}
 use Rattle.lingua.specs.Numbers.{declaration_section, expression_section, instruction_section, most_expressions, scope_table}
-use Rattle.lingua.specs.Outcome.{ok, if◌then◌else◌}
+use Rattle.lingua.specs.Outcome.{ok}
 use Rattle.lingua.specs.Expression.{Expression, Instruction}
 use Rattle.lingua.specs.Store.{Limit}
 use Rattle.lingua.specs.Run.{Declaration, Procedure, Scoped, scoped}

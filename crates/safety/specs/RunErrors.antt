@@ -1,6 +1,6 @@
 -- Outcomes that hold no type error: a value of a body, or a run error; and lists of run errors. Where an operation's half on bodies
 -- passes, applying it gives no type error, and neither do the checks of one operand alone. Assumes nothing.
-use Rattle.std.specs.Prelude.{◌≡◌, refl, Bool, not, ◌&&◌, ◌||◌, List, ℕ, suc, ◌+◌, ltb, leb, ℤ, pos, ◌+ℤ◌, ◌-ℤ◌, ◌*ℤ◌}
+use Rattle.std.specs.Prelude.{◌≡◌, refl, Bool, not, ◌&&◌, ◌||◌, List, ℕ, suc, ◌+◌, ltb, leb, ℤ, pos, ◌+ℤ◌, ◌-ℤ◌, ◌*ℤ◌, if◌then◌else◌}
 use Rattle.std.proofs.Common.{sym, ap, ◌∙◌, subst, arith, ltb-false, lt-ltb}
 use Rattle.std.proofs.Math.Bool.{true, false}
 use Rattle.std.proofs.Math.Option.{Option, some}
@@ -8,7 +8,7 @@ use Rattle.std.proofs.Math.ListN.{length}
 use Rattle.std.proofs.lemmas.Bool.{not-true}
 use Rattle.lingua.specs.Numbers.{word_length, list_places, body_cells, body_nodes, body_depth, record_attributes, parts_of_one}
 use Rattle.lingua.specs.Errors.{is_run_error, overflow, division_by_zero, list_full, word_too_long, number_expected, word_expected, list_expected, record_expected, no_such_attribute, attribute_present, not_comparable, body_too_large}
-use Rattle.lingua.specs.Outcome.{ok, fail, Result, ◌>>=◌, ◌>>◌, require, or_fail, if◌then◌else◌}
+use Rattle.lingua.specs.Outcome.{ok, fail, Result, ◌>>=◌, ◌>>◌, require, or_fail}
 use Rattle.lingua.specs.Body.{Body, boolean, record_of, Attributes, end, attribute, size, nodes, depth, count_attributes, width, too_large, is_boolean, is_quantity, is_word, is_simple, same_body, element_body, attributes_of, attribute_body, insert_attribute}
 use Rattle.lingua.specs.Value.{Value, Fits, Values, no_items, item, count_values, as_truth, as_whole, as_text, as_items, Composite, composite, in_range_of, is_count}
 use Rattle.lingua.specs.Operation.{Unary, negation, make_record, select, make-list, top, pop, remove, to-hundredths, to_number, Binary, add, subtract, multiply, divide, less, equal, glue, expand, change, push, bounded, present, unary_body, quantities_to, binary_body}

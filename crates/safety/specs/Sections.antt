@@ -1,6 +1,6 @@
 -- Where sections ascend, so do tables, and a table's rows are rows of the file in that table (`row_in_table`): of sections 1 to 5 in that
 -- section (`row_in_section`), and of procedures those that begin one and the others (`header_begins`, `variable_row`). Assumes nothing.
-use Rattle.std.specs.Prelude.{◌≡◌, ◌≢◌, Bool, true, false, List, eqb}
+use Rattle.std.specs.Prelude.{◌≡◌, ◌≢◌, Bool, true, false, List, eqb, if◌then◌else◌}
 use Rattle.std.proofs.Math.Path.{refl, ap, subst}
 use Rattle.std.proofs.Common.{sym, ◌∙◌, add-one, eqb-true, eq-eqb, ltb-true, ltb-false, leb-true, lt-ltb}
 use Prim.Native.Nat.{ℕ, zero, suc, ◌+◌, ◌-◌, ◌*◌, ◌≤◌, ◌<◌}
@@ -8,7 +8,6 @@ use native.Mathlib.Omega.{arith}
 use Rattle.std.proofs.Math.Dec.{ltb, leb}
 use Rattle.std.proofs.lemmas.Bool.{eqb-false}
 use Rattle.lingua.specs.Numbers.{procedure_section, header_table, variable_table}
-use Rattle.lingua.specs.Outcome.{if◌then◌else◌}
 use Rattle.lingua.specs.Rows.{row_count, section_at, count_below, begins_procedure, table_at, table_start, table_count, row_in}
 use Rattle.lingua.specs.Rules.{ascending}
 use Rattle.laws.specs.Tables.{table_is}

@@ -1,12 +1,12 @@
 -- A value takes at most 64 cells: where constants, variables and the current value do, so does what an expression gives, in evaluation
 -- (`eval_size`) and in the type check (`derived_size`). Assumes nothing.
-use Rattle.std.specs.Prelude.{◌≡◌, refl, Bool, true, false, List, map, ℕ, ◌≤◌, ◌<◌}
+use Rattle.std.specs.Prelude.{◌≡◌, refl, Bool, true, false, List, map, ℕ, ◌≤◌, ◌<◌, if◌then◌else◌}
 use Rattle.std.proofs.Common.{subst, arith}
 use Rattle.std.specs.Bool.{beq}
 use Rattle.std.proofs.Math.Option.{some}
 use Rattle.lingua.specs.Numbers.{expression_section, body_cells}
 use Rattle.lingua.specs.Errors.{boolean_expected, yoke_expected, not_filled}
-use Rattle.lingua.specs.Outcome.{ok, Result, ◌>>=◌, if◌then◌else◌, all_answers}
+use Rattle.lingua.specs.Outcome.{ok, Result, ◌>>=◌, all_answers}
 use Rattle.lingua.specs.Body.{Body, boolean, size, is_boolean}
 use Rattle.lingua.specs.Value.{Composite, all_of}
 use Rattle.lingua.specs.Operation.{unary_body, binary_body}

@@ -1,14 +1,14 @@
 -- The type check is sound for expressions: what it passes gives a value that fits the body it found, or a run error, and meets no type
 -- error, on any store whose filled variables fit their declared bodies and any current value that fits: `derived_sound`, `check_sound`.
 -- Assumes nothing.
-use Rattle.std.specs.Prelude.{◌≡◌, Bool, true, false, not, ℕ}
+use Rattle.std.specs.Prelude.{◌≡◌, Bool, true, false, not, ℕ, if◌then◌else◌}
 use Rattle.std.proofs.Math.Path.{refl, ap}
 use Rattle.std.proofs.Common.{sym, ◌∙◌, subst}
 use Rattle.std.specs.Bool.{beq}
 use mathlib.Core.List.{List, ◌∷◌, ◌++◌, map}
 use Rattle.std.proofs.Math.Option.{Option, some, none}
 use Rattle.lingua.specs.Errors.{is_run_error, boolean_expected, list_expected, yoke_expected, not_filled}
-use Rattle.lingua.specs.Outcome.{ok, fail, Result, ◌>>=◌, ◌>>◌, require, or_fail, if◌then◌else◌, all_answers}
+use Rattle.lingua.specs.Outcome.{ok, fail, Result, ◌>>=◌, ◌>>◌, require, or_fail, all_answers}
 use Rattle.lingua.specs.Body.{Body, boolean, is_boolean, element_body}
 use Rattle.lingua.specs.Value.{Values, Fits, fit_truth, AllFit, fit_none, fit_item, as_truth, as_items, value_list, all_of, Composite, composite}
 use Rattle.lingua.specs.Operation.{unary_body, binary_body}
