@@ -1,0 +1,12 @@
+-- `limit_low` meets its contract: an end is the number at its byte. Assumes nothing.
+use mathlib.Core.Path.{◌∙◌}
+use mir.Syntax.{w64}
+use mir.ValLaws.{to_z-of_z}
+use Rattle.lingua.specs.Rows.{low_at}
+use Rattle.lingua.specs.Trees.{limit_row}
+use borrow.Author.Rules.{rules}
+use Rattle.profile.proofs.limits.limit_low.Goals as goal
+
+pub returns : goal.returns
+unfolding limit_row low_at
+returns c = to_z-of_z w64 c.end_at.result (record { sfits = c.end_at.type_inv }) ∙ c.end_at.ensures

@@ -1,0 +1,28 @@
+use mathlib.Core.Path.{◌≡◌, refl, ap, ◌∙◌}
+use mathlib.Core.List.{List, ◌++◌}
+use Prim.Native.Nat.{ℕ, ◌-◌, ◌≤◌}
+use native.Mathlib.Omega.{arith}
+use lib.ListN.{length, set, replicate, drop, length-set}
+use Rattle.run.proofs.Filling.{fill_more, filled}
+use Rattle.run.proofs.bodies.clear_bodies.Goals as goal
+
+pub loop-i-init : goal.loop-i-init
+loop-i-init c = (omega arith, refl, refl)
+
+pub bounds-variables-i : goal.bounds-variables-i
+bounds-variables-i c = omega arith
+
+pub overflow_add-i : goal.overflow_add-i
+overflow_add-i c = omega arith
+
+pub loop-i-smaller : goal.loop-i-smaller
+loop-i-smaller c = omega arith
+
+pub loop-i-preserved : goal.loop-i-preserved
+loop-i-preserved c = (omega arith, ap (λ (l : List ℕ). set l c.loop-i.i 0) c.loop-i.invariant.1 ∙ fill_more c.loop-i.i 0 c.args.variables.now (omega arith), length-set c.loop-i.variables _ _ ∙ c.loop-i.invariant.2)
+
+pub shape_of-variables : goal.shape_of-variables
+shape_of-variables c = c.loop-i.invariant.2
+
+pub returns : goal.returns
+returns c = filled c.args.variables.now c.loop-i.variables 0 (length c.args.variables.now) c.loop-i.i c.loop-i.invariant.1 (omega arith) refl

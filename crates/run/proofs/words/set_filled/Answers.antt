@@ -1,0 +1,9 @@
+-- `set_filled` meets its contract, by what `fillAt` says. Assumes nothing.
+use mathlib.Core.Path.{refl}
+use Rattle.lingua.specs.Store.{fill_at}
+use borrow.Author.Rules.{rules}
+use Rattle.run.proofs.words.set_filled.Goals as goal
+
+pub returns : goal.returns
+unfolding fill_at
+returns c = refl
