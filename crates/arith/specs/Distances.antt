@@ -1,7 +1,7 @@
 -- How far what an operation gives is from the exact result, for all operands: a sum and a difference are exact; a product and a quotient
 -- of counts are the nearest count, and of two the further from zero; a number turned into a count and back is itself, and a count turned
 -- into a number is cut toward zero. Assumes nothing.
-use Rattle.std.specs.Prelude.{◌≡◌, refl, Bool, true, false, not, ℕ, zero, suc, ◌*◌, ◌/◌, ◌≤◌, ◌<◌, ℤ, pos, negsuc, neg_ℤ, nat_abs, ◌+ℤ◌, ◌-ℤ◌, ◌*ℤ◌}
+use Rattle.std.specs.Prelude.{◌≡◌, refl, Bool, true, false, not, ℕ, suc, ◌*◌, ◌/◌, ◌≤◌, ◌<◌, ℤ, pos, negsuc, neg_ℤ, nat_abs, ◌+ℤ◌, ◌-ℤ◌, ◌*ℤ◌}
 use Rattle.std.proofs.Common.{sym, ap, ◌∙◌, div-mul-le_self, arith}
 use Rattle.std.proofs.Math.Nat.{mul-div_cancel_left, lt-div-mul-add}
 use Rattle.std.proofs.Math.IntN.{*ℤ_comm}

@@ -10,7 +10,7 @@ use lib.ListN.{length, set, get_or}
 use lib.IntN.{ℤ, pos}
 use Rattle.lingua.specs.Numbers.{body_cells}
 use Rattle.lingua.specs.Outcome.{ok, Result}
-use Rattle.lingua.specs.Body.{Body, boolean, number, word, list_of, record_of, Attributes, size, sizes, is_hundredths, is_quantity, is_simple, attributes_of, attribute_body, attribute_offset, insert_attribute}
+use Rattle.lingua.specs.Body.{Body, boolean, word, list_of, record_of, Attributes, size, sizes, is_hundredths, is_quantity, is_simple, attributes_of, attribute_body, attribute_offset, insert_attribute}
 use Rattle.lingua.specs.Value.{Value, Fits, fit_whole, fit_hundredths, in_range_of, quantity, quantity_body, as_whole}
 use Rattle.lingua.specs.Operation.{Binary, less, equal, glue, expand, change, push, present, binary_body}
 use Rattle.lingua.specs.Compute.{binary_value}

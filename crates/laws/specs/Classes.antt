@@ -1,7 +1,7 @@
 -- The two classes of error numbers: no number is in both, and those of either are the numbers from 1 on below an end. Assumes nothing.
-use Rattle.std.specs.Prelude.{◌≡◌, refl, Bool, true, false, not, ◌&&◌, ◌||◌, List, [], ◌∷◌, ℕ, zero, suc, ◌≤◌, ◌<◌, eqb, leb, ltb}
+use Rattle.std.specs.Prelude.{◌≡◌, refl, Bool, true, false, not, ◌&&◌, ◌||◌, List, [], ◌∷◌, ℕ, zero, suc, ◌<◌, eqb, leb, ltb}
 use Rattle.std.proofs.Math.Path.{sym}
-use Rattle.std.proofs.Common.{ap, ap₂, ◌∙◌, subst, ⊎_elim, arith, eqb-true, ltb-true, ne_eqb, le-leb, lt-ltb, le-ltb}
+use Rattle.std.proofs.Common.{ap, ◌∙◌, subst, ⊎_elim, arith, eqb-true, ltb-true, ne_eqb, le-leb, lt-ltb, le-ltb}
 use Rattle.std.proofs.Math.Bool.{and-true, and-false}
 use Rattle.std.proofs.lemmas.Bool.{not-true}
 use Rattle.lingua.specs.Errors.{overflow, division_by_zero, yoke_not_satisfied, list_empty, list_full, word_too_long, not_filled, too_deep, run_errors, type_errors, is_among, is_run_error, is_type_error, is_error, error_numbers}

@@ -1,5 +1,5 @@
 -- Two values that fit one body and have the same cells are the same value. Carried by an induction over what fits, with
--- `packed-injective` for words and the lengths of cells for lists and records. Assumes nothing.
+-- `packed_injective` for words and the lengths of cells for lists and records. Assumes nothing.
 use Rattle.std.specs.Prelude.{◌≡◌, refl, Bool, true, false, List, ℕ, ◌*◌, length, ℤ, pos}
 use Rattle.std.proofs.Common.{sym, ap, ap₂, ◌∙◌, arith}
 use Rattle.lingua.specs.Numbers.{word_length}

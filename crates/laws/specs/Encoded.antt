@@ -4,7 +4,7 @@ use Rattle.std.proofs.Common.{arith, length-append}
 use Rattle.std.proofs.lemmas.List.{length-replicate}
 use Rattle.lingua.specs.Numbers.{body_nodes, body_bytes}
 use Rattle.lingua.specs.Body.{Body, boolean, number, word, hundredths, list_of, record_of, Attributes, end, attribute, nodes, attribute_nodes}
-use Rattle.lingua.specs.Value.{pad, count}
+use Rattle.lingua.specs.Value.{pad}
 use Rattle.lingua.specs.Encode.{bytes, attribute_bytes, encoded}
 
 -- a node brings its tag, a count if it is a record, and a number if it is an attribute's: the root is no attribute's

@@ -1,4 +1,4 @@
--- `sameValue` tells whether two values of one simple body are equal. Assumes nothing.
+-- `same_value` tells whether two values of one simple body are equal. Assumes nothing.
 use Rattle.std.specs.Prelude.{◌≡◌, refl, Bool, true, false, List, [], ◌∷◌, ℕ, eqb, ℤ, pos, negsuc}
 use Rattle.std.proofs.Common.{ap, ap₂, eqb-true, eq-eqb}
 use Rattle.std.specs.Bool.{beq}

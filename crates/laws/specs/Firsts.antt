@@ -1,4 +1,4 @@
--- The first number below a bound that has a property (`firstBelow`, 1 more than it, and 0 where there is none): what holds it, and that no
+-- The first number below a bound that has a property (`first_below`, 1 more than it, and 0 where there is none): what holds it, and that no
 -- other is nearer. Assumes nothing.
 use Rattle.std.specs.Prelude.{◌≡◌, ◌⊎◌, Bool}
 use Rattle.std.proofs.Math.Path.{refl, subst}

@@ -1,5 +1,5 @@
--- Operations make well-formed bodies of well-formed bodies, where the attributes that they name are numbered below 64: `unary-formed`,
--- `binary-formed`. Assumes nothing.
+-- Operations make well-formed bodies of well-formed bodies, where the attributes that they name are numbered below 64: `unary_formed`,
+-- `binary_formed`. Assumes nothing.
 use Rattle.std.specs.Prelude.{◌≡◌, refl, Bool, true, false, [], ◌∷◌, ℕ, suc, ◌≤◌, ◌<◌, eqb, ltb}
 use Rattle.std.proofs.Common.{sym, subst, ◌∙◌, arith, ltb-true, ltb-false}
 use Rattle.std.proofs.Math.Option.{some}

@@ -1,15 +1,14 @@
 -- The open calls as lent memory: where each call's cells, state words and present bodies lie, behind each other, the oldest first, and how long
 -- they are. Carried by the laws of lists that are made of parts of one length. Assumes nothing.
-use Rattle.std.specs.Prelude.{◌≡◌, refl, List, [], ◌∷◌, ◌++◌, ◌⊎◌, ℕ, zero, suc, ◌+◌, ◌-◌, ◌*◌, ◌≤◌, ◌<◌, length, get_or, take, drop, replicate, ℤ, pos}
-use Rattle.std.proofs.Common.{sym, ap, ◌∙◌, inl, inr, mul-suc, arith, length-append, take_at, drop_at, drop-drop}
-use Rattle.std.proofs.lemmas.List.{length-replicate}
+use Rattle.std.specs.Prelude.{◌≡◌, refl, List, [], ◌∷◌, ◌++◌, ℕ, suc, ◌+◌, ◌-◌, ◌*◌, ◌≤◌, ◌<◌, length, get_or, take, drop, replicate, ℤ, pos}
+use Rattle.std.proofs.Common.{sym, ap, ◌∙◌, mul-suc, arith, take_at, drop_at, drop-drop}
 use Rattle.std.proofs.Math.ListN.{get_or-eq_default}
-use Rattle.lingua.specs.Numbers.{most_variables, body_cells, body_bytes, cells_length, state_words, states_length, variable_bodies_length, most_calls, open_cells_length, open_states_length, open_bodies_length}
+use Rattle.lingua.specs.Numbers.{most_variables, body_cells, body_bytes, cells_length, state_words, states_length, variable_bodies_length, open_cells_length, open_states_length, open_bodies_length}
 use Rattle.lingua.specs.Value.{pad}
 use Rattle.lingua.specs.Store.{Variable, words_of_state, store_cells, store_states, store_bodies, cells_in, states_in, bodies_in, call_cells, call_states, call_bodies, open_cells_in, open_states_in, present_in, flag_at}
 use Rattle.laws.specs.Lists.{length_pad}
 use Rattle.laws.specs.Parts.{pad_get}
-use Rattle.laws.specs.Every.{Every, every_none, every_more, every_implies}
+use Rattle.laws.specs.Every.{Every, every_implies}
 use Rattle.laws.specs.Stores.{parts, Sized, length_parts, part_at, variable_cells, store_cells_parts, store_states_parts, Small, small_sized, states_sized}
 use Rattle.laws.specs.Presents.{variable_bytes, store_bodies_parts, Compact, bodies_sized}
 

@@ -1,6 +1,6 @@
 -- Each procedure that is begun has one row that begins it, and its variables stand behind that row. Carried by counting one row more at a
 -- time. Assumes nothing.
-use Rattle.std.specs.Prelude.{◌≡◌, Bool, false, ◌&&◌, List, ◌⊎◌, length}
+use Rattle.std.specs.Prelude.{◌≡◌, Bool, false, List, ◌⊎◌, length}
 use Rattle.std.proofs.Math.Path.{refl, sym, ap}
 use Rattle.std.proofs.Common.{◌∙◌, inl, inr, ⊎_elim}
 use Rattle.std.proofs.Math.Bool.{true}

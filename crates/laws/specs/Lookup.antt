@@ -1,11 +1,11 @@
 -- What the search for a variable by its name finds, and how many declarations it looks at: the first that has the name, with it and all before
--- it, or none, with all (`lookup-tells`). Assumes nothing.
+-- it, or none, with all (`lookup_tells`). Assumes nothing.
 use Rattle.std.specs.Prelude.{◌≡◌, Bool, List}
 use Rattle.std.proofs.Math.Path.{refl, ap, subst}
 use Rattle.std.proofs.Common.{sym, ◌∙◌, ⊎_elim, add-one}
 use Rattle.std.proofs.Math.Bool.{true, false}
 use Rattle.std.proofs.Math.Option.{Option, some, none}
-use Prim.Native.Nat.{ℕ, zero, suc, ◌+◌, ◌-◌, ◌≤◌, ◌<◌}
+use Prim.Native.Nat.{ℕ, zero, suc, ◌+◌, ◌-◌, ◌<◌}
 use native.Mathlib.Omega.{arith}
 use Rattle.lingua.specs.Numbers.{declaration_section}
 use Rattle.lingua.specs.Outcome.{if◌then◌else◌}

@@ -1,5 +1,5 @@
 -- The rows that a row's tree has: the row itself, and with each row those that it names. So what holds of the root, and with a row of
--- those that it names, holds of all (`step-closed`, `term-closed`, `used-closed`), and each row but the root is named by one of them.
+-- those that it names, holds of all (`step_closed`, `term_closed`, `used_closed`), and each row but the root is named by one of them.
 -- Carried by a tree's root: the tree's rows are the root and those of the trees of the rows that it names. Assumes nothing.
 use Rattle.std.specs.Prelude.{◌≡◌, refl, ◌⊎◌, Bool, true, false, ℕ, zero, suc, ◌≤◌, ◌<◌, pred, ltb}
 use Rattle.std.proofs.Common.{sym, ◌∙◌, subst, inl, inr, ⊎_elim, arith, ltb-true, lt-ltb}

@@ -3,7 +3,7 @@ use Rattle.std.specs.Prelude.{◌≡◌, refl, Bool, true, false, ℕ, suc, ◌+
 use Rattle.std.proofs.Common.{ap, arith}
 use Rattle.std.proofs.Math.Option.{some}
 use Rattle.lingua.specs.Outcome.{if◌then◌else◌}
-use Rattle.lingua.specs.Body.{Body, Attributes, end, attribute, size, sizes, nodes, attribute_nodes, depth, attribute_depth, count_attributes, attribute_body, remove_attribute}
+use Rattle.lingua.specs.Body.{Body, Attributes, end, attribute, size, sizes, nodes, attribute_nodes, attribute_depth, count_attributes, attribute_body, remove_attribute}
 use Rattle.laws.specs.Outcomes.{none_is_some, some_same}
 
 -- gs are the attributes fs without one of body d

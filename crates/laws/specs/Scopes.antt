@@ -1,5 +1,5 @@
 -- Whose variables a row names: 1 + the first procedure whose body leads to it. What a body that leads to the row holds, and is no further
--- than any such body, is the row's scope (`step-scope`, `use-scope`). Assumes nothing.
+-- than any such body, is the row's scope (`step_scope`, `use_scope`). Assumes nothing.
 use Rattle.std.specs.Prelude.{◌≡◌, ℕ, suc, ◌≤◌, ◌<◌}
 use mathlib.Core.List.{List, Memᴰ as In}
 use Rattle.lingua.specs.Errors.{is_among}

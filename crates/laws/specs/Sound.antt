@@ -1,6 +1,6 @@
 -- The two halves of an operation agree: where the bodies' half gives a body and the values' half a value, the value fits the
--- body. `unary-sound` and `binary-sound` say so of every operation. Assumes nothing.
-use Rattle.std.specs.Prelude.{◌≡◌, refl, Bool, true, false, not, List, ◌++◌, ℕ, zero, suc, ◌+◌, ◌*◌, ◌/◌, ◌≤◌, leb, ltb, length, ℤ, pos, negsuc, neg_ℤ, ◌+ℤ◌, ◌-ℤ◌, ◌*ℤ◌}
+-- body. `unary_sound` and `binary_sound` say so of every operation. Assumes nothing.
+use Rattle.std.specs.Prelude.{◌≡◌, refl, Bool, true, false, not, List, ◌++◌, ℕ, zero, suc, ◌+◌, ◌/◌, ◌≤◌, leb, ltb, length, ℤ, pos, negsuc, neg_ℤ, ◌+ℤ◌, ◌-ℤ◌, ◌*ℤ◌}
 use Rattle.std.proofs.Common.{sym, subst, ◌∙◌, div-le_self, arith, leb-true, le-leb, ltb-true}
 use Rattle.std.specs.Int.Signed.{le_z}
 use Rattle.lingua.specs.Numbers.{lowest_number, highest_number, parts_of_one, word_length, list_places}

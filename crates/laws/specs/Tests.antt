@@ -1,7 +1,7 @@
 -- Laws of the tests that the rules are made of: texts that are equal, a property of every number below a
 -- bound, and bytes that are all zero. Assumes nothing.
 use Rattle.std.specs.Prelude.{◌≡◌, refl, Bool, true, false, List, [], ◌∷◌, ◌⊎◌, ℕ, zero, suc, ◌+◌, ◌≤◌, ◌<◌, eqb, ltb, length, get_or, take}
-use Rattle.std.proofs.Common.{sym, ap, ap₂, ◌∙◌, subst, inl, inr, ⊎_elim, add-one, arith, take_all, get_or-take, length-take-le, ext_get_or, eqb-true, eq-eqb, ltb-true, ltb-false}
+use Rattle.std.proofs.Common.{sym, ap, ◌∙◌, subst, inl, inr, ⊎_elim, add-one, arith, take_all, get_or-take, length-take-le, ext_get_or, eqb-true, eq-eqb, ltb-true, ltb-false}
 use Rattle.lingua.specs.Value.{all_of}
 use Rattle.lingua.specs.Compute.{same_text}
 use Rattle.lingua.specs.Format.{every_below, all_zero}

@@ -1,5 +1,5 @@
 -- The run without bodies (document 01: chair run), on values: the values' half of evaluation, yokes, tests, stores and instructions, with no
--- check on bodies. Where the type check passed, it is the run (`accepted-erased` in crate safety). Assumes nothing: these are definitions.
+-- check on bodies. Where the type check passed, it is the run (`accepted_erased` in crate safety). Assumes nothing: these are definitions.
 use Rattle.std.specs.Prelude.{Bool, true, false, ◌&&◌, List, [], ◌∷◌, map, ℕ, suc, ◌+◌, eqb, set}
 use Rattle.std.specs.Bool.{beq}
 use Rattle.std.proofs.Math.Option.{Option, some, none}

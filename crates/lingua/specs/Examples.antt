@@ -11,7 +11,7 @@ use Rattle.lingua.specs.Operation.{negation, make_record, select, pop, remove, a
 use Rattle.lingua.specs.Expression.{conjunction, Expression, constant, variable, current, unary, binary, lazy, choice, all_list, Yoke, always, yoke, Instruction, skip, assign, set_yoke, sequence, loop, handle}
 use Rattle.lingua.specs.Evaluation.{boolean_of, apply_unary, apply_binary, no_current}
 use Rattle.lingua.specs.Store.{Reading, cells_in, states_in, bodies_in}
-use Rattle.lingua.specs.Run.{Declaration, Procedure, Scoped, scoped, Profile, run, last_state, open_calls}
+use Rattle.lingua.specs.Run.{Declaration, scoped, Profile, run, last_state}
 use Rattle.lingua.specs.Typing.{type_error, Typed, Finding, fault, Bodies, check, check_yoke, check_test, check_profile, layout_of}
 use Rattle.lingua.specs.Meets.{met, run_met}
 use Rattle.lingua.specs.Lookup.{lookup, look_up}

@@ -8,7 +8,7 @@ use Rattle.std.proofs.Math.Option.{Option, some, none}
 use Rattle.lingua.specs.Numbers.{record_attributes, list_places, most_calls}
 use Rattle.lingua.specs.Errors.{no_error, overflow, division_by_zero, yoke_not_satisfied, list_full, not_filled, too_deep, number_expected, boolean_expected, word_expected, list_expected, record_expected, no_such_attribute, attribute_present, no_coherence, yoke_expected, not_comparable, body_too_large}
 use Rattle.lingua.specs.Outcome.{ok, fail, Result, require, or_fail, ◌>>=◌, ◌>>◌}
-use Rattle.lingua.specs.Body.{Body, same_body, coherent, is_quantity, is_word, is_simple, element_body, attributes_of, attribute_body, count_attributes}
+use Rattle.lingua.specs.Body.{Body, coherent, is_quantity, is_word, is_simple, element_body, attributes_of, attribute_body, count_attributes}
 use Rattle.lingua.specs.Value.{as_whole, as_items, count_values, in_range_of, Composite}
 use Rattle.lingua.specs.Operation.{Binary, add, subtract, multiply, divide, less, equal, glue, expand, change, push, present}
 use Rattle.lingua.specs.Compute.{same_number}

@@ -14,7 +14,7 @@ use Rattle.lingua.specs.Format.{File, profile, limits, mixed, check_over, block_
 use Rattle.lingua.specs.Inputs.{Inputs, inputs, Buffers, buffers}
 use Rattle.lingua.specs.Refusal.{Rule, rule, lowest, file_rules, row_rules, whole_file_rules, limit_wrong, pair_rules, reading_wrong, read_refusal, find_refusal, type_check_refusal, run_fits, run_rules, checked_refusal, erased_refusal}
 use Rattle.lingua.specs.Answers.{Answer}
-use Rattle.lingua.specs.Calls.{find_unless, find_call, TypeCheckCall, type_check_unless, type_check_call, CheckedCall, checked_unless, checked_call, ErasedCall, erased_unless, erased_call}
+use Rattle.lingua.specs.Calls.{find_unless, find_call, type_check_unless, type_check_call, CheckedCall, checked_unless, checked_call, ErasedCall, erased_unless, erased_call}
 use Rattle.lingua.specs.Report.{report_unless, report_text}
 
 -- ---- one pass

@@ -11,7 +11,7 @@ use Rattle.lingua.specs.Compute.{same_text}
 use Rattle.lingua.specs.Expression.{Expression, constant, variable, current, unary, binary, lazy, choice, all_list, Yoke, always, yoke, Instruction, skip, assign, set_yoke, sequence, branch, loop, handle, call}
 use Rattle.lingua.specs.Evaluation.{no_current}
 use Rattle.lingua.specs.Store.{Limit}
-use Rattle.lingua.specs.Run.{Declaration, Procedure, Scoped, scoped, Profile}
+use Rattle.lingua.specs.Run.{Declaration, Procedure, scoped, Profile}
 use Rattle.lingua.specs.Rows.{a_at, b_at, low_at, high_at, bytes_at, table_count, pair_count, name_row, detail_row, procedure_count, body_row, value_count, reference_count, groups, TypeRow, simple_type, list_type, record_type, expand_type, unknown_type, type_row, constant_value, ExpressionRow, constant_row, variable_row, current_row, unary_row, binary_row, lazy_row, choice_row, all_list_row, unknown_expression, expression_row, InstructionRow, skip_row, assign_row, set_yoke_row, sequence_row, branch_row, loop_row, handle_row, call_row, unknown_instruction, instruction_row}
 
 -- f at 0 to n - 1

@@ -153,7 +153,7 @@ lowest_fault [] = none
 lowest_fault (e ∷ es) = lower (some e) (lowest_fault es)
 
 -- of a declaration or an instruction: the fault of its expression's lowest row at fault; else, where the expression's body does not suit
--- it, its own. It names its own also where there is neither a body nor a fault, which never is (`some-fault` in crate safety)
+-- it, its own. It names its own also where there is neither a body nor a fault, which never is (`some_fault` in crate safety)
 unfoldable pub judged : Finding Typed → (Body → Bool) → TypeError → Outcome TypeError (List Entry)
 judged (ok x) suits own = do
   require (suits x.body) own

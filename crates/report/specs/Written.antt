@@ -9,3 +9,7 @@ most_text = 22778
 pub record Written (out : List ℕ) (n : ℕ) (text : List ℕ) : Type 0 where
   pub within : n ≤ length out
   pub is : take n out ≡ text
+
+-- a count of bytes at the start of a buffer; the second part follows from the first, and is stated for whoever lends those bytes on
+abbrev pub IsPrefixLength : ℕ → List ℕ → Type 0
+IsPrefixLength n buffer = (n ≤ length buffer) × (n ≡ length (take n buffer))

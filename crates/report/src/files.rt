@@ -1,30 +1,32 @@
 // A file's bytes.
-ghost use Rattle.io.specs.Counts.{IsPrefixLen};
+ghost use Rattle.report.specs.Written.{IsPrefixLength};
+
+use std::fs::File;
+use std::io::Read;
+use std::rt::Files;
 
 // Reads a file from its start, up to the buffer's length, and answers how many bytes it has; a file that is missing or
 // that a read fails on counts as empty. A buffer that comes back full says that the file is that long or longer.
-pub(crate) fn read_file(path: &[u8], buffer: &mut [u8]) -> usize
-    ensures { IsPrefixLen result buffer.new }
+pub(crate) fn read_file<R: Files>(files: &R, path: &str, buffer: &mut [u8]) -> usize
+    ensures { IsPrefixLength result buffer.new }
 {
-    let file = os::open_read(path);
-    if file < 0 {
-        return 0;
+    match File::open(files, path) {
+        Ok(mut file) => read_all(&mut file, buffer),
+        Err(_) => 0,
     }
-    let count = io::read_full(file, buffer);
-    let ended = at_end(file);
-    libc::close(file);
-    if ended {
-        return count;
-    }
-    if count == buffer.len() {
-        return count;
-    }
-    0
 }
 
-// Whether nothing is left: `read_full` stops at a read that fails as it does at the end.
-fn at_end(file: i32) -> bool {
-    let mut more = [0u8; 1];
-    let got = libc::read(file, &mut more);
-    got == 0
+// Reads until the buffer is full or the input ends; none of it counts where a read fails before.
+fn read_all<F: Read>(file: &mut F, buffer: &mut [u8]) -> usize
+    ensures { IsPrefixLength result buffer.new }
+{
+    let mut count = 0;
+    while count < buffer.len() {
+        match file.read(&mut buffer[count..]) {
+            Ok(0) => return count,
+            Ok(got) => count += got,
+            Err(_) => return 0,
+        }
+    }
+    count
 }

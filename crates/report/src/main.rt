@@ -7,16 +7,17 @@ mod lines; // lines.rt: the variables' lines, from the memory that a run leaves
 mod report; // report.rt: the whole report
 mod variables; // variables.rt: the variables' lines of two files
 
-use libc::STDOUT_FILENO;
 use lingua::sizes::LONGEST_FILE;
+use std::io;
+use std::io::Write;
 
 // A profile has at most 11,264 bytes, so a file that fills a buffer is refused for its length, as it would be whole.
-fn main() {
+fn main(rt: HostRuntime) -> io::Result<()> {
     let mut profile = [0u8; LONGEST_FILE + 1];
     let mut limits = [0u8; LONGEST_FILE + 1];
-    let p = files::read_file(b"clinic.prf", &mut profile);
-    let l = files::read_file(b"motor.lim", &mut limits);
+    let p = files::read_file(&rt, "clinic.prf", &mut profile);
+    let l = files::read_file(&rt, "motor.lim", &mut limits);
     let mut out = [0u8; 22778];
     let n = report::report_text(&profile[..p], &limits[..l], &mut out);
-    io::write_all(STDOUT_FILENO, &out[..n]);
+    io::writer(&rt).write_all(&out[..n])
 }

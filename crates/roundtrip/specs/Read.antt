@@ -1,6 +1,6 @@
 -- A file that rules 2 to 5 accept, written again from its rows: the number of blocks, each block, and so the file are the same.
 -- Carried by rule 4, by which the last block of a profile has a row. Assumes nothing.
-use Rattle.std.specs.Prelude.{◌≡◌, refl, true, false, not, ◌&&◌, ◌⊎◌, length, drop}
+use Rattle.std.specs.Prelude.{◌≡◌, refl, true, false, not, ◌&&◌, length, drop}
 use Rattle.std.proofs.Math.Path.{sym, ap, ap₂}
 use Rattle.std.proofs.Common.{◌∙◌, add-one, drop_of_length-le, take-add, drop-cons, ext_get_or}
 use Rattle.std.proofs.Math.Bool.{Bool}

@@ -1,7 +1,7 @@
 -- The two round trips, for both kinds of file and over all inputs: rows that are accepted and written read back as the same rows and
 -- model, and an accepted file's rows written again give the same bytes. Each is stated of the refusals and of the public calls.
 -- Assumes nothing.
-use Rattle.std.specs.Prelude.{◌≡◌, refl, Bool, not, ◌&&◌, List, ℕ, zero, suc, ◌-◌, ◌*◌, ◌/◌, ◌%◌, ◌<◌, eqb, length, get_or, take}
+use Rattle.std.specs.Prelude.{◌≡◌, refl, Bool, not, ◌&&◌, List, ℕ, zero, suc, ◌*◌, ◌/◌, ◌%◌, ◌<◌, eqb, length, get_or, take}
 use Rattle.std.proofs.Common.{sym, ap, ap₂, ◌∙◌, arith, take_at, eqb-true, eq-eqb}
 use Rattle.std.proofs.lemmas.Bool.{not-false}
 use Rattle.lingua.specs.Numbers.{row_bytes, rows_length}
@@ -10,7 +10,7 @@ use Rattle.lingua.specs.Value.{pad}
 use Rattle.lingua.specs.Rows.{row_count}
 use Rattle.lingua.specs.Format.{File, file_length, file_of, rows_of, model_of, length_wrong, marker_wrong, header_wrong, block_check_wrong}
 use Rattle.lingua.specs.Refusal.{lowest, file_rules, row_rules, whole_file_rules, read_refusal, write_refusal}
-use Rattle.lingua.specs.Answers.{Answer, refused, answered, RowsRead}
+use Rattle.lingua.specs.Answers.{Answer, answered, RowsRead}
 use Rattle.lingua.specs.Calls.{ReadCall, read_unless, read_call, WriteCall, write_unless, write_call}
 use Rattle.laws.specs.Outcomes.{and_left, and_both}
 use Rattle.laws.specs.Refusals.{lowest_skip, lowest_none}

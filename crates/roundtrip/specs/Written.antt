@@ -1,6 +1,6 @@
 -- A file that was written from accepted rows: what its blocks hold, that rules 2 to 5 accept it, and that its rows and its model are
 -- those that were written. Assumes nothing.
-use Rattle.std.specs.Prelude.{◌≡◌, refl, Bool, true, false, ◌&&◌, ◌⊎◌, leb, drop}
+use Rattle.std.specs.Prelude.{◌≡◌, refl, Bool, true, false, ◌&&◌, leb, drop}
 use Rattle.std.proofs.Math.Path.{sym, ap, ap₂}
 use Rattle.std.proofs.Common.{◌∙◌, ⊎_elim, add-zero, length-take-le}
 use Rattle.std.proofs.Math.Bool.{not}

@@ -78,7 +78,7 @@ fn constant_fits_at(rows: &[u8], t: Table, r: usize) -> bool
 
 fn types_fit(rows: &[u8], t: Table) -> bool
     requires { IsTable rows.now type_section t }
-    ensures* { λ r. ⌜ r ≡ every_below (table_count rows.now type_section) (λ r. attributes_fit (type_attributes (type_row rows.now r))) ⌝ }
+    ensures { result ≡ every_below (table_count rows.now type_section) (λ r. attributes_fit (type_attributes (type_row rows.now r))) }
 {
     let count = t.count;
     let mut r = 0;
@@ -93,7 +93,7 @@ fn types_fit(rows: &[u8], t: Table) -> bool
 
 fn expressions_fit(rows: &[u8], t: Table) -> bool
     requires { IsTable rows.now expression_section t }
-    ensures* { λ r. ⌜ r ≡ every_below (table_count rows.now expression_section) (λ r. row_constant_fits (expression_row rows.now r) && attributes_fit (expression_attributes (expression_row rows.now r))) ⌝ }
+    ensures { result ≡ every_below (table_count rows.now expression_section) (λ r. row_constant_fits (expression_row rows.now r) && attributes_fit (expression_attributes (expression_row rows.now r))) }
 {
     let count = t.count;
     let mut r = 0;
@@ -111,7 +111,7 @@ fn expressions_fit(rows: &[u8], t: Table) -> bool
 
 fn handlers_fit(rows: &[u8], t: Table) -> bool
     requires { IsTable rows.now instruction_section t }
-    ensures* { λ r. ⌜ r ≡ every_below (table_count rows.now instruction_section) (λ r. all_of is_error (handled_errors (instruction_row rows.now r))) ⌝ }
+    ensures { result ≡ every_below (table_count rows.now instruction_section) (λ r. all_of is_error (handled_errors (instruction_row rows.now r))) }
 {
     let count = t.count;
     let mut r = 0;

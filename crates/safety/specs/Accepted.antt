@@ -1,6 +1,6 @@
 -- What acceptance shows of a profile: no rule applies to its rows, so in every scope its constants fit, its yokes read no variable, its
 -- declared bodies are those of its type rows, and its program and bodies are the trees of instruction rows. So the invariant of runs holds
--- of every accepted pair of files: `accepted-invariant`. A scope is 0 for the profile, and 1 + k for procedure k. Assumes nothing.
+-- of every accepted pair of files: `accepted_invariant`. A scope is 0 for the profile, and 1 + k for procedure k. Assumes nothing.
 use Rattle.std.specs.Prelude.{◌≡◌, Bool, false, ◌&&◌, List, [], ◌∷◌, ◌++◌, length}
 use Rattle.std.proofs.Math.Path.{refl}
 use Rattle.std.proofs.Common.{sym, ap, ◌∙◌, subst, ⊎_elim, arith}
@@ -13,7 +13,7 @@ use Rattle.lingua.specs.Numbers.{word_length, most_variables, most_types, most_e
 use Rattle.lingua.specs.Errors.{is_error}
 use Rattle.lingua.specs.Outcome.{ok, fail, Result, is_ok, if◌then◌else◌}
 use Rattle.lingua.specs.Body.{Body, size}
-use Rattle.lingua.specs.Value.{whole, fit_truth, fit_whole, fit_text, is_character, all_of, is_text, Composite, fit_hundredths}
+use Rattle.lingua.specs.Value.{fit_truth, fit_whole, fit_text, is_character, all_of, is_text, Composite, fit_hundredths}
 use Rattle.lingua.specs.Expression.{Instruction, skip}
 use Rattle.lingua.specs.Store.{Reading, contents, variable_at}
 use Rattle.lingua.specs.Run.{scope_program, run, last_state, open_calls}

@@ -1,5 +1,5 @@
 -- What the type check finds, as a relation: an expression has a body, on a current value's body, with a property at the entry of each of
--- its rows. Whatever holds of all entries that the check records is the property at each row: `check-derives`. So the entry of each row,
+-- its rows. Whatever holds of all entries that the check records is the property at each row: `check_derives`. So the entry of each row,
 -- its place in the layout table, and the bodies of its operands are known at once. Assumes nothing.
 use Rattle.std.specs.Prelude.{◌≡◌, refl, true, false, ◌||◌, ℕ}
 use mathlib.Core.List.{List, [], ◌∷◌, ◌++◌, Memᴰ}

@@ -1,5 +1,5 @@
 -- The rows of the entries that the type check records are the rows of the trees that it goes through, in order of evaluation:
--- `entries-rows`. Assumes nothing.
+-- `entries_rows`. Assumes nothing.
 use Rattle.std.specs.Prelude.{◌≡◌, refl, List, [], ◌∷◌, ◌++◌, map, ℕ, suc, ◌+◌}
 use Rattle.std.proofs.Common.{sym, ap, ap₂, ◌∙◌, subst}
 use Rattle.lingua.specs.Numbers.{declaration_place}

@@ -1,5 +1,5 @@
 -- The run without bodies (document 01: chair run), on values: it asks no check on bodies. Where the type check passed, it is the run, state
--- by state, at every budget and for readings of number variables: `run-erased`, `accepted-erased`. Assumes nothing.
+-- by state, at every budget and for readings of number variables: `run_erased_lem`, `accepted_erased`. Assumes nothing.
 use Rattle.std.specs.Prelude.{◌≡◌, Bool, length, set}
 use Rattle.std.proofs.Math.Path.{refl, sym, ap}
 use Rattle.std.proofs.Common.{◌∙◌}
@@ -11,12 +11,12 @@ use Rattle.std.proofs.Math.Dec.{eqb}
 use Rattle.lingua.specs.Numbers.{reading_place, most_calls}
 use Rattle.lingua.specs.Errors.{no_error, overflow, not_filled}
 use Rattle.lingua.specs.Outcome.{ok, fail, Result, ◌>>=◌, ◌>>◌, require, or_fail}
-use Rattle.lingua.specs.Body.{Body, number, same_body}
-use Rattle.lingua.specs.Value.{Value, truth, whole, Composite, composite, in_range_of, quantity}
-use Rattle.lingua.specs.Expression.{Expression, Yoke, Instruction, skip, assign, set_yoke, sequence, branch, loop, handle, call}
+use Rattle.lingua.specs.Body.{Body, same_body}
+use Rattle.lingua.specs.Value.{Value, truth, Composite, composite, in_range_of, quantity}
+use Rattle.lingua.specs.Expression.{Expression, Instruction, skip, assign, set_yoke, sequence, branch, loop, handle, call}
 use Rattle.lingua.specs.Evaluation.{eval, eval_test, no_current}
-use Rattle.lingua.specs.Store.{Variable, variable_at, contents, with_content, with_yoke, assigned, Assigning, copied, copied_in, Reading, reading_taken, counts_hundredths}
-use Rattle.lingua.specs.Run.{State, Progress, going, out, with_store, with_left, with_error, settled, proceed, step_with, step, unless_error, act, decided, handled, repeat, Calling, exec, Declaration, Procedure, procedure_at, begun, clean_only, copied_out, carried, returned, opened, called, Profile, scope_declarations, scope_program, started, taken_unless, take_readings, run, last_state}
+use Rattle.lingua.specs.Store.{Variable, variable_at, contents, with_content, assigned, copied, copied_in, Reading, reading_taken, counts_hundredths}
+use Rattle.lingua.specs.Run.{State, Progress, going, out, with_store, with_left, with_error, settled, proceed, step_with, step, unless_error, act, decided, handled, repeat, Calling, exec, Declaration, procedure_at, begun, clean_only, copied_out, carried, returned, opened, called, Profile, scope_declarations, scope_program, started, taken_unless, take_readings, run, last_state}
 use Rattle.lingua.specs.Typing.{Entry, no_current_body, given_fit, bodies_of, scope_bodies, check_profile}
 use Rattle.lingua.specs.Erased.{values_of, eval_erased, test_erased, admitted_erased, assigned_erased, changed_erased, copy_erased, exec_erased, reading_erased, taken_erased, readings_erased, run_erased}
 use Rattle.lingua.specs.Trees.{profile_of}
@@ -25,7 +25,7 @@ use Rattle.lingua.specs.Refusal.{lowest, pair_rules, is_quantity_variable}
 use Rattle.laws.specs.Outcomes.{and_left, and_right, same_body_lem}
 use Rattle.safety.specs.Every.{Every, every_more, every_implies}
 use Rattle.safety.specs.Everywhere.{Everywhere, at_assign, at_set_yoke, at_sequence, at_branch, at_loop, at_handle, at_call}
-use Rattle.safety.specs.Runs.{Stable, Family, Pairwise, Passes, KeepsCall, Keeps, Done, CallsKeep, settled_keeps, exec_keeps, copies_in_keep, called_keeps, taken_keeps}
+use Rattle.safety.specs.Runs.{Stable, Passes, Keeps, Done, CallsKeep, settled_keeps, exec_keeps, copies_in_keep, called_keeps, taken_keeps}
 use Rattle.safety.specs.Invariant.{WellMadeProfile}
 use Rattle.safety.specs.Derivation.{anything, Derived, DerivedRow}
 use Rattle.safety.specs.TypeSound.{VariablesFit}

@@ -11,7 +11,7 @@ use Rattle.lingua.specs.Body.{Body, boolean, coherent, is_boolean}
 use Rattle.lingua.specs.Value.{Value, truth, as_truth, as_whole, Composite}
 use Rattle.lingua.specs.Expression.{Expression, Yoke, always, yoke}
 use Rattle.lingua.specs.Evaluation.{eval_yoke, eval_test, truth_or, no_current}
-use Rattle.lingua.specs.Store.{Limit, Variable, variable_at, present_body, contents, with_content, with_yoke, within, admitted, assigned, yoke_holds, yoke_changed}
+use Rattle.lingua.specs.Store.{Variable, variable_at, present_body, contents, with_content, with_yoke, within, admitted, assigned, yoke_holds, yoke_changed}
 use Rattle.lingua.specs.Run.{Declaration, unfilled}
 use Rattle.lingua.specs.Erased.{value_in, values_of, eval_erased, yoke_erased, test_erased, admitted_erased, yoke_holds_erased}
 use Rattle.lingua.specs.Typing.{Entry, no_current_body, bodies_of}

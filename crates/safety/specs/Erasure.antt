@@ -1,5 +1,5 @@
 -- Evaluation without bodies (document 01: chair run): where the type check passed, evaluation gives the value that the values' half alone
--- gives, with the body that the check found (`eval-erased`). The same of yokes, tests, assignments and yoke changes. Assumes nothing.
+-- gives, with the body that the check found (`eval_erased_lem`). The same of yokes, tests, assignments and yoke changes. Assumes nothing.
 use Rattle.std.specs.Prelude.{◌≡◌, Bool, true, false, ◌&&◌, List, [], ◌∷◌, map, ℕ}
 use Rattle.std.proofs.Math.Path.{refl, ap}
 use Rattle.std.proofs.Common.{◌∙◌}

@@ -1,5 +1,5 @@
--- Every expression row of an accepted profile stands in the trees that the type check goes through, just once (`row-occurs`). So a check that
--- passes records an entry of each row, and the layout table holds its two numbers (`row-entry`, `accepted-entry`). Carried by rule 11, from
+-- Every expression row of an accepted profile stands in the trees that the type check goes through, just once (`row_occurs`). So a check that
+-- passes records an entry of each row, and the layout table holds its two numbers (`row_entry`, `accepted_entry`). Carried by rule 11, from
 -- the highest row down: a row is a root, or a higher row uses it. Assumes nothing.
 use Rattle.std.specs.Prelude.{◌≡◌, Bool, ℕ, zero, suc, ◌+◌, ◌≤◌, ◌<◌, eqb}
 use Rattle.std.proofs.Math.Path.{refl, ap}

@@ -1,6 +1,6 @@
--- Every fault of an expression is at a row of its tree (`faults-in-tree`). So what is named of a declaration or an instruction is the
+-- Every fault of an expression is at a row of its tree (`faults_in_tree`). So what is named of a declaration or an instruction is the
 -- lowest of its expression's rows at fault, or, where the expression has a body that does not suit, the declaration or instruction
--- itself (`which-fault`); of a call it is always the call itself (`call-fault`). Assumes nothing.
+-- itself (`which_fault`); of a call it is always the call itself (`call_fault`). Assumes nothing.
 use Rattle.std.specs.Prelude.{◌≡◌, Bool, true, false, ℕ, ◌+◌}
 use Rattle.std.proofs.Math.Path.{refl, subst}
 use Rattle.std.proofs.Common.{sym}

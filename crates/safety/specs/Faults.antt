@@ -1,6 +1,6 @@
 -- The faults of an expression, and which of them is named. An expression whose current value has a body has a body itself or a fault
--- (`some-fault`), so an instruction's or a declaration's own fault is named only where its expression has a body. The named one is one of
--- the faults, and none is lower (`lowest-is`); over two lists it is the lower of theirs (`lowest-fault-append`). Assumes nothing.
+-- (`some_fault`), so an instruction's or a declaration's own fault is named only where its expression has a body. The named one is one of
+-- the faults, and none is lower (`lowest_is`); over two lists it is the lower of theirs (`lowest_fault_append`). Assumes nothing.
 use Rattle.std.specs.Prelude.{◌≡◌, refl, Bool, true, false, ℕ, ◌≤◌, ltb}
 use Rattle.std.proofs.Common.{sym, ap, ◌∙◌, subst, arith, ltb-true, ltb-false, lt-ltb, le-ltb}
 use mathlib.Core.List.{List, [], ◌∷◌, ◌++◌, Memᴰ}

@@ -1,4 +1,4 @@
--- Evaluation gives values that fit their bodies, with no assumption on types: `eval-fits`. Assumes nothing.
+-- Evaluation gives values that fit their bodies, with no assumption on types: `eval_fits`. Assumes nothing.
 use Rattle.std.specs.Prelude.{◌≡◌, Bool, true, false, List, map, ℕ}
 use Rattle.std.proofs.Common.{ap, ◌∙◌, subst}
 use Rattle.std.specs.Bool.{beq}

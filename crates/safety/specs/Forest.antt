@@ -1,5 +1,5 @@
 -- The trees of rows: a property of each row's own node holds at every node of a row's tree, a tree's constants are its rows', and where a
--- row names lower rows, its tree is made of theirs (`expression-of-row`, `instruction-of-row`).
+-- row names lower rows, its tree is made of theirs (`expression_of_row`, `instruction_of_row`).
 -- Assumes nothing.
 use Rattle.std.specs.Prelude.{◌≡◌, refl, Bool, true, false, List, ltb}
 use Rattle.std.proofs.Common.{ap, ap₂, ◌∙◌, subst, ltb-true, lt-ltb}

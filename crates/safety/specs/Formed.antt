@@ -1,7 +1,7 @@
--- The bodies of an accepted profile are well-formed: those of its type rows (`type-formed`), those of its own and its procedures'
--- declarations (`scope-formed`), those of whatever its expressions give (`eval-formed`, `tree-eval-formed`). Assumes nothing.
+-- The bodies of an accepted profile are well-formed: those of its type rows (`type_formed`), those of its own and its procedures'
+-- declarations (`scope_formed`), those of whatever its expressions give (`eval_formed`, `tree_eval_formed`). Assumes nothing.
 use Rattle.std.specs.Prelude.{◌≡◌, refl, Bool, true, false, List, [], ◌∷◌, map, eqb}
-use Rattle.std.proofs.Common.{sym, subst, arith}
+use Rattle.std.proofs.Common.{subst, arith}
 use Rattle.std.specs.Bool.{beq}
 use Rattle.std.proofs.Math.Option.{some}
 use Prim.Native.Nat.{ℕ, zero, suc, ◌≤◌, ◌<◌}

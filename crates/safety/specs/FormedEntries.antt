@@ -1,5 +1,5 @@
 -- The bodies that the type check of an accepted profile derives are well-formed: each entry's, of the current value and of the result
--- (`entries-formed`). Assumes nothing.
+-- (`entries_formed`). Assumes nothing.
 use Rattle.std.specs.Prelude.{◌≡◌, List, [], ◌++◌, map}
 use Rattle.std.proofs.Common.{sym}
 use Rattle.std.proofs.Math.Path.{subst}

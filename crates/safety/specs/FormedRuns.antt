@@ -1,18 +1,16 @@
--- Every filled variable has a well-formed body at the end of every run of an accepted pair of files, at every budget: `filled-formed`; and
--- so have those of the calls that are open: `open-formed`. Assumes nothing.
-use Rattle.std.specs.Prelude.{◌≡◌, List, map, Bool, true, false}
+-- Every filled variable has a well-formed body at the end of every run of an accepted pair of files, at every budget: `filled_formed`; and
+-- so have those of the calls that are open: `open_formed`. Assumes nothing.
+use Rattle.std.specs.Prelude.{◌≡◌, List, Bool, true, false}
 use Rattle.std.proofs.Common.{sym, ◌∙◌, subst}
 use Prim.Native.Nat.{ℕ, zero, suc, ◌≤◌, ◌<◌}
 use Rattle.lingua.specs.Numbers.{most_calls, instruction_section}
 use Rattle.lingua.specs.Errors.{overflow, not_filled}
-use Rattle.lingua.specs.Outcome.{ok}
-use Rattle.lingua.specs.Body.{number}
 use Rattle.lingua.specs.WellFormed.{WellFormed, formed_boolean, formed_number, formed_hundredths}
 use Rattle.lingua.specs.Value.{in_range_of, quantity_body}
 use Rattle.lingua.specs.Expression.{Instruction, skip, assign, set_yoke, sequence, branch, loop, handle, call}
 use Rattle.lingua.specs.Evaluation.{eval, no_current}
 use Rattle.lingua.specs.Store.{Variable, contents, assigned, copied, Reading, reading_taken, counts_hundredths, reading_value}
-use Rattle.lingua.specs.Run.{State, Procedure, procedure_at, unfilled, begun, exec, called, scope_program, started, take_readings, run, last_state, open_calls}
+use Rattle.lingua.specs.Run.{State, procedure_at, begun, exec, called, scope_program, started, take_readings, run, last_state, open_calls}
 use Rattle.lingua.specs.Rows.{table_count, procedure_count}
 use Rattle.lingua.specs.Trees.{instruction_tree, profile_of}
 use Rattle.lingua.specs.Format.{rows_of}
@@ -23,7 +21,7 @@ use Rattle.safety.specs.Every.{Every, every_all, every_implies}
 use Rattle.safety.specs.Stored.{assigned_each, changed_each}
 use Rattle.safety.specs.Everywhere.{Everywhere, at_skip, everywhere_implies}
 use Rattle.safety.specs.ProfileScopes.{scope_row, scope_runs}
-use Rattle.safety.specs.Runs.{Stable, Family, Passes, KeepsCall, Keeps, KeepsReading, Frame, Done, pairwise_all, exec_keeps, called_keeps, readings_keep}
+use Rattle.safety.specs.Runs.{Stable, Family, Passes, Keeps, KeepsReading, Frame, Done, pairwise_all, exec_keeps, called_keeps, readings_keep}
 use Rattle.safety.specs.Invariant.{start_empty}
 use Rattle.safety.specs.Forest.{tree_everywhere}
 use Rattle.safety.specs.Accepted.{AcceptedRows, accepted_pair, program_row, body_row_lem}

@@ -1,5 +1,5 @@
 -- The former check: it goes in order of evaluation and stops at the first fault that it meets. The type check (`Typing`) passes the same
--- profiles with the same entries, so with the same layout table (`same-passes`, `same_layout` in `SamePasses`); where there are faults it
+-- profiles with the same entries, so with the same layout table (`same_passes`, `same_layout` in `SamePasses`); where there are faults it
 -- may name another one. Calls of procedures came later than this check: they and the procedures' declarations are taken into it as they stand
 -- in the type check.
 -- Assumes nothing: these are definitions.

@@ -1,5 +1,5 @@
 -- The invariant of runs: at the end of every run at every budget, each filled variable fits its present body, satisfies its current
--- yoke and lies within its limit (`run-invariant`), and so do those of every open call (`open_kept`), whether or not the type check
+-- yoke and lies within its limit (`run_invariant`), and so do those of every open call (`open_kept`), whether or not the type check
 -- passes the profile. It is asked of the profile that constants fit and that yokes read no variable. Assumes nothing.
 use Rattle.std.specs.Prelude.{◌≡◌, refl, true, List, [], ◌∷◌, map, ℕ, zero, suc}
 use Rattle.std.proofs.Common.{sym, ap, ◌∙◌, subst}
@@ -11,7 +11,7 @@ use Rattle.lingua.specs.Value.{fit_truth, Fits, as_whole, Composite}
 use Rattle.lingua.specs.Expression.{Instruction, skip, assign, set_yoke, sequence, branch, loop, handle, call}
 use Rattle.lingua.specs.Evaluation.{Variables, eval, eval_yoke, boolean_of, no_current}
 use Rattle.lingua.specs.Store.{Limit, Variable, no_variable, variable_at, contents, within, assigned, copied, Reading}
-use Rattle.lingua.specs.Run.{State, Declaration, Procedure, procedure_at, unfilled, begun, exec, called, Profile, scope_declarations, scope_program, started, take_readings, run, last_state, open_calls}
+use Rattle.lingua.specs.Run.{State, Declaration, unfilled, begun, exec, called, Profile, scope_declarations, scope_program, started, take_readings, run, last_state, open_calls}
 use Rattle.lingua.specs.Typing.{bodies_of}
 use Rattle.laws.specs.Outcomes.{none_is_some}
 use Rattle.safety.specs.Answers.{bound, some-answer}
@@ -20,7 +20,7 @@ use Rattle.safety.specs.Constants.{ConstantsFit, ClosedYoke}
 use Rattle.safety.specs.Fitting.{FilledFit, eval_fits}
 use Rattle.safety.specs.Stored.{Kept, StoreKept, kept_fit, assigned_kept, changed_kept, reading_kept}
 use Rattle.safety.specs.Everywhere.{Everywhere, everywhere_implies}
-use Rattle.safety.specs.Runs.{Stable, Family, Pairwise, Passes, KeepsCall, Keeps, KeepsReading, Frame, Done, exec_keeps, called_keeps, readings_keep, pairwise_all}
+use Rattle.safety.specs.Runs.{Stable, Family, Passes, Keeps, KeepsReading, Frame, Done, exec_keeps, called_keeps, readings_keep, pairwise_all}
 
 -- ---- what is asked of a profile
 -- of an instruction's own row: its expression's constants fit, and a yoke that it sets is closed

@@ -1,4 +1,4 @@
--- The layout table holds the numbers of every entry, where no row has two entries: `layout-holds`. Assumes nothing.
+-- The layout table holds the numbers of every entry, where no row has two entries: `layout_holds`. Assumes nothing.
 use Rattle.std.specs.Prelude.{◌≡◌, refl, ◌≢◌, Bool, true, false, List, [], ◌∷◌, map, ℕ, ◌+◌, ◌*◌, ◌≤◌, ◌<◌, eqb, length, get_or, set, replicate}
 use Rattle.std.proofs.Common.{sym, ap, ◌∙◌, arith, length-set, get_or-set_same, get_or-set_other, eq-eqb}
 use Rattle.std.proofs.lemmas.List.{length-replicate}

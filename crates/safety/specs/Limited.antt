@@ -1,5 +1,5 @@
 -- A variable that has a limit is a number or a hundredths variable: rule 15 wants such a variable of the limit's name, and by rule 8 no other variable of
--- the profile has that name (`limited-quantity`, `accepted-limited`). Procedures' variables have no limits (`scope-limited`). Assumes nothing.
+-- the profile has that name (`limited_quantity`, `accepted_limited`). Procedures' variables have no limits (`scope_limited`). Assumes nothing.
 use Rattle.std.specs.Prelude.{◌≡◌, refl, Bool, false, ◌&&◌, ℕ, zero, suc, ◌+◌, ◌≤◌, ◌<◌, ltb}
 use Rattle.std.proofs.Common.{sym, ◌∙◌, arith}
 use Rattle.std.proofs.Math.Path.{ap, subst}

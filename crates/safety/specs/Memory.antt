@@ -1,28 +1,28 @@
 -- The invariant of runs, read in the caller's memory: where a variable's flag says that it is filled, its cells hold a value of the body that
--- its 96 bytes say, which satisfies the yoke that its state word names and lies within its limit (`accepted-memory`); and so it is with the
--- variables of each open call (`open-memory`). Where the type check passes, that is the declared body, and no run changes one
--- (`passed-memory`, `passed-open`). Assumes nothing.
-use Rattle.std.specs.Prelude.{◌≡◌, true, ℕ, zero, suc, ◌+◌, ◌-◌, ◌*◌, ◌≤◌, ◌<◌, get_or, take, drop, replicate, ℤ, pos}
+-- its 96 bytes say, which satisfies the yoke that its state word names and lies within its limit (`accepted_memory`); and so it is with the
+-- variables of each open call (`open_memory`). Where the type check passes, that is the declared body, and no run changes one
+-- (`passed_memory`, `passed_open`). Assumes nothing.
+use Rattle.std.specs.Prelude.{◌≡◌, true, ℕ, zero, suc, ◌-◌, ◌*◌, ◌≤◌, ◌<◌, get_or, take, drop, replicate, ℤ, pos}
 use Rattle.std.proofs.Math.Path.{refl, sym, ap, subst}
-use Rattle.std.proofs.Common.{ap₂, ◌∙◌, ⊎_elim, length-set}
-use mathlib.Core.List.{List, [], ◌∷◌, ◌++◌, map}
+use Rattle.std.proofs.Common.{◌∙◌, ⊎_elim, length-set}
+use mathlib.Core.List.{List, [], ◌∷◌, map}
 use Rattle.std.proofs.Math.Option.{Option, some, none}
 use native.Mathlib.Omega.{arith}
 use Rattle.std.proofs.Math.ListN.{length, length-map}
-use Rattle.lingua.specs.Numbers.{most_variables, body_cells, body_bytes, cells_length, states_length, variable_bodies_length, most_calls, open_cells_length, open_states_length, open_bodies_length, declaration_section, variable_table}
+use Rattle.lingua.specs.Numbers.{most_variables, body_cells, body_bytes, cells_length, states_length, variable_bodies_length, most_calls, open_cells_length, open_states_length, open_bodies_length, declaration_section}
 use Rattle.lingua.specs.Errors.{overflow, not_filled}
 use Rattle.lingua.specs.Outcome.{ok}
-use Rattle.lingua.specs.Body.{Body, number, size, attributes_of}
+use Rattle.lingua.specs.Body.{Body, size, attributes_of}
 use Rattle.lingua.specs.WellFormed.{WellFormed}
 use Rattle.lingua.specs.Value.{Value, Fits, as_whole, pad, cells_of, Composite, composite, in_range_of}
 use Rattle.lingua.specs.Encode.{encoded}
 use Rattle.lingua.specs.Expression.{Yoke, yoke_number, Instruction, skip, assign, set_yoke, sequence, branch, loop, handle, call}
 use Rattle.lingua.specs.Evaluation.{Variables, eval, eval_yoke, boolean_of, no_current}
-use Rattle.lingua.specs.Store.{Variable, no_variable, variable_at, present_of, present_body, contents, within, admitted, assigned, copied, yoke_holds, yoke_changed, with_content, with_yoke, Reading, reading_taken, content_cells, filled_flag, cells_in, states_in, bodies_in, call_cells, call_states, call_bodies, open_cells_in, open_states_in, present_in, flag_at, yoke_at, counts_hundredths, reading_value}
-use Rattle.lingua.specs.Run.{State, Progress, Declaration, Procedure, procedure_at, unfilled, begun, exec, called, Profile, scope_declarations, scope_program, started, take_readings, run, last_state, open_calls}
-use Rattle.lingua.specs.Typing.{Entry, bodies_of, scope_bodies, check_profile}
+use Rattle.lingua.specs.Store.{Variable, no_variable, variable_at, present_of, present_body, contents, within, admitted, assigned, copied, yoke_holds, yoke_changed, with_content, with_yoke, Reading, reading_taken, content_cells, filled_flag, cells_in, states_in, bodies_in, call_cells, call_states, open_cells_in, open_states_in, present_in, flag_at, yoke_at, counts_hundredths, reading_value}
+use Rattle.lingua.specs.Run.{State, Progress, Declaration, unfilled, begun, exec, called, Profile, scope_declarations, scope_program, started, take_readings, run, last_state, open_calls}
+use Rattle.lingua.specs.Typing.{Entry, bodies_of, check_profile}
 use Rattle.lingua.specs.Rows.{pair_count, procedure_count}
-use Rattle.lingua.specs.Trees.{tabulate, yoke_tree, declaration_in, declaration_at, procedure_of, profile_of}
+use Rattle.lingua.specs.Trees.{yoke_tree, declaration_at, profile_of}
 use Rattle.lingua.specs.Format.{rows_of}
 use Rattle.lingua.specs.Refusal.{lowest, pair_rules, is_quantity_variable}
 use Rattle.laws.specs.Lengths.{length_cells}
@@ -31,16 +31,16 @@ use Rattle.laws.specs.Every.{every_by}
 use Rattle.laws.specs.Tests.{below_or}
 use Rattle.laws.specs.Stores.{cells_at as lent_cells, flag_at_lem, yoke_at_lem}
 use Rattle.laws.specs.Presents.{bodies_at, bodies_same}
-use Rattle.laws.specs.Frames.{Bounded, length_call_cells, length_call_states, length_call_bodies, open_cells_at, open_states_at, present_own, present_open, behind_padded, bodies_behind, flag_behind}
+use Rattle.laws.specs.Frames.{Bounded, length_call_cells, length_call_states, open_cells_at, open_states_at, present_own, present_open, behind_padded, bodies_behind, flag_behind}
 use Rattle.safety.specs.Answers.{same_answer, bound, some-answer, demanded, after}
 use Rattle.safety.specs.Every.{Every, every_none, every_more, every_all, every_implies}
 use Rattle.safety.specs.ProfileScopes.{scope_length, scope_empty}
 use Rattle.safety.specs.Everywhere.{Everywhere, everywhere_all, everywhere_both, everywhere_implies}
-use Rattle.safety.specs.Runs.{Stable, Family, Passes, KeepsCall, Keeps, KeepsReading, Both, family_both, keeps_both, Frame, Done, pairwise_all, exec_keeps, called_keeps, readings_keep}
-use Rattle.safety.specs.Invariant.{WellMadeProfile, scope_store, declared_store, StateKept, ScopesKept, kept_family, well_made_keeps, start_kept, readings_kept, FilledWell, kept_well}
+use Rattle.safety.specs.Runs.{Family, Passes, Keeps, KeepsReading, Both, family_both, keeps_both, Frame, Done, pairwise_all, exec_keeps, called_keeps, readings_keep}
+use Rattle.safety.specs.Invariant.{WellMadeProfile, scope_store, StateKept, ScopesKept, kept_family, well_made_keeps, start_kept, readings_kept, FilledWell, kept_well}
 use Rattle.safety.specs.Derivation.{Anything, anything}
 use Rattle.safety.specs.TypeSound.{VariablesFit}
-use Rattle.safety.specs.Programs.{TypedProfile, StateTyped, ScopesTyped, typed_family, program_keeps, readings_typed, kept_body, present_declared, start_fit}
+use Rattle.safety.specs.Programs.{StateTyped, ScopesTyped, typed_family, program_keeps, readings_typed, kept_body, present_declared, start_fit}
 use Rattle.safety.specs.Stored.{StoreKept}
 use Rattle.safety.specs.Steps.{run_shallow}
 use Rattle.safety.specs.Passed.{profile_derives, reads_quantity}

@@ -1,25 +1,24 @@
 -- Every yoke that a run of a profile has is the tree of the row that its number names, so that a variable's state word tells which yoke is
--- its current one: `run-named`, and `open-named` for the calls that are open. Assumes nothing.
+-- its current one: `run_named`, and `open_named` for the calls that are open. Assumes nothing.
 use Rattle.std.specs.Prelude.{◌≡◌, List, map}
 use Rattle.std.proofs.Math.Path.{refl, subst}
 use Rattle.std.proofs.Common.{sym, ap, arith}
-use Prim.Native.Nat.{ℕ, zero, suc, pred}
-use Rattle.lingua.specs.Numbers.{most_calls, declaration_section, instruction_section, variable_table}
+use Prim.Native.Nat.{ℕ, zero, suc}
+use Rattle.lingua.specs.Numbers.{most_calls}
 use Rattle.lingua.specs.Errors.{overflow, not_filled}
 use Rattle.lingua.specs.Outcome.{ok}
-use Rattle.lingua.specs.Body.{number}
-use Rattle.lingua.specs.Value.{whole, Composite, in_range_of}
+use Rattle.lingua.specs.Value.{Composite, in_range_of}
 use Rattle.lingua.specs.Expression.{Expression, row_of, Yoke, yoke_number, Instruction, skip, assign, set_yoke, sequence, branch, loop, handle, call}
 use Rattle.lingua.specs.Evaluation.{eval, no_current}
 use Rattle.lingua.specs.Store.{Variable, variable_at, contents, admitted, assigned, copied, yoke_holds, yoke_changed, with_content, with_yoke, Reading, reading_taken, counts_hundredths, reading_value}
-use Rattle.lingua.specs.Run.{State, Declaration, Procedure, procedure_at, unfilled, begun, exec, called, scope_declarations, scope_program, started, take_readings, run, last_state, open_calls}
-use Rattle.lingua.specs.Rows.{table_count, pair_count, procedure_count, ExpressionRow, constant_row, variable_row, current_row, unary_row, binary_row, lazy_row, choice_row, all_list_row, unknown_expression, expression_row, InstructionRow, skip_row, assign_row, set_yoke_row, sequence_row, branch_row, loop_row, handle_row, call_row, unknown_instruction, instruction_row}
-use Rattle.lingua.specs.Trees.{expression_of, expression_in, expression_tree, yoke_tree, instruction_of, instruction_in, instruction_tree, body_tree, declaration_in, declaration_at, procedure_of, profile_of}
+use Rattle.lingua.specs.Run.{State, Declaration, unfilled, begun, exec, called, scope_declarations, scope_program, started, take_readings, run, last_state, open_calls}
+use Rattle.lingua.specs.Rows.{ExpressionRow, constant_row, variable_row, current_row, unary_row, binary_row, lazy_row, choice_row, all_list_row, unknown_expression, expression_row, InstructionRow, skip_row, assign_row, set_yoke_row, sequence_row, branch_row, loop_row, handle_row, call_row, unknown_instruction, instruction_row}
+use Rattle.lingua.specs.Trees.{expression_of, expression_in, expression_tree, yoke_tree, instruction_of, instruction_in, instruction_tree, declaration_in, profile_of}
 use Rattle.safety.specs.Answers.{same_answer, bound, some-answer, demanded, after}
-use Rattle.safety.specs.Every.{Every, every_none, every_more, every_all, every_implies, every_tabulate}
+use Rattle.safety.specs.Every.{Every, every_none, every_more, every_all, every_implies}
 use Rattle.safety.specs.Everywhere.{Everywhere, at_skip, everywhere_implies}
 use Rattle.safety.specs.ProfileScopes.{scope_every, scope_runs}
-use Rattle.safety.specs.Runs.{Stable, Family, Passes, KeepsCall, Keeps, KeepsReading, Frame, Done, pairwise_all, exec_keeps, called_keeps, readings_keep}
+use Rattle.safety.specs.Runs.{Stable, Family, Passes, Keeps, KeepsReading, Frame, Done, pairwise_all, exec_keeps, called_keeps, readings_keep}
 use Rattle.safety.specs.Stored.{replaced}
 use Rattle.safety.specs.Forest.{tree_everywhere}
 

@@ -1,5 +1,5 @@
--- The row of each node of an instruction's tree: what holds of all rows of a tree holds of the row of each node (`rows-everywhere`), and a
--- row's tree has the row at its top (`tree-row`). Assumes nothing.
+-- The row of each node of an instruction's tree: what holds of all rows of a tree holds of the row of each node (`rows_everywhere`), and a
+-- row's tree has the row at its top (`tree_row`). Assumes nothing.
 use Rattle.std.specs.Prelude.{◌≡◌, refl, ℕ}
 use mathlib.Core.List.Memᴰ
 use mathlib.Core.List.{List, Memᴰ}

@@ -1,6 +1,6 @@
--- In an accepted profile each expression row is reached once from the roots, so the type check records one entry for each: `entries-once`.
--- With it the layout table holds the numbers of every entry (`profile-layout`), and they are known at every row of every tree of the
--- profile (`profile-laid-out`). Carried by a count, from the highest row down: a row is reached as often as rows that are reached use it,
+-- In an accepted profile each expression row is reached once from the roots, so the type check records one entry for each: `entries_once`.
+-- With it the layout table holds the numbers of every entry (`profile_layout`), and they are known at every row of every tree of the
+-- profile (`profile_laid_out`). Carried by a count, from the highest row down: a row is reached as often as rows that are reached use it,
 -- and each row is used once. Assumes nothing.
 use Rattle.std.proofs.Math.Path.{◌≡◌, refl, ap, subst}
 use Rattle.std.proofs.Common.{sym, ap₂, ◌∙◌}

@@ -1,7 +1,7 @@
 -- The type check of an accepted pair of files is sound: where it passes, no run of the pair meets a type error, for readings of number
--- variables and at every budget (`accepted-safe`). So each call that is not refused runs without type errors: `run-call-safe`,
--- `erased-call-safe`. Carried by scopes: each instruction row passes by the bodies of the variables that it names (`rows-derive`), so the
--- program passes by the profile's and each procedure's body by its own (`profile-derives`). Assumes nothing.
+-- variables and at every budget (`accepted_safe`). So each call that is not refused runs without type errors: `run_call_safe`,
+-- `erased_call_safe`. Carried by scopes: each instruction row passes by the bodies of the variables that it names (`rows_derive`), so the
+-- program passes by the profile's and each procedure's body by its own (`profile_derives`). Assumes nothing.
 use Rattle.std.specs.Prelude.{◌≡◌, refl, Bool, true, false, not, ◌&&◌, eqb, ltb, length, get_or, ℤ}
 use Rattle.std.proofs.Common.{sym, ap, ◌∙◌, ⊎_elim, arith, ltb-true}
 use Rattle.std.proofs.Math.Path.{subst}
@@ -10,7 +10,7 @@ use Prim.Native.Nat.{ℕ, zero, suc, ◌+◌, ◌≤◌, ◌<◌, pred}
 use Rattle.std.proofs.lemmas.Bool.{not-false}
 use Rattle.lingua.specs.Numbers.{layout_length, declaration_section, instruction_section, declaration_place, most_readings}
 use Rattle.lingua.specs.Outcome.{Outcome, ok, fail, Result, is_ok, all_answers}
-use Rattle.lingua.specs.Body.{Body, boolean, number, is_quantity}
+use Rattle.lingua.specs.Body.{Body, boolean, is_quantity}
 use Rattle.lingua.specs.Value.{all_of}
 use Rattle.lingua.specs.Expression.{Instruction, skip}
 use Rattle.lingua.specs.Store.{variable_at, Reading}

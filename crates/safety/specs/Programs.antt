@@ -1,6 +1,6 @@
 -- The type check is sound for whole programs: a well made profile whose yokes and instructions all pass meets no type error in any run,
--- for readings of number variables and at every budget: `run-safe`. Assumes nothing.
-use Rattle.std.specs.Prelude.{◌≡◌, true, ℕ, zero, suc, ◌+◌, length}
+-- for readings of number variables and at every budget: `run_safe`. Assumes nothing.
+use Rattle.std.specs.Prelude.{◌≡◌, true, ℕ, suc, ◌+◌, length}
 use Rattle.std.proofs.Math.Path.{refl, sym, subst}
 use Rattle.std.proofs.Common.{ap, ◌∙◌, arith}
 use mathlib.Core.List.{List, [], ◌∷◌, ◌++◌, map}
@@ -9,11 +9,11 @@ use Rattle.lingua.specs.Numbers.{most_calls}
 use Rattle.lingua.specs.Errors.{not_filled, overflow, yoke_not_satisfied, boolean_expected, no_coherence, yoke_expected}
 use Rattle.lingua.specs.Outcome.{ok, or_fail}
 use Rattle.lingua.specs.Body.{Body, boolean, is_hundredths, is_quantity, same_body, coherent}
-use Rattle.lingua.specs.Value.{whole, fit_truth, as_whole, Composite, quantity_body, in_range_of}
+use Rattle.lingua.specs.Value.{fit_truth, as_whole, Composite, quantity_body, in_range_of}
 use Rattle.lingua.specs.Expression.{Expression, Yoke, always, yoke, Instruction, skip, assign, set_yoke, sequence, branch, loop, handle, call}
 use Rattle.lingua.specs.Evaluation.{eval, eval_yoke, no_current}
 use Rattle.lingua.specs.Store.{Variable, variable_at, present_of, present_body, contents, with_content, with_yoke, within, admitted, assigned, copied, yoke_holds, yoke_changed, Reading, reading_taken, counts_hundredths, reading_value}
-use Rattle.lingua.specs.Run.{State, with_store, Declaration, Procedure, procedure_at, unfilled, begun, exec, called, Profile, scope_declarations, scope_program, started, take_readings, run, last_state, open_calls}
+use Rattle.lingua.specs.Run.{State, Declaration, unfilled, begun, exec, called, Profile, scope_declarations, scope_program, started, take_readings, run}
 use Rattle.lingua.specs.Typing.{Entry, Bodies, no_current_body, given_fit, bodies_of, scope_bodies}
 use Rattle.lingua.specs.Meets.{yoke_met, yoke_checks_met, assign_met, test_met, error_in, on_filled, copy_met, called_met, reading_met, run_met}
 use Rattle.laws.specs.Coherent.{coherent_same}
@@ -24,12 +24,12 @@ use Rattle.safety.specs.Every.{Every, every_none, every_more, every_append, ever
 use Rattle.safety.specs.Constants.{Fitting, ConstantsFit, ClosedYoke}
 use Rattle.safety.specs.Stored.{StoreKept, replaced, assigned_each, changed_each}
 use Rattle.safety.specs.Everywhere.{Everywhere, everywhere_implies, everywhere_both}
-use Rattle.safety.specs.Runs.{Stable, Family, Pairwise, Passes, KeepsCall, Keeps, KeepsReading, Frame, Done, exec_keeps, called_keeps, readings_keep}
-use Rattle.safety.specs.Invariant.{WellMade, WellMadeProfile, scope_store, StateKept, ScopesKept, well_made_keeps, copy_keeps, reading_keeps, start_kept, start_empty, declared_body_lem}
+use Rattle.safety.specs.Runs.{Stable, Family, Pairwise, Passes, Keeps, KeepsReading, Done, exec_keeps, called_keeps, readings_keep}
+use Rattle.safety.specs.Invariant.{WellMade, WellMadeProfile, StateKept, ScopesKept, well_made_keeps, copy_keeps, reading_keeps, start_kept, start_empty, declared_body_lem}
 use Rattle.safety.specs.RunErrors.{RunErrors, gives, good_answer, answer_met, truth_met, truth_answer_met, unless_met_lem, unless_run_error}
 use Rattle.safety.specs.TypeSound.{VariablesFit, Safe, derived_sound}
 use Rattle.safety.specs.Derivation.{Derived, DerivedYoke, DerivedRow}
-use Rattle.safety.specs.Quiet.{QuietCopy, QuietCall, Quiet, QuietReading, on_true_met, exec_quiet, called_quiet, readings_quiet}
+use Rattle.safety.specs.Quiet.{QuietCopy, Quiet, QuietReading, on_true_met, exec_quiet, called_quiet, readings_quiet}
 use Rattle.laws.specs.Sound.{quantity_is, quantity_fits}
 
 -- ---- what the type check passes

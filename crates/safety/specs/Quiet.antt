@@ -1,9 +1,9 @@
 -- Where each instruction's own checks give no type error in the states that a run passes through, nor the copies of its calls, the whole
--- run meets none, wherever the budget stops it: `exec-quiet`, `called-quiet`, `readings-quiet`. Assumes nothing.
+-- run meets none, wherever the budget stops it: `exec_quiet`, `called_quiet`, `readings_quiet`. Assumes nothing.
 use Rattle.std.specs.Prelude.{◌≡◌, refl, Bool, true, false, eqb, length}
 use mathlib.Core.List.{List, [], ◌∷◌, ◌++◌}
 use Prim.Native.Nat.{ℕ, zero, suc}
-use Rattle.lingua.specs.Errors.{no_error, too_deep}
+use Rattle.lingua.specs.Errors.{no_error}
 use Rattle.lingua.specs.Outcome.{ok, fail, Result}
 use Rattle.lingua.specs.Expression.{Expression, Instruction, skip, assign, set_yoke, sequence, branch, loop, handle, call}
 use Rattle.lingua.specs.Evaluation.{eval, eval_test, no_current}
@@ -12,7 +12,7 @@ use Rattle.lingua.specs.Run.{State, Progress, going, out, with_store, with_left,
 use Rattle.lingua.specs.Meets.{on_answer, on_true, met, yoke_checks_met, assign_met, test_met, on_filled, step_met, act_met, on_acting, on_going, on_decided, on_handled, repeat_met, CallingMet, exec_met, copy_met, copies_in_met, copies_out_met, called_met, reading_met, readings_met}
 use Rattle.safety.specs.Every.{Every, every_none, every_more, every_append}
 use Rattle.safety.specs.Everywhere.{Everywhere, at_assign, at_set_yoke, at_sequence, at_branch, at_loop, at_handle, at_call}
-use Rattle.safety.specs.Runs.{Stable, Family, Pairwise, Passes, KeepsCall, Keeps, KeepsReading, Done, CallsKeep, settled_keeps, exec_keeps, copies_in_keep, called_keeps, taken_keeps}
+use Rattle.safety.specs.Runs.{Stable, Family, Pairwise, Passes, KeepsCall, Keeps, KeepsReading, CallsKeep, settled_keeps, exec_keeps, copies_in_keep, called_keeps, taken_keeps}
 use Rattle.safety.specs.RunErrors.{RunErrors}
 use Rattle.laws.specs.Classes.{deep_runs}
 

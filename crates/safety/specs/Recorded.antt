@@ -1,16 +1,15 @@
--- Every error that a run records is among those that it meets (`run-recorded`), so a passed pair of files ends with no type error recorded
--- (`accepted-error`). Assumes nothing.
+-- Every error that a run records is among those that it meets (`run_recorded`), so a passed pair of files ends with no type error recorded
+-- (`accepted_error`). Assumes nothing.
 use Rattle.std.specs.Prelude.{◌≡◌, refl, ◌⊎◌, Bool, true, false, ℕ, zero, suc, ◌+◌, eqb, length}
 use Rattle.std.proofs.Common.{sym, ap, ◌∙◌, subst, inl, inr}
 use Rattle.std.proofs.Math.Option.{Option, some, none}
 use mathlib.Core.List.Memᴰ
 use mathlib.Core.List.{List, [], ◌∷◌, ◌++◌, Memᴰ}
 use Rattle.lingua.specs.Numbers.{reading_place, most_calls}
-use Rattle.lingua.specs.Errors.{no_error, overflow, not_filled, too_deep, is_among, is_run_error, is_type_error}
+use Rattle.lingua.specs.Errors.{no_error, overflow, not_filled, is_among, is_run_error, is_type_error}
 use Rattle.lingua.specs.Outcome.{ok, fail, Result, ◌>>=◌, or_fail}
-use Rattle.lingua.specs.Body.{number}
-use Rattle.lingua.specs.Value.{whole, Composite, in_range_of}
-use Rattle.lingua.specs.Expression.{Expression, variable, Instruction, skip, assign, set_yoke, sequence, branch, loop, handle, call}
+use Rattle.lingua.specs.Value.{Composite, in_range_of}
+use Rattle.lingua.specs.Expression.{Expression, Instruction, skip, assign, set_yoke, sequence, branch, loop, handle, call}
 use Rattle.lingua.specs.Evaluation.{eval, eval_test, no_current}
 use Rattle.lingua.specs.Store.{Variable, contents, assigned, copied, copied_in, Reading, reading_taken, reading_value, counts_hundredths}
 use Rattle.lingua.specs.Run.{State, Progress, going, out, with_store, with_left, with_error, settled, proceed, step_with, step, unless_error, act, decided, handled, repeat, Calling, exec, Procedure, procedure_at, begun, clean_only, copied_out, carried, returned, opened, called, Profile, started, taken_unless, take_readings, run, last_state}

@@ -1,4 +1,4 @@
--- One rule for each row: what the type check found of a row's tree, in terms of the rows that the row names (`row-rule`). Assumes nothing.
+-- One rule for each row: what the type check found of a row's tree, in terms of the rows that the row names (`row_rule`). Assumes nothing.
 use Rattle.std.specs.Prelude.{◌≡◌, List, ℕ, ◌<◌}
 use Rattle.std.proofs.Common.{subst}
 use Rattle.std.proofs.Math.Option.{some}

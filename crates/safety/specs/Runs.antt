@@ -1,11 +1,10 @@
 -- What every assignment, yoke change, copy and reading keeps, a whole run keeps, wherever the budget stops it, and the calls that it leaves
--- open keep it too: `exec_keeps`, `called-keeps`, `readings-keep`. The property may differ from scope to scope: the profile's variables are
+-- open keep it too: `exec_keeps`, `called_keeps`, `readings_keep`. The property may differ from scope to scope: the profile's variables are
 -- scope 0, those of procedure k scope 1 + k. Assumes nothing.
 use Rattle.std.specs.Prelude.{◌≡◌, Bool, eqb, length}
 use Rattle.std.proofs.Math.Path.{refl, subst}
 use Rattle.std.proofs.Math.Bool.{true, false}
 use mathlib.Core.List.{List, [], ◌∷◌, ◌++◌}
-use Rattle.std.proofs.Math.Option.{some, none}
 use Prim.Native.Nat.{ℕ, zero, suc, ◌+◌}
 use Rattle.lingua.specs.Numbers.{reading_place}
 use Rattle.lingua.specs.Errors.{no_error, too_deep}

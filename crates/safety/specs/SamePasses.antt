@@ -1,6 +1,6 @@
 -- Which profiles pass does not depend on the fault that is named: the type check passes what the check in order of evaluation passes,
--- with the same entries (`same-passes`), so over all pairs of files the same calls pass, with the same layout table, number by number
--- (`same_layout`, `same-passed`). Assumes nothing.
+-- with the same entries (`same_passes`), so over all pairs of files the same calls pass, with the same layout table, number by number
+-- (`same_layout`, `same_passed`). Assumes nothing.
 use Rattle.std.specs.Prelude.{◌≡◌, refl, Bool, true, false}
 use mathlib.Core.List.{List, [], ◌∷◌, ◌++◌, map}
 use Rattle.std.proofs.Math.Option.{Option, some, none}
@@ -195,7 +195,7 @@ module _ (prof lims layout : List ℕ) where
   unfolding type_check_call former_call
   same_passed = (calls_alike (type_check_refusal prof lims layout)).1
 
--- ---- the two may name different faults: of `two-faults` the type check names row 3 (`lowest-row` in lingua)
+-- ---- the two may name different faults: of `two_faults` the type check names row 3 (`lowest_row` in lingua)
 pub other_fault : former_test two_faults truths 512 ≡ fail (type_error boolean_expected 5)
 unfolding computing former_test former_check
 other_fault = refl

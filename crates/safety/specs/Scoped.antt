@@ -1,6 +1,6 @@
 -- Where rules 10 and 11 pass, every row of a procedure's body names the procedure's variables, and every row of the program the
--- profile's (`body-scope`, `program-scope`); an expression's rows name those of the instruction that evaluates it or sets it as a yoke
--- (`term-scope`). Carried by counting: a row is used once, so whatever leads to it leads to the one that uses it. Assumes nothing.
+-- profile's (`body_scope`, `program_scope`); an expression's rows name those of the instruction that evaluates it or sets it as a yoke
+-- (`term_scope`). Carried by counting: a row is used once, so whatever leads to it leads to the one that uses it. Assumes nothing.
 use Rattle.std.specs.Prelude.{◌≡◌, refl, ◌⊎◌, Bool, true, false, not, ◌&&◌}
 use Rattle.std.proofs.Common.{sym, ◌∙◌, subst, inl, inr}
 use Rattle.std.proofs.Math.Path.{ap}
@@ -17,7 +17,7 @@ use Rattle.lingua.specs.Numbers.{expression_section, instruction_section}
 use Rattle.lingua.specs.Errors.{is_among}
 use Rattle.lingua.specs.Outcome.{if◌then◌else◌}
 use Rattle.lingua.specs.Typing.{joined}
-use Rattle.lingua.specs.Rows.{table_count, procedure_count, body_row, instruction_row, operands, parts, evaluated, yoke_set}
+use Rattle.lingua.specs.Rows.{table_count, procedure_count, body_row, instruction_row, evaluated, yoke_set}
 use Rattle.lingua.specs.Trees.{tabulate_from, tabulate, instruction_scope, expression_scope}
 use Rattle.lingua.specs.Format.{every_below}
 use Rattle.lingua.specs.References.{rows_refer, variables_wrong, reference_wrong, occurrences, declared_roots, yoke_roots, plain_roots, expression_uses, instruction_uses, use_wrong}

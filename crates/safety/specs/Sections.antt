@@ -1,5 +1,5 @@
--- Where sections ascend, so do tables, and a table's rows are rows of the file in that table (`row-in-table`): of sections 1 to 5 in that
--- section (`row-in-section`), and of procedures those that begin one and the others (`header-begins`, `variable-row`). Assumes nothing.
+-- Where sections ascend, so do tables, and a table's rows are rows of the file in that table (`row_in_table`): of sections 1 to 5 in that
+-- section (`row_in_section`), and of procedures those that begin one and the others (`header_begins`, `variable_row`). Assumes nothing.
 use Rattle.std.specs.Prelude.{◌≡◌, ◌≢◌, Bool, true, false, List, eqb}
 use Rattle.std.proofs.Math.Path.{refl, ap, subst}
 use Rattle.std.proofs.Common.{sym, ◌∙◌, add-one, eqb-true, eq-eqb, ltb-true, ltb-false, leb-true, lt-ltb}

@@ -1,5 +1,5 @@
 -- A value takes at most 64 cells: where constants, variables and the current value do, so does what an expression gives, in evaluation
--- (`eval-size`) and in the type check (`derived-size`). Assumes nothing.
+-- (`eval_size`) and in the type check (`derived_size`). Assumes nothing.
 use Rattle.std.specs.Prelude.{◌≡◌, refl, Bool, true, false, List, map, ℕ, ◌≤◌, ◌<◌}
 use Rattle.std.proofs.Common.{subst, arith}
 use Rattle.std.specs.Bool.{beq}

@@ -1,5 +1,5 @@
 -- Steps: none is given back, those taken and those left are the budget, and a run is out of budget only with none left, so the bound on
--- a loop's turns never stops it: `run-steps`. Assumes nothing.
+-- a loop's turns never stops it: `run_steps`. Assumes nothing.
 use Rattle.std.specs.Prelude.{◌≡◌, refl, Bool, eqb}
 use Rattle.std.proofs.Math.Path.{ap, subst}
 use Rattle.std.proofs.Common.{◌∙◌}
@@ -17,7 +17,7 @@ use Rattle.lingua.specs.Store.{Variable, contents, assigned, copied_in, Reading}
 use Rattle.lingua.specs.Run.{State, Progress, going, out, with_store, with_left, with_error, proceed, step_with, step, unless_error, act, decided, handled, repeat, Calling, exec, Procedure, procedure_at, begun, returned, opened, called, Profile, started, take_readings, run, last_state, open_calls, steps_of}
 use Rattle.safety.specs.Every.{every_all}
 use Rattle.safety.specs.Everywhere.{everywhere_all}
-use Rattle.safety.specs.Runs.{Stable, Family, Pairwise, Passes, KeepsCall, Keeps, KeepsReading, Done, CallsKeep, pairwise_all, exec_keeps, called_keeps, readings_keep}
+use Rattle.safety.specs.Runs.{Stable, Family, Passes, Keeps, KeepsReading, CallsKeep, pairwise_all, exec_keeps, called_keeps, readings_keep}
 
 -- ---- no step is given back
 unfoldable pub AtMost : ℕ → State → Type 0

@@ -5,7 +5,7 @@ use Rattle.std.proofs.Common.{sym, ap, ◌∙◌, subst}
 use Rattle.std.proofs.Math.Option.{Option, some, none}
 use Rattle.lingua.specs.Errors.{overflow, yoke_not_satisfied, no_coherence, yoke_expected}
 use Rattle.lingua.specs.Outcome.{ok, Result, ◌>>=◌, require}
-use Rattle.lingua.specs.Body.{Body, number, attributes_of, coherent}
+use Rattle.lingua.specs.Body.{Body, attributes_of, coherent}
 use Rattle.lingua.specs.Value.{as_whole, Composite, in_range_of}
 use Rattle.lingua.specs.Expression.{Yoke}
 use Rattle.lingua.specs.Evaluation.{Variables, truth_or, boolean_of, eval_yoke}

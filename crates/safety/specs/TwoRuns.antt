@@ -1,10 +1,10 @@
 -- Demand 3 of document 01 about what two calls gave, the checked run's and the erased run's, each with its own lent memory: one claim
 -- (`TwoRuns`) over all passed pairs of files, all readings and all budgets. The calls' contracts give it, and nothing else is asked of them:
--- `two_runs`, and `demand-3` with what it supposes on the claim's side. Of the checked run alone the invariant holds for every accepted
--- pair: `checked-holds`. Assumes nothing.
-use Rattle.std.specs.Prelude.{◌≡◌, Bool, true, not, ◌&&◌, List, [], ◌∷◌, ◌++◌, eqb, length, take, ℤ}
+-- `two_runs`, and `demand_3` with what it supposes on the claim's side. Of the checked run alone the invariant holds for every accepted
+-- pair: `checked_holds`. Assumes nothing.
+use Rattle.std.specs.Prelude.{◌≡◌, Bool, true, not, ◌&&◌, List, [], ◌∷◌, ◌++◌, eqb, length, take}
 use Rattle.std.proofs.Math.Path.{refl, sym, ap, subst}
-use Rattle.std.proofs.Common.{ap₂, ◌∙◌, arith, eq-eqb}
+use Rattle.std.proofs.Common.{◌∙◌, arith, eq-eqb}
 use Prim.Native.Nat.{ℕ, zero, suc, ◌<◌}
 use Rattle.lingua.specs.Numbers.{cells_length, states_length, variable_bodies_length, open_cells_length, open_states_length, present_bodies_length, layout_length}
 use Rattle.lingua.specs.Errors.{bad_buffer, type_error_found}

@@ -1,5 +1,5 @@
 -- The type check is sound for expressions: what it passes gives a value that fits the body it found, or a run error, and meets no type
--- error, on any store whose filled variables fit their declared bodies and any current value that fits: `derived-sound`, `check_sound`.
+-- error, on any store whose filled variables fit their declared bodies and any current value that fits: `derived_sound`, `check_sound`.
 -- Assumes nothing.
 use Rattle.std.specs.Prelude.{◌≡◌, Bool, true, false, not, ℕ}
 use Rattle.std.proofs.Math.Path.{refl, ap}

@@ -8,4 +8,3 @@
 // bodies is the run (Erasure, ErasedSteps, ErasedRuns); and both runs of a passed pair of files (TwoRuns), with a pair of which every
 // clause speaks (Witness).
 #![tactic(auto)]
-

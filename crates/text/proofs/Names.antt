@@ -5,7 +5,7 @@ use Prim.Native.Nat.{ℕ, suc, ◌+◌, ◌≤◌, ◌<◌}
 use native.Mathlib.Numerals.{add-one}
 use borrow.Author.Tests.{eq-eqb, ne_eqb}
 use lib.ListN.{length, take, drop, get_or, drop_of_length-le}
-use lib.Seq.{take-suc, drop-cons, append_snoc}
+use lib.Seq.{take-suc, drop-cons}
 use Rattle.lingua.specs.Rows.{until_zero}
 
 skip : (c : ℕ) (cs : List ℕ) → (c ≡ 0 → ⊥) → until_zero (c ∷ cs) ≡ c ∷ until_zero cs

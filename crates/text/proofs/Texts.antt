@@ -1,32 +1,12 @@
 -- How texts at the start of a buffer go on from one `put` to the next. Assumes nothing.
-use mathlib.Core.Path.{◌≡◌, refl, sym, ap, subst, ◌∙◌}
+use mathlib.Core.Path.{◌≡◌, refl, sym, ap, ◌∙◌}
 use mathlib.Core.List.{List, [], ◌∷◌, ◌++◌, append_assoc, append-nil}
-use Prim.Native.Nat.{ℕ, zero, suc, ◌+◌, ◌≤◌, ◌<◌}
+use Prim.Native.Nat.{ℕ, zero, suc, ◌+◌, ◌<◌}
 use native.Mathlib.Numerals.{add-one}
 use native.Mathlib.Omega.{arith}
-use lib.ListN.{length, take, drop, get_or, set, length-append, length-take, length-drop, length-set}
-use lib.Seq.{take_all, take-append_seam, take-suc, take-suc-set}
+use lib.ListN.{length, take, get_or, length-take}
+use lib.Seq.{take_all, take-suc}
 use Rattle.text.specs.Appended.{Appended}
-
--- ---- one byte
-pub put_room : (out : List ℕ) (at byte : ℕ) → at < length out → Appended out at (byte ∷ []) (set out at byte) (at + 1)
-put_room out at byte h =
-    record {
-      within = λ w. simp length-set (omega arith);
-      bytes =
-          rw add-one
-          (take-suc-set out at byte h
-          ∙ sym (take_all (length out) (take at out ++ (byte ∷ [])) (simp (length-append, length-take) (omega arith))));
-    }
-
-pub put_full : (out : List ℕ) (at byte : ℕ) → length out ≤ at → Appended out at (byte ∷ []) out at
-put_full out at byte h =
-    record {
-      within = λ w. w;
-      bytes =
-          take_all at out h
-          ∙ sym (ap (λ (l : List ℕ). take (length out) (l ++ (byte ∷ []))) (take_all at out h) ∙ take-append_seam out (byte ∷ []));
-    }
 
 -- ---- no text, and one text behind another
 pub append_none : (out : List ℕ) (at : ℕ) → Appended out at [] out at
@@ -73,22 +53,3 @@ pub append_next :
     Appended out at (take (i + 1) bytes) last end
 append_next out mid last bytes at then end i h p e q =
     rw (add-one, take-suc bytes i 0 h) (append_both p e q)
-
-pub append_all :
-    (out last bytes : List ℕ) (at end i : ℕ) →
-    length bytes ≤ i →
-    Appended out at (take i bytes) last end →
-    Appended out at bytes last end
-append_all out last bytes at end i h p = rw (take_all i bytes h) at p
-
--- a part that goes to the end of its list
-pub append_rest :
-    {out last : List ℕ} {at end : ℕ} (k from : ℕ) (ds text : List ℕ) →
-    length ds ≤ from + k →
-    drop from ds ≡ text →
-    Appended out at (take k (drop from ds)) last end →
-    Appended out at text last end
-append_rest {out} {last} {at} {end} k from ds text h e p =
-    subst (λ (t : List ℕ). Appended out at t last end)
-    (take_all k (drop from ds) (simp length-drop (omega arith)) ∙ e)
-    p

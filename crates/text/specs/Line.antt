@@ -1,4 +1,4 @@
--- One variable's line of the report, as `contentText` and `variableLines` of the report's text have it. Assumes nothing: these are definitions.
+-- One variable's line of the report, as `content_text` and `variable_lines` of the report's text have it. Assumes nothing: these are definitions.
 use Rattle.std.specs.Prelude.{Bool, true, false, List, [], ◌∷◌, ◌++◌, ℕ, ℤ}
 use Rattle.lingua.specs.Report.{space, newline, cell_texts}
 use Rattle.lingua.specs.Rows.{until_zero}

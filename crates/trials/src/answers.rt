@@ -4,6 +4,7 @@ use crate::hex::put_hex;
 use crate::sparse::{put_byte_places, put_cells, put_words};
 use lingua::sizes::ROW_BYTES;
 use lingua::{CheckAnswer, FindAnswer, ReadAnswer, RunAnswer, WriteAnswer};
+use std::io::Stdout;
 use text::number::put_decimal;
 use text::put::{put, put_bytes};
 use text::report::put_refused_line;
@@ -44,6 +45,7 @@ fn ending(end: u8, error: u8, place: u16, steps: u16) -> Ended {
 }
 
 pub(crate) fn run_line(
+    sink: Stdout,
     answer: RunAnswer,
     kept: bool,
     cells: &[i64],
@@ -66,8 +68,8 @@ pub(crate) fn run_line(
             steps,
         } => ending(2, error, place, steps),
     };
-    let end = put_registers(ended, cells, states, out);
-    open_line(end, open_cells, open_states, out)
+    let end = put_registers(sink, ended, cells, states, out);
+    open_line(sink, end, open_cells, open_states, out)
 }
 
 fn put_ended(ended: Ended, out: &mut [u8]) -> usize {
@@ -78,48 +80,66 @@ fn put_ended(ended: Ended, out: &mut [u8]) -> usize {
     put_field(out, place, ended.steps as u64)
 }
 
-fn put_registers(ended: Ended, cells: &[i64], states: &[u16], out: &mut [u8]) -> usize {
+fn put_registers(
+    sink: Stdout,
+    ended: Ended,
+    cells: &[i64],
+    states: &[u16],
+    out: &mut [u8],
+) -> usize {
     let numbers = put_ended(ended, out);
     let before = put_bytes(out, numbers, b" cells ");
-    let between = put_cells(out, before, cells);
+    let between = put_cells(sink, out, before, cells);
     let after = put_bytes(out, between, b" marks ");
-    put_words(out, after, states)
+    put_words(sink, out, after, states)
 }
 
 // The open calls, and the line's end.
-fn open_line(at: usize, cells: &[i64], states: &[u16], out: &mut [u8]) -> usize {
+fn open_line(sink: Stdout, at: usize, cells: &[i64], states: &[u16], out: &mut [u8]) -> usize {
     let before = put_bytes(out, at, b" open ");
-    let between = put_cells(out, before, cells);
+    let between = put_cells(sink, out, before, cells);
     let after = put(out, between, b' ');
-    let end = put_words(out, after, states);
+    let end = put_words(sink, out, after, states);
     put(out, end, b'\n')
 }
 
 // The present bodies of a run that was made, however it ended.
-pub(crate) fn bodies_line(answer: RunAnswer, kept: bool, bodies: &[u8], out: &mut [u8]) -> usize {
+pub(crate) fn bodies_line(
+    sink: Stdout,
+    answer: RunAnswer,
+    kept: bool,
+    bodies: &[u8],
+    out: &mut [u8],
+) -> usize {
     match answer {
         RunAnswer::Refused(number) => refused(number, kept, out),
-        _ => present_line(bodies, out),
+        _ => present_line(sink, bodies, out),
     }
 }
 
-fn present_line(bodies: &[u8], out: &mut [u8]) -> usize {
+fn present_line(sink: Stdout, bodies: &[u8], out: &mut [u8]) -> usize {
     let at = put_bytes(out, 0, b"bodies ");
-    let end = put_byte_places(out, at, bodies);
+    let end = put_byte_places(sink, out, at, bodies);
     put(out, end, b'\n')
 }
 
-pub(crate) fn check_line(answer: CheckAnswer, kept: bool, layout: &[u16], out: &mut [u8]) -> usize {
+pub(crate) fn check_line(
+    sink: Stdout,
+    answer: CheckAnswer,
+    kept: bool,
+    layout: &[u16],
+    out: &mut [u8],
+) -> usize {
     match answer {
         CheckAnswer::Refused(number) => refused(number, kept, out),
-        CheckAnswer::Passed => passed_line(layout, out),
+        CheckAnswer::Passed => passed_line(sink, layout, out),
         CheckAnswer::TypeError { error, place } => type_error_line(error, place, out),
     }
 }
 
-fn passed_line(layout: &[u16], out: &mut [u8]) -> usize {
+fn passed_line(sink: Stdout, layout: &[u16], out: &mut [u8]) -> usize {
     let at = put_bytes(out, 0, b"pass ");
-    let end = put_words(out, at, layout);
+    let end = put_words(sink, out, at, layout);
     put(out, end, b'\n')
 }
 

@@ -13,6 +13,7 @@ use lingua::sizes::{
     BLOCK_BYTES, CELLS_LENGTH, LAYOUT_LENGTH, NAME_BYTES, OPEN_CELLS_LENGTH, OPEN_STATES_LENGTH,
     PRESENT_BODIES_LENGTH, ROWS_LENGTH, STATES_LENGTH,
 };
+use std::io::Stdout;
 
 #[derive(Clone, Copy)]
 pub enum KindFound {
@@ -29,12 +30,12 @@ pub enum RunKind {
 }
 
 // The answer's line at the start of `out`, and its length.
-pub(crate) fn answer(line: &[u8], out: &mut [u8]) -> usize {
+pub(crate) fn answer(sink: Stdout, line: &[u8], out: &mut [u8]) -> usize {
     let kind = field(line, 0);
     let count = count_fields(line);
     if count == 3 {
         if same(kind, b"inspect") {
-            return inspect_case(line, out);
+            return inspect_case(sink, line, out);
         }
         if same(kind, b"read") {
             return read_case(line, out);
@@ -50,13 +51,13 @@ pub(crate) fn answer(line: &[u8], out: &mut [u8]) -> usize {
     }
     if count == 5 {
         if same(kind, b"desk") {
-            return run_case(line, RunKind::Desk, out);
+            return run_case(sink, line, RunKind::Desk, out);
         }
         if same(kind, b"bodies") {
-            return run_case(line, RunKind::Bodies, out);
+            return run_case(sink, line, RunKind::Bodies, out);
         }
         if same(kind, b"chair") {
-            return run_case(line, RunKind::Chair, out);
+            return run_case(sink, line, RunKind::Chair, out);
         }
     }
     bad_case(out)
@@ -161,7 +162,7 @@ fn write_into(kind: FileKind, model: u16, rows: &[u8], file: &mut [u8], out: &mu
 }
 
 // ---- inspect PROFILE LIMITS
-fn inspect_case(line: &[u8], out: &mut [u8]) -> usize {
+fn inspect_case(sink: Stdout, line: &[u8], out: &mut [u8]) -> usize {
     let mut profile = [0u8; 32768];
     let Count::Of(p) = decode(field(line, 1), &mut profile) else {
         return bad_case(out);
@@ -170,17 +171,22 @@ fn inspect_case(line: &[u8], out: &mut [u8]) -> usize {
     let Count::Of(l) = decode(field(line, 2), &mut limits) else {
         return bad_case(out);
     };
-    inspect(first::bytes(&profile, p), first::bytes(&limits, l), out)
+    inspect(
+        sink,
+        first::bytes(&profile, p),
+        first::bytes(&limits, l),
+        out,
+    )
 }
 
-fn inspect(profile: &[u8], limits: &[u8], out: &mut [u8]) -> usize {
+fn inspect(sink: Stdout, profile: &[u8], limits: &[u8], out: &mut [u8]) -> usize {
     let mut layout = [nonsense::WORD; LAYOUT_LENGTH];
     let answer = calls::types::check_types(profile, limits, &mut layout);
-    check_line(answer, nonsense::words_kept(&layout), &layout, out)
+    check_line(sink, answer, nonsense::words_kept(&layout), &layout, out)
 }
 
 // ---- desk, bodies or chair PROFILE LIMITS READINGS BUDGET
-fn run_case(line: &[u8], kind: RunKind, out: &mut [u8]) -> usize {
+fn run_case(sink: Stdout, line: &[u8], kind: RunKind, out: &mut [u8]) -> usize {
     let mut profile = [0u8; 32768];
     let Count::Of(p) = decode(field(line, 1), &mut profile) else {
         return bad_case(out);
@@ -190,6 +196,7 @@ fn run_case(line: &[u8], kind: RunKind, out: &mut [u8]) -> usize {
         return bad_case(out);
     };
     run_files(
+        sink,
         line,
         kind,
         first::bytes(&profile, p),
@@ -199,7 +206,14 @@ fn run_case(line: &[u8], kind: RunKind, out: &mut [u8]) -> usize {
 }
 
 // A run takes at most 16 inputs. So where there are more than the 64 that find room, it refuses those 64 as it would all.
-fn run_files(line: &[u8], kind: RunKind, profile: &[u8], limits: &[u8], out: &mut [u8]) -> usize {
+fn run_files(
+    sink: Stdout,
+    line: &[u8],
+    kind: RunKind,
+    profile: &[u8],
+    limits: &[u8],
+    out: &mut [u8],
+) -> usize {
     let mut variables = [0u16; 64];
     let mut numbers = [0i64; 64];
     let Count::Of(n) = parse_inputs(field(line, 3), &mut variables, &mut numbers) else {
@@ -209,6 +223,7 @@ fn run_files(line: &[u8], kind: RunKind, profile: &[u8], limits: &[u8], out: &mu
         return bad_case(out);
     };
     run(
+        sink,
         kind,
         profile,
         limits,
@@ -221,6 +236,7 @@ fn run_files(line: &[u8], kind: RunKind, profile: &[u8], limits: &[u8], out: &mu
 
 // The area for open calls, which every run is lent, lies here once and not with each run's other buffers.
 fn run(
+    sink: Stdout,
     kind: RunKind,
     profile: &[u8],
     limits: &[u8],
@@ -232,6 +248,7 @@ fn run(
     let mut cells = [nonsense::CELL; OPEN_CELLS_LENGTH];
     let mut states = [nonsense::WORD; OPEN_STATES_LENGTH];
     run_kind(
+        sink,
         kind,
         profile,
         limits,
@@ -245,6 +262,7 @@ fn run(
 }
 
 fn run_kind(
+    sink: Stdout,
     kind: RunKind,
     profile: &[u8],
     limits: &[u8],
@@ -257,6 +275,7 @@ fn run_kind(
 ) -> usize {
     match kind {
         RunKind::Desk => run_checked(
+            sink,
             profile,
             limits,
             variables,
@@ -268,6 +287,7 @@ fn run_kind(
             out,
         ),
         RunKind::Bodies => run_checked(
+            sink,
             profile,
             limits,
             variables,
@@ -279,6 +299,7 @@ fn run_kind(
             out,
         ),
         RunKind::Chair => run_erased(
+            sink,
             profile,
             limits,
             variables,
@@ -297,6 +318,7 @@ fn area_kept(cells: &[i64], states: &[u16]) -> bool {
 
 // A desk line shows the cells and the state words; `present` asks for the present bodies of the same run in their place.
 fn run_checked(
+    sink: Stdout,
     profile: &[u8],
     limits: &[u8],
     variables: &[u16],
@@ -326,12 +348,22 @@ fn run_checked(
         && area_kept(open_cells, open_states)
         && nonsense::bytes_kept(&bodies);
     if present {
-        return bodies_line(answer, kept, &bodies, out);
+        return bodies_line(sink, answer, kept, &bodies, out);
     }
-    run_line(answer, kept, &cells, &states, open_cells, open_states, out)
+    run_line(
+        sink,
+        answer,
+        kept,
+        &cells,
+        &states,
+        open_cells,
+        open_states,
+        out,
+    )
 }
 
 fn run_erased(
+    sink: Stdout,
     profile: &[u8],
     limits: &[u8],
     variables: &[u16],
@@ -359,5 +391,14 @@ fn run_erased(
     let kept = area_kept(&cells, &states)
         && area_kept(open_cells, open_states)
         && nonsense::words_kept(&layout);
-    run_line(answer, kept, &cells, &states, open_cells, open_states, out)
+    run_line(
+        sink,
+        answer,
+        kept,
+        &cells,
+        &states,
+        open_cells,
+        open_states,
+        out,
+    )
 }

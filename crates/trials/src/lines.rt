@@ -1,5 +1,5 @@
 // Lines from standard input, and their answers to standard output.
-ghost use Rattle.std.specs.Prelude.{◌≡◌, ◌≤◌, ◌<◌, ◌-◌, length};
+ghost use Rattle.std.specs.Prelude.{◌≡◌, ◌≤◌, ◌<◌, ◌-◌, length, IfOk};
 ghost use Rattle.trials.specs.Inside.{Inside};
 
 use crate::answers::bad_case;
@@ -7,7 +7,8 @@ use crate::cases::answer;
 use crate::fields::find;
 use crate::first;
 use crate::output::send;
-use libc::STDIN_FILENO;
+use std::io;
+use std::io::{Read, Stdin, Stdout};
 
 // Where the input stands: what was read and not yet taken lies from `from` to `to`. While `skipping`, it belongs to a
 // line that was too long and has its answer already.
@@ -19,55 +20,59 @@ pub struct Reading {
     pub ended: bool,
 }
 
-// A proved loop has to end, and nothing says that the input does. So the turns are counted down, from a number that no
-// run uses up.
-pub(crate) fn serve(input: &mut [u8], out: &mut [u8]) {
+// A proved loop has to end, and nothing says that the input does. So the turns are counted, to a number that no run
+// uses up.
+pub(crate) fn serve(
+    source: Stdin,
+    sink: Stdout,
+    input: &mut [u8],
+    out: &mut [u8],
+) -> io::Result<()> {
     let mut reading = Reading {
         from: 0,
         to: 0,
         skipping: false,
         ended: false,
     };
-    let mut turns = u64::MAX;
-    while 0 < turns {
+    for _ in 0..u64::MAX {
         if reading.ended {
-            return;
+            return Ok(());
         }
-        reading = turn(reading, input, out);
-        turns -= 1;
+        reading = turn(source, sink, reading, input, out)?;
     }
+    Ok(())
 }
 
 // One line, or one read where no whole line is there.
-fn turn(reading: Reading, input: &mut [u8], out: &mut [u8]) -> Reading
+fn turn(
+    source: Stdin,
+    sink: Stdout,
+    reading: Reading,
+    input: &mut [u8],
+    out: &mut [u8],
+) -> io::Result<Reading>
     requires { Inside reading (length input.old) }
-    ensures { Inside result (length input.new) }
+    ensures { IfOk result (λ r. Inside r (length input.new)) }
 {
     let from = reading.from;
     let to = reading.to;
     let end = find(&input[..to], from, b'\n');
     if end < to {
-        if reading.skipping {
-            return Reading {
-                from: end + 1,
-                to,
-                skipping: false,
-                ended: false,
-            };
+        if !reading.skipping {
+            send_answer(sink, &input[from..end], out)?;
         }
-        let sent = send_answer(&input[from..end], out);
-        return Reading {
+        return Ok(Reading {
             from: end + 1,
             to,
             skipping: false,
-            ended: !sent,
-        };
+            ended: false,
+        });
     }
     if reading.skipping {
-        return read_more(0, true, input, out);
+        return read_more(source, sink, 0, true, input, out);
     }
     let kept = keep(input, from, to);
-    read_more(kept, false, input, out)
+    read_more(source, sink, kept, false, input, out)
 }
 
 // Moves the line that has begun to the front, so that all the room behind it can be read into.
@@ -85,42 +90,48 @@ fn keep(input: &mut [u8], from: usize, to: usize) -> usize
 }
 
 // One read behind the `kept` bytes of a line that has begun. Where they fill the input, the line is too long.
-fn read_more(kept: usize, skipping: bool, input: &mut [u8], out: &mut [u8]) -> Reading
+fn read_more(
+    mut source: Stdin,
+    sink: Stdout,
+    kept: usize,
+    skipping: bool,
+    input: &mut [u8],
+    out: &mut [u8],
+) -> io::Result<Reading>
     requires { kept ≤ length input.old }
-    ensures { Inside result (length input.new) }
+    ensures { IfOk result (λ r. Inside r (length input.new)) }
 {
     if kept == input.len() {
         let n = bad_case(out);
-        let sent = send(n, out);
-        return Reading {
+        send(sink, n, out)?;
+        return Ok(Reading {
             from: 0,
             to: 0,
             skipping: true,
-            ended: !sent,
-        };
+            ended: false,
+        });
     }
-    let got = libc::read(STDIN_FILENO, &mut input[kept..]);
-    let count = io::count(got, &input[kept..]);
+    let count = source.read(&mut input[kept..])?;
     if count == 0 {
         if 0 < kept {
-            send_answer(first::bytes(input, kept), out);
+            send_answer(sink, first::bytes(input, kept), out)?;
         }
-        return Reading {
+        return Ok(Reading {
             from: 0,
             to: 0,
             skipping,
             ended: true,
-        };
+        });
     }
-    Reading {
+    Ok(Reading {
         from: 0,
         to: kept + count,
         skipping,
         ended: false,
-    }
+    })
 }
 
-fn send_answer(line: &[u8], out: &mut [u8]) -> bool {
-    let n = answer(line, out);
-    send(n, out)
+fn send_answer(sink: Stdout, line: &[u8], out: &mut [u8]) -> io::Result<()> {
+    let n = answer(sink, line, out);
+    send(sink, n, out)
 }

@@ -13,10 +13,12 @@ mod output; // output.rt: bytes to standard output
 mod parse; // parse.rt: decimal numbers and lists of readings, from text
 mod sparse; // sparse.rt: lists of the places that are not zero
 
+use std::io;
+
 // A line of 65,535 bytes and its end fill the input whole. The longest answer that is no list is a file of 22 blocks in hex; a list is written
 // out as it grows.
-fn main() {
+fn main(rt: HostRuntime) -> io::Result<()> {
     let mut input = [0u8; 65536];
     let mut out = [0u8; 32768];
-    lines::serve(&mut input, &mut out);
+    lines::serve(rt.stdin(), rt.stdout(), &mut input, &mut out)
 }

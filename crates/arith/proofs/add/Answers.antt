@@ -1,7 +1,6 @@
 -- `add` meets its contract: the machine's result fits, so it is the exact one. Assumes nothing.
 use mathlib.Core.Path.{ap, ◌∙◌}
 use lib.IntN.{ℤ}
-use borrow.Author.Rules.{rules}
 use mir.ValLaws.{to_z-of_z}
 use Rattle.lingua.specs.Compute.{ranged}
 use Rattle.arith.specs.Image.{image}

@@ -1,6 +1,5 @@
 -- `checked` meets its contract: each of its two ends has its law in `Range`. Assumes nothing.
 use mathlib.Core.Path.{sym, ap, ◌∙◌}
-use borrow.Author.Rules.{rules}
 use mir.ValLaws.{to_z-of_z}
 use Rattle.arith.specs.declared.Number.TheVariants.{Whole}
 use Rattle.arith.proofs.Range.{checked_within, checked_out}

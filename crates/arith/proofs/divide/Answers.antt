@@ -3,7 +3,6 @@ use mathlib.Core.Path.{ap, ◌∙◌}
 use mathlib.Core.Bool.{true}
 use native.Mathlib.Omega.{arith}
 use lib.IntN.{ℤ}
-use borrow.Author.Rules.{rules}
 use mir.Syntax.{w64}
 use mir.Val.{of_z}
 use mir.ValLaws.{to_z-of_z}
@@ -34,13 +33,6 @@ nearest-q-requires-clause-y_bound c =
     let h = s.args.hundredths in
     simp (to_z-of_z _ _ s.ranges.x, to_z-of_z _ _ s.ranges.y, to_z-of_z _ _ (hundredfold_fits h s.args.x s.requires.x_value))
     (quantity_size h s.args.y s.requires.y_value)
-
-pub nearest-q-requires-clause-fact : goal.nearest-q-requires-clause-fact
-nearest-q-requires-clause-fact c =
-    let s = c in
-    let h = s.args.hundredths in
-    simp (to_z-of_z _ _ s.ranges.x, to_z-of_z _ _ s.ranges.y, to_z-of_z _ _ (hundredfold_fits h s.args.x s.requires.x_value))
-    (λ e. c.if-y-eq0.false (ap (of_z w64) e))
 
 pub returns-then-hundredths : goal.returns-then-hundredths
 returns-then-hundredths c =

@@ -1,14 +1,11 @@
 -- `multiply` meets its contract: the machine's product fits, so it is the exact one. Assumes nothing.
 use mathlib.Core.Path.{ap, ◌∙◌}
 use mathlib.Core.Bool.{true, false}
-use native.Mathlib.Omega.{arith}
 use lib.IntN.{ℤ}
-use borrow.Author.Rules.{rules}
 use mir.Syntax.{w64}
 use mir.ValLaws.{to_z-of_z}
 use Rattle.lingua.specs.Compute.{ranged}
 use Rattle.arith.specs.Image.{image}
-use Rattle.arith.specs.Distances.{hundred}
 use Rattle.arith.proofs.Range.{multiply_fits, product_size, product_counts, product_numbers}
 use Rattle.arith.proofs.multiply.Goals as goal
 

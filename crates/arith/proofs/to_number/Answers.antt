@@ -5,7 +5,6 @@ use mir.Syntax.{w64}
 use mir.ValLaws.{to_z-of_z}
 use Rattle.lingua.specs.Compute.{quotient, whole_part}
 use Rattle.arith.specs.Ranges.{count_size}
-use Rattle.arith.specs.Distances.{hundred}
 use Rattle.arith.proofs.to_number.Goals as goal
 
 pub quotient-x-requires-clause-x_bound : goal.quotient-x-requires-clause-x_bound

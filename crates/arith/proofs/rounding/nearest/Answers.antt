@@ -1,6 +1,5 @@
 -- `nearest` meets its contract: each of its four ends has its law in `Halves`. Assumes nothing.
 use native.Mathlib.Omega.{arith}
-use borrow.Author.Rules.{rules}
 use mir.ValLaws.{to_z-of_z}
 use Rattle.arith.specs.Nearest.{nonzero}
 use Rattle.arith.proofs.Range.{fits_below}

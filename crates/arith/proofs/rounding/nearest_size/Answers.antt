@@ -1,7 +1,6 @@
 -- `nearest_size` meets its contract: the rest is below half of the divisor, or not. Assumes nothing.
 use native.Mathlib.Nat.{mod-le, div-le_self}
 use native.Mathlib.Omega.{arith}
-use borrow.Author.Rules.{rules}
 use Rattle.arith.proofs.Halves.{kept, raised}
 use Rattle.arith.proofs.rounding.nearest_size.Goals as goal
 

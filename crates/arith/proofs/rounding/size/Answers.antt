@@ -2,7 +2,6 @@
 use mathlib.Core.Path.{ap}
 use native.Mathlib.Omega.{arith}
 use lib.IntN.{nat_abs}
-use borrow.Author.Rules.{rules}
 use mir.ValLaws.{to_z-of_z}
 use Rattle.arith.proofs.Halves.{below_zero, from_zero, opposite_fits, size_casts}
 use Rattle.arith.proofs.rounding.size.Goals as goal

@@ -1,0 +1,47 @@
+-- `body_half::operation::simple_binary` meets its contract: two first bytes give the tag. Assumes nothing.
+use Rattle.lingua.specs.Operation.{add, subtract, multiply, divide, less}
+use Rattle.lingua.specs.Operations.{binary_meaning}
+use Rattle.body_half.proofs.Simple.{no_tag, add_gives, subtract_gives, multiply_gives, divide_gives, less_gives, numbers_simple, equal_simple, glue_simple}
+use Rattle.body_half.proofs.operation.simple_binary.Goals as goal
+
+pub returns-in-Add : goal.returns-in-Add
+unfolding binary_meaning
+returns-in-Add c = λ b d h k. rw c.in-Add.is
+    (numbers_simple c.args.x c.args.y b d h k c.when_both.result add 2 add_gives c.when_both.ensures)
+
+pub returns-in-Subtract : goal.returns-in-Subtract
+unfolding binary_meaning
+returns-in-Subtract c = λ b d h k. rw c.in-Subtract.is
+    (numbers_simple c.args.x c.args.y b d h k c.when_both-in-Subtract.result subtract 2 subtract_gives c.when_both-in-Subtract.ensures)
+
+pub returns-in-Multiply : goal.returns-in-Multiply
+unfolding binary_meaning
+returns-in-Multiply c = λ b d h k. rw c.in-Multiply.is
+    (numbers_simple c.args.x c.args.y b d h k c.when_both-in-Multiply.result multiply 2 multiply_gives c.when_both-in-Multiply.ensures)
+
+pub returns-in-Divide : goal.returns-in-Divide
+unfolding binary_meaning
+returns-in-Divide c = λ b d h k. rw c.in-Divide.is
+    (numbers_simple c.args.x c.args.y b d h k c.when_both-in-Divide.result divide 2 divide_gives c.when_both-in-Divide.ensures)
+
+pub returns-in-Less : goal.returns-in-Less
+unfolding binary_meaning
+returns-in-Less c = λ b d h k. rw c.in-Less.is
+    (numbers_simple c.args.x c.args.y b d h k c.when_both-in-Less.result less 1 less_gives c.when_both-in-Less.ensures)
+
+pub returns-in-Equal : goal.returns-in-Equal
+unfolding binary_meaning
+returns-in-Equal c = λ b d h k. rw c.in-Equal.is (equal_simple c.args.x c.args.y b d h k c.when_like.result c.when_like.ensures)
+
+pub returns-in-Glue : goal.returns-in-Glue
+unfolding binary_meaning
+returns-in-Glue c = λ b d h k. rw c.in-Glue.is (glue_simple c.args.x c.args.y b d h k c.when_both-in-Glue.result c.when_both-in-Glue.ensures)
+
+pub returns-in-Expand : goal.returns-in-Expand
+returns-in-Expand c = λ b d h k. no_tag _ _
+
+pub returns-in-Change : goal.returns-in-Change
+returns-in-Change c = λ b d h k. no_tag _ _
+
+pub returns-in-Push : goal.returns-in-Push
+returns-in-Push c = λ b d h k. no_tag _ _

@@ -1,0 +1,23 @@
+-- `word16_at` meets its contract: bytes are below 256. Assumes nothing.
+use mathlib.Core.Path.{refl}
+use Prim.Native.Nat.{◌+◌}
+use native.Mathlib.Omega.{arith}
+use Rattle.lingua.specs.Rows.{word16}
+use borrow.Author.Rules.{rules}
+use Rattle.decoder.proofs.fields.word16_at.Goals as goal
+
+pub overflow_cast-low : goal.overflow_cast-low
+overflow_cast-low c = omega (arith, c.shared_slice_known-1.given c.args.at)
+
+pub overflow_cast-high : goal.overflow_cast-high
+overflow_cast-high c = omega (arith, c.shared_slice_known-1.given (c.args.at + 1))
+
+pub overflow_mul-result : goal.overflow_mul-result
+overflow_mul-result c = omega (arith, c.shared_slice_known-1.given (c.args.at + 1))
+
+pub overflow_add-result : goal.overflow_add-result
+overflow_add-result c = omega (arith, c.shared_slice_known-1.given c.args.at, c.shared_slice_known-1.given (c.args.at + 1))
+
+pub returns : goal.returns
+unfolding word16
+returns c = (refl, omega (arith, c.shared_slice_known-1.given c.args.at, c.shared_slice_known-1.given (c.args.at + 1)))

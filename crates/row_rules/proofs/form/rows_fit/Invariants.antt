@@ -1,0 +1,19 @@
+-- `rows_fit` meets its contract: every row that was passed fits. Assumes nothing.
+use mathlib.Core.Path.{◌≡◌, sym, ◌∙◌}
+use mathlib.Core.Bool.{true}
+use Prim.Native.Nat.{ℕ, ◌-◌, ◌/◌, ◌≤◌}
+use native.Mathlib.Omega.{arith}
+use lib.ListN.{length}
+use borrow.Author.Tests.{not-true, not-false}
+use Rattle.lingua.specs.Answers.{fileMeaning}
+use Rattle.lingua.specs.Rows.{row_count}
+use Rattle.lingua.specs.Format.{every_below}
+use Rattle.lingua.specs.Rules.{row_fits}
+use Rattle.row_rules.proofs.Every.{every_none, every_more, every_fails, every_all}
+use Rattle.row_rules.proofs.form.rows_fit.Given as goal
+
+abbrev pub invariant-loop-i : goal.invariant-loop-i
+invariant-loop-i l = (l.i ≤ l.n) × (every_below l.i (λ k. row_fits (fileMeaning l.file) l.rows k) ≡ true)
+
+abbrev pub decreases-loop-i : goal.decreases-loop-i
+decreases-loop-i l = l.n - l.i

@@ -1,0 +1,18 @@
+-- `mark_bodies` meets its contract: the bodies of the procedures that were passed are marked. Assumes nothing.
+use mathlib.Core.Path.{refl}
+use Prim.Native.Nat.{◌-◌, ◌≤◌}
+use native.Mathlib.Numerals.{add-one}
+use native.Mathlib.Omega.{arith}
+use borrow.Author.Rules.{rules}
+use Rattle.lingua.specs.Numbers.{instruction_section}
+use Rattle.lingua.specs.Rows.{table_count}
+use Rattle.laws.specs.Reached.{body_below}
+use Rattle.scopes.specs.Marks.{Owned}
+use Rattle.scopes.proofs.Marking.{owned_body, owned_to}
+use Rattle.scopes.proofs.pass.mark_bodies.Given as goal
+
+abbrev pub invariant-loop-k : goal.invariant-loop-k
+invariant-loop-k l = (l.k ≤ l.count) × Owned l.rows l.k (table_count l.rows instruction_section) l.scopes
+
+abbrev pub decreases-loop-k : goal.decreases-loop-k
+decreases-loop-k l = l.count - l.k

@@ -1,0 +1,19 @@
+-- `mark_operands` meets its contract: from the loop's row on, the rows have handed their scopes on. Assumes nothing.
+use mathlib.Core.Path.{◌≡◌, refl, sym, ◌∙◌}
+use Prim.Native.Nat.{suc, ◌+◌, ◌-◌, ◌≤◌}
+use native.Mathlib.Omega.{arith}
+use borrow.Author.Rules.{rules}
+use lib.ListN.{length}
+use Rattle.lingua.specs.Numbers.{expression_section, instruction_section}
+use Rattle.lingua.specs.Rows.{table_count}
+use Rattle.laws.specs.Refers.{operands_of}
+use Rattle.decoder.specs.Mentions.{listed}
+use Rattle.scopes.specs.Marks.{Used}
+use Rattle.scopes.proofs.Marking.{used_operands, used_to, within_to}
+use Rattle.scopes.proofs.pass.mark_operands.Given as goal
+
+abbrev pub invariant-loop-e : goal.invariant-loop-e
+invariant-loop-e l = (l.e ≤ table_count l.rows expression_section) × Used l.rows (table_count l.rows instruction_section) l.e l.scopes
+
+abbrev pub decreases-loop-e : goal.decreases-loop-e
+decreases-loop-e l = l.e
