@@ -5,8 +5,6 @@ use mathlib.Core.List.{List, [], ◌∷◌, ◌++◌}
 use Prim.Native.Nat.{ℕ, ◌+◌, ◌/◌, ◌≤◌, ◌<◌, min}
 use native.Mathlib.Omega.{arith}
 use lib.Dec.{eqb, ltb, leb}
-use types.Run.{OneOf, miss}
-use denote.Enum.Declared.{tag_of}
 use borrow.Author.Tests.{ltb-true, le-leb, lt-leb, eq-eqb, ne_eqb}
 use Rattle.lingua.specs.Numbers.{instruction_section, most_parameters, most_variables, variable_table}
 use Rattle.lingua.specs.Rows.{table_count, pair_count, value_count, reference_count, groups, instruction_row}
@@ -20,7 +18,6 @@ use Rattle.decoder.specs.declared.decode.InstructionRow.TheVariants as row
 use Rattle.decoder.specs.declared.procedures.Procedure.{Procedure}
 use Rattle.decoder.specs.declared.tables.Table.{Table}
 use Rattle.decoder.specs.declared.tables.Tables.{Tables}
-use Rattle.decoder.specs.contracts.decode.InstructionRow.{the_type}
 use Rattle.decoder.proofs.Short.{all_append}
 use Rattle.rules.specs.Accepted.{own_call_lem}
 use Rattle.rules.specs.Calls.{Scoped, Calls}
@@ -30,7 +27,7 @@ pub call_at : (x : InstructionRow) (k b c : ℕ) (f : ℕ → ℕ → ℕ → Bo
 unfolding instruction_meaning
 call_at x k b c f e = ap (λ (y : InstructionRow). on_call (instruction_meaning y) f) e
 
-pub no_call : (x : InstructionRow) (f : ℕ → ℕ → ℕ → Bool) → OneOf (0 ∷ 1 ∷ 2 ∷ 3 ∷ 4 ∷ 5 ∷ 6 ∷ []) (tag_of the_type x) → true ≡ on_call (instruction_meaning x) f
+pub no_call : (x : InstructionRow) (f : ℕ → ℕ → ℕ → Bool) → ((k b c : ℕ) → x ≡ row.Call k b c → ⊥) → true ≡ on_call (instruction_meaning x) f
 unfolding instruction_meaning
 no_call row.Skip f h = refl
 no_call (row.Assign n e) f h = refl
@@ -39,7 +36,7 @@ no_call (row.Sequence i j) f h = refl
 no_call (row.Branch e i j) f h = refl
 no_call (row.Loop e i) f h = refl
 no_call (row.Handle n i) f h = refl
-no_call (row.Call k b c) f h = absurd (miss (0 ∷ 1 ∷ 2 ∷ 3 ∷ 4 ∷ 5 ∷ 6 ∷ []) 7 tt h)
+no_call (row.Call k b c) f h = absurd (h k b c refl)
 
 -- its procedure is there
 pub called_at : (rows : List ℕ) (t : Tables) (x : InstructionRow) (k b c : ℕ) → Calls rows t x → x ≡ row.Call k b c → k < t.procedures.count

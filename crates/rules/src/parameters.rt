@@ -71,7 +71,7 @@ fn call_fits(rows: &[u8], t: Tables, row: InstructionRow) -> bool
 
 fn calls_fit(rows: &[u8], t: Tables) -> bool
     requires { Scoped rows.now t }
-    ensures* { λ b. ⌜ b ≡ every_below (table_count rows.now instruction_section) (λ r. on_call (instruction_row rows.now r) (λ k b c. eqb (bits_above (value_count rows.now k) b) 0 && eqb (bits_above (reference_count rows.now k) c) 0)) ⌝ }
+    ensures { result ≡ every_below (table_count rows.now instruction_section) (λ r. on_call (instruction_row rows.now r) (λ k b c. eqb (bits_above (value_count rows.now k) b) 0 && eqb (bits_above (reference_count rows.now k) c) 0)) }
 {
     let instructions = t.instructions;
     let count = instructions.count;

@@ -70,7 +70,7 @@ fn scopes_refer(rows: &[u8], t: Tables) -> bool
 
 fn types_refer(rows: &[u8], t: Table) -> bool
     requires { IsTable rows.now type_section t }
-    ensures* { λ r. ⌜ r ≡ every_below (table_count rows.now type_section) (λ r. all_below r (type_parts (type_row rows.now r))) ⌝ }
+    ensures { result ≡ every_below (table_count rows.now type_section) (λ r. all_below r (type_parts (type_row rows.now r))) }
 {
     let count = t.count;
     let mut r = 0;
@@ -85,7 +85,7 @@ fn types_refer(rows: &[u8], t: Table) -> bool
 
 fn expressions_refer(rows: &[u8], t: Table) -> bool
     requires { IsTable rows.now expression_section t }
-    ensures* { λ r. ⌜ r ≡ every_below (table_count rows.now expression_section) (λ r. all_below r (operands (expression_row rows.now r))) ⌝ }
+    ensures { result ≡ every_below (table_count rows.now expression_section) (λ r. all_below r (operands (expression_row rows.now r))) }
 {
     let count = t.count;
     let mut r = 0;
@@ -129,7 +129,7 @@ fn instruction_refers(rows: &[u8], t: Tables, r: usize) -> bool
 
 fn instructions_refer(rows: &[u8], t: Tables) -> bool
     requires { AreTables rows.now t }
-    ensures* { λ r. ⌜ r ≡ every_below (table_count rows.now instruction_section) (λ r. instruction_refers rows.now r) ⌝ }
+    ensures { result ≡ every_below (table_count rows.now instruction_section) (λ r. instruction_refers rows.now r) }
 {
     let count = t.instructions.count;
     let mut r = 0;
