@@ -1,0 +1,21 @@
+-- `typing::leaves::note-row` meets its contract: the measured cells are the body's. Assumes nothing.
+use mathlib.Core.Path.{refl, ap}
+use Prim.Native.Nat.{ℕ, ◌+◌, ◌*◌}
+use native.Mathlib.Omega.{arith}
+use lib.ListN.{set}
+use borrow.Author.Rules.{rules}
+use Rattle.typing.proofs.leaves.note_row.Goals as goal
+
+pub overflow_cast-layout : goal.overflow_cast-layout
+overflow_cast-layout c =
+    let h = c.requires.held.holds in
+    omega (arith, (c.measure_body-m.ensures _ h).is_cells, h.few_cells)
+
+pub returns : goal.returns
+returns c =
+    record {
+      known = refl;
+      passed = refl;
+      same = refl;
+      layout = λ b h. ap (λ (n : ℕ). set (set c.args.layout.now (2 * c.args.row) n) (2 * c.args.row + 1) c.args.second) (c.measure_body-m.ensures b h).is_cells;
+    }
