@@ -3,7 +3,7 @@ use Rattle.std.proofs.Common.{◌≡◌, ℕ, ◌+◌, ◌-◌, ◌*◌, ◌<◌
 use lib.Seq.{take-length}
 use borrow.Rule.Slice.PartMut.{put_mid}
 use Rattle.lingua.specs.Numbers.{row_bytes, block_bytes, header_bytes, area_bytes, check_place}
-use Rattle.lingua.specs.Outcome.{if◌then◌else◌}
+use Rattle.std.specs.Prelude.{if◌then◌else◌}
 use Rattle.lingua.specs.Value.{pad}
 use Rattle.lingua.specs.Rows.{row_count}
 use Rattle.lingua.specs.Format.{block_count, block_at, row_area, areas_from, all_zero, used_rows, rows_of}

@@ -8,7 +8,8 @@ use native.Mathlib.Omega.{arith}
 use borrow.Author.Tests.{eq-eqb}
 use lib.Dec.{eqb}
 use lib.ListN.{get_or}
-use Rattle.lingua.specs.Outcome.{if◌then◌else◌, is_some}
+use Rattle.std.specs.Prelude.{if◌then◌else◌}
+use Rattle.lingua.specs.Outcome.{is_some}
 use Rattle.lingua.specs.Body.{Body, record_of, Attributes, end, attribute, count_attributes, attributes_of, attribute_body, same_body, same_attributes, remove_attribute, lacks_one_of, lacks_one, coherent}
 use Rattle.laws.specs.Outcomes.{false_is_true, is_some_lem, same_attributes_lem}
 use Rattle.laws.specs.Removal.{removed_fewer}

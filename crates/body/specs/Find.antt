@@ -1,8 +1,8 @@
 -- Where a record's attributes stand in its bytes. Assumes nothing: these are definitions.
-use Rattle.std.specs.Prelude.{◌≡◌, true, List, ℕ, ◌+◌, ◌≤◌, eqb, ltb, length}
+use Rattle.std.specs.Prelude.{◌≡◌, true, List, ℕ, ◌+◌, ◌≤◌, eqb, ltb, length, if◌then◌else◌}
 use Rattle.std.proofs.Math.Option.{some}
 use Rattle.lingua.specs.Numbers.{body_nodes}
-use Rattle.lingua.specs.Outcome.{if◌then◌else◌, is_some}
+use Rattle.lingua.specs.Outcome.{is_some}
 use Rattle.lingua.specs.Body.{Body, record_of, Attributes, end, attribute, nodes, attribute_body, attribute_offset}
 use Rattle.lingua.specs.Encode.{bytes}
 use Rattle.body.specs.declared.find.Found.{Found}

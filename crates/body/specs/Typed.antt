@@ -1,8 +1,8 @@
 -- What the operations' half on bodies gives, as the code holds it. Assumes nothing: these are definitions.
-use Rattle.std.specs.Prelude.{◌≡◌, ℕ, ◌≤◌, eqb, replicate}
+use Rattle.std.specs.Prelude.{◌≡◌, ℕ, ◌≤◌, eqb, replicate, if◌then◌else◌}
 use Rattle.std.proofs.Math.Option.{Option, some, none}
 use Rattle.lingua.specs.Numbers.{body_cells, body_nodes, body_bytes}
-use Rattle.lingua.specs.Outcome.{ok, fail, Result, if◌then◌else◌}
+use Rattle.lingua.specs.Outcome.{ok, fail, Result}
 use Rattle.lingua.specs.Body.{Body, boolean, number, word, hundredths, Attributes, attributes_of, attribute_offset, insert_attribute, size, nodes}
 use Rattle.lingua.specs.Encode.{encoded}
 use Rattle.lingua.specs.Operation.{Binary, add, subtract, multiply, divide, less, equal, glue, expand, change, push}

@@ -8,7 +8,8 @@ use native.Mathlib.Omega.{arith}
 use lib.Dec.{eqb}
 use Rattle.lingua.specs.Numbers.{body_cells}
 use Rattle.lingua.specs.Errors.{attribute_present, no_such_attribute, no_coherence, body_too_large}
-use Rattle.lingua.specs.Outcome.{ok, fail, Result, require, if◌then◌else◌, ◌>>◌}
+use Rattle.std.specs.Prelude.{if◌then◌else◌}
+use Rattle.lingua.specs.Outcome.{ok, fail, Result, require, ◌>>◌}
 use Rattle.lingua.specs.Body.{Body, boolean, number, word, hundredths, list_of, record_of, Attributes, end, attribute, size, sizes, is_hundredths, same_body, attributes_of, attribute_body, attribute_offset, insert_attribute, too_large}
 use Rattle.lingua.specs.Operation.{Unary, negation, make_record, select, make-list, top, pop, remove, to-hundredths, to_number, Binary, add, subtract, multiply, divide, less, equal, glue, expand, change, push, bounded, present, quantities_to, unary_body, binary_body}
 use Rattle.lingua.specs.Typing.{offset_in, hundredths_flag, unary_second, binary_second}

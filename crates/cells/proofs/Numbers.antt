@@ -12,7 +12,8 @@ use mir.Syntax.{w64}
 use mir.Val.{to_z, of_z}
 use Rattle.lingua.specs.Numbers.{parts_of_one}
 use Rattle.lingua.specs.Errors.{overflow, division_by_zero}
-use Rattle.lingua.specs.Outcome.{ok, fail, Result, require, if◌then◌else◌, ◌>>◌}
+use Rattle.std.specs.Prelude.{if◌then◌else◌}
+use Rattle.lingua.specs.Outcome.{ok, fail, Result, require, ◌>>◌}
 use Rattle.lingua.specs.Body.{Body, is_hundredths, is_quantity}
 use Rattle.lingua.specs.Value.{Value, whole, in_range_of, is_count, quantity, quantity_body, as_whole}
 use Rattle.lingua.specs.Operation.{Binary, add, subtract, multiply, divide, quantities_to, binary_body}

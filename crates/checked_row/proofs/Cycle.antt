@@ -7,7 +7,8 @@ use native.Mathlib.Omega.{arith}
 use lib.IntN.{ℤ}
 use Rattle.lingua.specs.Numbers.{expression_section, most_variables}
 use Rattle.lingua.specs.Errors.{boolean_expected}
-use Rattle.lingua.specs.Outcome.{ok, fail, Result, if◌then◌else◌, ◌>>=◌}
+use Rattle.std.specs.Prelude.{if◌then◌else◌}
+use Rattle.lingua.specs.Outcome.{ok, fail, Result, ◌>>=◌}
 use Rattle.lingua.specs.Value.{Composite}
 use Rattle.lingua.specs.Expression.{Expression, lazy, choice, settled_by}
 use Rattle.lingua.specs.Evaluation.{Variables, truth_or, boolean_of, eval}

@@ -12,7 +12,7 @@ use lib.ListN.{length, get_or, set, take, drop, replicate, get_or-replicate}
 use lib.Seq.{get_or-set_same, get_or-set_other}
 use borrow.Author.Tests.{lt-ltb, le-ltb, eq-eqb, ne_eqb}
 use Rattle.lingua.specs.Numbers.{procedure_section, most_procedures, header_table}
-use Rattle.lingua.specs.Outcome.{if◌then◌else◌}
+use Rattle.std.specs.Prelude.{if◌then◌else◌}
 use Rattle.lingua.specs.Rows.{row_count, section_at, kind_at, count_below, procedure_kind, begins_procedure, table_at, table_start, table_count, procedure_count}
 use Rattle.laws.specs.Tables.{count_alike}
 use Rattle.decoder.specs.Tables.{IsTable, AreCounts, AreTables}

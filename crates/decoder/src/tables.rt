@@ -1,8 +1,7 @@
 // Where each table's rows stand: sections ascend, so a section's rows begin behind those of all lower sections, and so do the procedures,
 // each with the row that begins it and its variables.
-ghost use Rattle.std.specs.Prelude.{◌≡◌, [], ℕ, ◌+◌, ◌*◌, ◌≤◌, ◌<◌, min, length, get_or};
+ghost use Rattle.std.specs.Prelude.{◌≡◌, [], ℕ, ◌+◌, ◌*◌, ◌≤◌, ◌<◌, min, length, get_or, if◌then◌else◌};
 ghost use Rattle.lingua.specs.Numbers.{most_procedures, header_table};
-ghost use Rattle.lingua.specs.Outcome.{if◌then◌else◌};
 ghost use Rattle.lingua.specs.Rows.{count_below, begins_procedure, table_at, table_start, table_count};
 ghost use Rattle.decoder.specs.Tables.{AreCounts, AreTables};
 

@@ -8,7 +8,8 @@ use lib.ListN.{length, take, drop, get_or}
 use lib.IntN.{ℤ}
 use Rattle.lingua.specs.Numbers.{body_cells, most_variables}
 use Rattle.lingua.specs.Errors.{not_filled}
-use Rattle.lingua.specs.Outcome.{ok, fail, Result, if◌then◌else◌, or_fail, ◌>>=◌}
+use Rattle.std.specs.Prelude.{if◌then◌else◌}
+use Rattle.lingua.specs.Outcome.{ok, fail, Result, or_fail, ◌>>=◌}
 use Rattle.lingua.specs.Body.{Body, boolean, size}
 use Rattle.lingua.specs.Value.{Value, truth, as_truth}
 use Rattle.lingua.specs.Operation.{Unary, Binary}

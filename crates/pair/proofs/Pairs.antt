@@ -9,7 +9,7 @@ use lib.ListN.{length, take}
 use borrow.Author.Tests.{eq-eqb, ne_eqb, lt-ltb, le-ltb}
 use Rattle.lingua.specs.Numbers.{most_limits, declaration_section, type_section, limit_section}
 use Rattle.lingua.specs.Errors.{models_differ, bad_limit}
-use Rattle.lingua.specs.Outcome.{if◌then◌else◌}
+use Rattle.std.specs.Prelude.{if◌then◌else◌}
 use Rattle.lingua.specs.Value.{all_of}
 use Rattle.lingua.specs.Rows.{table_count, pair_count}
 use Rattle.lingua.specs.Format.{File, profile, limits, model_of, rows_of}

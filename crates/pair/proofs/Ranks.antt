@@ -8,7 +8,7 @@ use lib.Dec.{eqb, ltb}
 use lib.ListN.{length}
 use borrow.Author.Tests.{eqb-true, ltb-true, ne_eqb}
 use Rattle.lingua.specs.Errors.{refusal_order}
-use Rattle.lingua.specs.Outcome.{if◌then◌else◌}
+use Rattle.std.specs.Prelude.{if◌then◌else◌}
 use Rattle.lingua.specs.Value.{all_of}
 use Rattle.lingua.specs.Format.{every_below}
 use Rattle.lingua.specs.Refusal.{place_in, rank}

@@ -8,7 +8,7 @@ use lib.Dec.{eqb, ltb}
 use lib.ListN.{length, drop, length-append, length-take}
 use lib.IntN.{ℤ, pos, negsuc}
 use Rattle.lingua.specs.Numbers.{body_cells, declaration_section}
-use Rattle.lingua.specs.Outcome.{if◌then◌else◌}
+use Rattle.std.specs.Prelude.{if◌then◌else◌}
 use Rattle.lingua.specs.Body.{size}
 use Rattle.lingua.specs.Store.{Variable, variable_at, present_body, filled_at}
 use Rattle.lingua.specs.Rows.{bytes_at, until_zero, pair_count, name_row}

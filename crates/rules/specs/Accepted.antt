@@ -1,11 +1,11 @@
 -- What each rule that does not apply shows of each row by itself: the counts are in their ranges, references name rows and variables that are there,
 -- attributes and handled errors are in range, and every type row has a body. Assumes nothing.
-use Rattle.std.specs.Prelude.{◌≡◌, refl, Bool, true, false, not, ◌&&◌, ◌||◌, List, [], ◌∷◌, ◌++◌, ℕ, zero, suc, ◌+◌, ◌≤◌, ◌<◌, pred, eqb, ltb, leb}
+use Rattle.std.specs.Prelude.{◌≡◌, refl, Bool, true, false, not, ◌&&◌, ◌||◌, List, [], ◌∷◌, ◌++◌, ℕ, zero, suc, ◌+◌, ◌≤◌, ◌<◌, pred, eqb, ltb, leb, if◌then◌else◌}
 use Rattle.std.proofs.Common.{sym, ap, ◌∙◌, arith}
 use borrow.Author.Tests.{ltb-true, leb-true, not-false}
 use Rattle.lingua.specs.Numbers.{attribute_numbers, most_variables, most_types, most_expressions, most_instructions, most_procedures, declaration_section, type_section, expression_section, instruction_section}
 use Rattle.lingua.specs.Errors.{is_error, record_expected}
-use Rattle.lingua.specs.Outcome.{Outcome, ok, fail, Result, is_ok, if◌then◌else◌}
+use Rattle.lingua.specs.Outcome.{Outcome, ok, fail, Result, is_ok}
 use Rattle.lingua.specs.Body.{Body, boolean, number, word, too_large, size, nodes, depth, width}
 use Rattle.lingua.specs.Operation.{bounded, unary_body, binary_body}
 use Rattle.lingua.specs.Value.{all_of}

@@ -7,7 +7,7 @@ use native.Mathlib.Omega.{arith}
 use lib.Dec.{eqb}
 use borrow.Author.Tests.{eq-eqb, ne_eqb}
 use Rattle.lingua.specs.Errors.{no_error}
-use Rattle.lingua.specs.Outcome.{if◌then◌else◌}
+use Rattle.std.specs.Prelude.{if◌then◌else◌}
 use Rattle.lingua.specs.Store.{Variable}
 use Rattle.lingua.specs.Run.{State, Progress, going, out, step, End, finished, failed}
 use Rattle.lingua.specs.Answers.{Answer, answered, Ending, ending, endNumber, runMeaning}

@@ -1,4 +1,4 @@
--- The variables that an expression reads: an instruction's are those of its row's scope (`root-reads`), and a yoke reads none (`closed-reads`).
+-- The variables that an expression reads: an instruction's are those of its row's scope (`root_reads`), and a yoke reads none (`closed_reads`).
 -- Assumes nothing.
 use mathlib.Core.Path.{◌≡◌, refl, subst}
 use mathlib.Core.Bool.{Bool, true, false, not, ◌||◌}

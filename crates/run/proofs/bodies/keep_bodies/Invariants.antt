@@ -1,4 +1,4 @@
--- `keep_bodies` meets its contract: a turn is `bodies-more`. Assumes nothing.
+-- `keep_bodies` meets its contract: a turn is `bodies_more`. Assumes nothing.
 use mathlib.Core.Path.{◌≡◌, sym, ap, ◌∙◌}
 use mathlib.Core.List.{List}
 use Prim.Native.Nat.{ℕ, ◌-◌, ◌≤◌}

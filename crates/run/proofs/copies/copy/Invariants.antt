@@ -1,4 +1,4 @@
--- `copy` meets its contract: a turn of the loop is `cells-turn`, and a single cell `one_cell`. Assumes nothing.
+-- `copy` meets its contract: a turn of the loop is `cells_turn`, and a single cell `one_cell`. Assumes nothing.
 use mathlib.Core.Path.{◌≡◌, refl, ap, ◌∙◌}
 use mathlib.Core.List.{List}
 use Prim.Native.Nat.{ℕ, ◌+◌, ◌-◌, ◌≤◌}

@@ -1,4 +1,4 @@
--- `in_limits` meets its contract, by `no-limit` and `limit_is`. Assumes nothing.
+-- `in_limits` meets its contract, by `no_limit` and `limit_is`. Assumes nothing.
 use mathlib.Core.Path.{◌∙◌}
 use Prim.Native.Nat.{◌+◌, ◌*◌}
 use lib.IntN.{pos}

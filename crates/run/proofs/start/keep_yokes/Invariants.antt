@@ -1,4 +1,4 @@
--- `keep_yokes` meets its contract: a turn is `yokes-more`. Assumes nothing.
+-- `keep_yokes` meets its contract: a turn is `yokes_more`. Assumes nothing.
 use mathlib.Core.Path.{◌≡◌, sym, ap, ◌∙◌}
 use mathlib.Core.List.{List}
 use Prim.Native.Nat.{ℕ, ◌-◌, ◌≤◌}

@@ -1,4 +1,4 @@
--- `is_filled` meets its contract, by what `filledAt` says. Assumes nothing.
+-- `is_filled` meets its contract, by what `filled_at` says. Assumes nothing.
 use mathlib.Core.Path.{refl}
 use Rattle.lingua.specs.Store.{flag_at, filled_at}
 use borrow.Author.Rules.{rules}

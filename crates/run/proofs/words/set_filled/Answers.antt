@@ -1,4 +1,4 @@
--- `set_filled` meets its contract, by what `fillAt` says. Assumes nothing.
+-- `set_filled` meets its contract, by what `fill_at` says. Assumes nothing.
 use mathlib.Core.Path.{refl}
 use Rattle.lingua.specs.Store.{fill_at}
 use borrow.Author.Rules.{rules}

@@ -1,4 +1,4 @@
--- `set_yoke` meets its contract, by what `setYokeAt` says. Assumes nothing.
+-- `set_yoke` meets its contract, by what `set_yoke_at` says. Assumes nothing.
 use mathlib.Core.Path.{refl}
 use Rattle.lingua.specs.Store.{set_yoke_at}
 use borrow.Author.Rules.{rules}

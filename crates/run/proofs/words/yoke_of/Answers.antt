@@ -1,4 +1,4 @@
--- `yoke_of` meets its contract, by what `yokeAt` says. Assumes nothing.
+-- `yoke_of` meets its contract, by what `yoke_at` says. Assumes nothing.
 use mathlib.Core.Path.{refl}
 use native.Mathlib.Omega.{arith}
 use Rattle.lingua.specs.Store.{yoke_place, yoke_at}

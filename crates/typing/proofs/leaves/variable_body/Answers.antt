@@ -1,4 +1,4 @@
--- `typing::leaves::variable_body` meets its contract: `variable-holds`. Assumes nothing.
+-- `typing::leaves::variable_body` meets its contract: `variable_holds`. Assumes nothing.
 use Rattle.typing.proofs.Parts.{variable_holds, in_pairs}
 use Rattle.typing.proofs.leaves.variable_body.Goals as goal
 
