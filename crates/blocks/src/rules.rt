@@ -5,7 +5,7 @@ ghost use Rattle.lingua.specs.Compute.{same_text};
 ghost use Rattle.lingua.specs.Rows.{word32};
 ghost use Rattle.lingua.specs.Format.{marker, all_zero, empty_block, block_check, length_wrong, marker_wrong, header_wrong, block_check_wrong};
 ghost use Rattle.lingua.specs.Refusal.{lowest, file_rules};
-ghost use Rattle.lingua.specs.Answers.{fileMeaning};
+ghost use Rattle.lingua.specs.Answers.{file_meaning};
 ghost use Rattle.blocks.specs.Blocks.{header_is};
 
 use crate::words::{block_check, word16_at, word32_at};
@@ -15,7 +15,7 @@ use lingua::sizes::{BLOCK_BYTES, CHECK_PLACE, HEADER_BYTES, MOST_BLOCKS};
 
 // ---- 2: the length
 pub fn length_wrong(kind: FileKind, file: &[u8]) -> bool
-    ensures { result ≡ length_wrong (fileMeaning kind) file.now }
+    ensures { result ≡ length_wrong (file_meaning kind) file.now }
 {
     if let FileKind::Limits = kind {
         return file.len() != BLOCK_BYTES;
@@ -33,7 +33,7 @@ pub fn length_wrong(kind: FileKind, file: &[u8]) -> bool
 // ---- 3: the marker
 // A block begins with these four bytes.
 pub fn marker_of(kind: FileKind) -> [u8; 4]
-    ensures { result ≡ marker (fileMeaning kind) }
+    ensures { result ≡ marker (file_meaning kind) }
 {
     match kind {
         FileKind::Profile => *b"PROF",
@@ -58,7 +58,7 @@ fn starts_with(bytes: &[u8], text: &[u8]) -> bool
 }
 
 pub fn marker_wrong(kind: FileKind, file: &[u8]) -> bool
-    ensures { result ≡ marker_wrong (fileMeaning kind) file.now }
+    ensures { result ≡ marker_wrong (file_meaning kind) file.now }
 {
     let marker = marker_of(kind);
     let count = file.len() / BLOCK_BYTES;
@@ -89,7 +89,7 @@ pub fn all_zero(bytes: &[u8]) -> bool
 
 fn empty_block(kind: FileKind, block: &[u8]) -> bool
     requires { check_place ≤ length block.now }
-    ensures { result ≡ empty_block (fileMeaning kind) block.now }
+    ensures { result ≡ empty_block (file_meaning kind) block.now }
 {
     match kind {
         FileKind::Profile => all_zero(&block[HEADER_BYTES..CHECK_PLACE]),
@@ -99,7 +99,7 @@ fn empty_block(kind: FileKind, block: &[u8]) -> bool
 
 fn header_fits(kind: FileKind, block: &[u8], k: usize, count: usize, model: u16) -> bool
     requires { check_place ≤ length block.now }
-    ensures { result ≡ header_is (fileMeaning kind) block.now k count model }
+    ensures { result ≡ header_is (file_meaning kind) block.now k count model }
 {
     if block[4] as usize != k {
         return false;
@@ -114,7 +114,7 @@ fn header_fits(kind: FileKind, block: &[u8], k: usize, count: usize, model: u16)
 }
 
 pub fn header_wrong(kind: FileKind, file: &[u8]) -> bool
-    ensures { result ≡ header_wrong (fileMeaning kind) file.now }
+    ensures { result ≡ header_wrong (file_meaning kind) file.now }
 {
     let count = file.len() / BLOCK_BYTES;
     if count == 0 {
@@ -157,7 +157,7 @@ pub fn check_wrong(file: &[u8]) -> bool
 
 // ---- the lowest of them
 pub fn file_refusal(kind: FileKind, file: &[u8]) -> u8
-    ensures { result ≡ lowest (file_rules (fileMeaning kind) file.now) }
+    ensures { result ≡ lowest (file_rules (file_meaning kind) file.now) }
 {
     if length_wrong(kind, file) {
         return BAD_LENGTH;

@@ -4,7 +4,7 @@ ghost use Rattle.lingua.specs.Numbers.{area_bytes, block_bytes, header_bytes, ch
 ghost use Rattle.lingua.specs.Value.{pad};
 ghost use Rattle.lingua.specs.Rows.{row_count};
 ghost use Rattle.lingua.specs.Format.{with_check, file_length, file_of};
-ghost use Rattle.lingua.specs.Answers.{fileMeaning};
+ghost use Rattle.lingua.specs.Answers.{file_meaning};
 ghost use Rattle.blocks.specs.Blocks.{header_of};
 
 use crate::rows::copy_rows;
@@ -15,7 +15,7 @@ use lingua::sizes::{AREA_BYTES, BLOCK_BYTES, BLOCK_ROWS, CHECK_PLACE, HEADER_BYT
 
 // How long the file of these rows is, however many they are.
 pub fn file_length(kind: FileKind, rows: &[u8]) -> usize
-    ensures { result ≡ file_length (fileMeaning kind) (row_count rows.now) }
+    ensures { result ≡ file_length (file_meaning kind) (row_count rows.now) }
 {
     if let FileKind::Limits = kind {
         return BLOCK_BYTES;
@@ -36,7 +36,7 @@ fn low_byte(x: u32) -> u8
 // The eight bytes before a block's rows.
 fn write_header(kind: FileKind, model: u16, k: u8, count: u8, header: &mut [u8])
     requires { length header.old ≡ header_bytes }
-    ensures { header.new ≡ header_of (fileMeaning kind) model k count }
+    ensures { header.new ≡ header_of (file_meaning kind) model k count }
 {
     let marker = marker_of(kind);
     header[..4].copy_from_slice(&marker);
@@ -61,7 +61,7 @@ fn write_check(block: &mut [u8])
 // Block k of count, with the rows of its area; what the area has left is zero.
 fn write_block(kind: FileKind, model: u16, k: u8, count: u8, area: &[u8], block: &mut [u8])
     requires { (length area.now ≤ area_bytes) × (length block.old ≡ block_bytes) }
-    ensures { block.new ≡ with_check (header_of (fileMeaning kind) model k count ++ pad area_bytes 0 area.now) }
+    ensures { block.new ≡ with_check (header_of (file_meaning kind) model k count ++ pad area_bytes 0 area.now) }
 {
     write_header(kind, model, k, count, &mut block[..HEADER_BYTES]);
     copy_rows(area, &mut block[HEADER_BYTES..CHECK_PLACE]);
@@ -86,8 +86,8 @@ fn area_of(rows: &[u8], k: usize) -> &[u8]
 
 // The file of the rows and the model, over all of out.
 pub fn write_file(kind: FileKind, model: u16, rows: &[u8], out: &mut [u8])
-    requires { (length out.old ≡ file_length (fileMeaning kind) (row_count rows.now)) × (length out.old ≤ block_bytes * most_blocks) }
-    ensures { out.new ≡ file_of (fileMeaning kind) model rows.now }
+    requires { (length out.old ≡ file_length (file_meaning kind) (row_count rows.now)) × (length out.old ≤ block_bytes * most_blocks) }
+    ensures { out.new ≡ file_of (file_meaning kind) model rows.now }
 {
     let count = out.len() / BLOCK_BYTES;
     let mut k = 0;

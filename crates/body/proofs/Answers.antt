@@ -14,9 +14,9 @@ use Rattle.body.specs.declared.typed.Typed.{Typed}
 use Rattle.body.specs.Encode.{Holds}
 use Rattle.body.specs.Typed.{typed, Fit, Types, simple_of}
 
-pub failed-is : (e : ℕ) → 1 ≤ e → (o : ℕ) → Types (record { error = e; body = replicate 96 0; cells = 0; offset = 0 }) (fail e) o
+pub failed_is : (e : ℕ) → 1 ≤ e → (o : ℕ) → Types (record { error = e; body = replicate 96 0; cells = 0; offset = 0 }) (fail e) o
 unfolding typed Fit
-failed-is e h o = record { is = refl; fit = h }
+failed_is e h o = record { is = refl; fit = h }
 
 -- an error of the code, where the definition gives it
 pub failing : (t : Typed) (e : ℕ) → ((o : ℕ) → Types t (fail e) o) → (r : Result Body) → r ≡ fail e → (o : ℕ) → Types t r o
@@ -41,9 +41,9 @@ given x c f b o h p q r e =
     })
 
 -- ---- simple bodies
-scalar-one : (t : ℕ) → (1 ≡ size (simple_of t)) × (1 ≡ nodes (simple_of t))
+scalar_one : (t : ℕ) → (1 ≡ size (simple_of t)) × (1 ≡ nodes (simple_of t))
 unfolding simple_of size nodes
-scalar-one t = by_one (eqb t 1) (eqb t 2) (eqb t 7) refl refl refl
+scalar_one t = by_one (eqb t 1) (eqb t 2) (eqb t 7) refl refl refl
   where
     by_one : (p q r : Bool) → eqb t 1 ≡ p → eqb t 2 ≡ q → eqb t 7 ≡ r → (1 ≡ size (simple_of t)) × (1 ≡ nodes (simple_of t))
     by_one true q r e f g = rw e (refl, refl)
@@ -51,13 +51,13 @@ scalar-one t = by_one (eqb t 1) (eqb t 2) (eqb t 7) refl refl refl
     by_one false false true e f g = rw (e, f, g) (refl, refl)
     by_one false false false e f g = rw (e, f, g) (refl, refl)
 
-pub scalar-cell : (t : ℕ) → 1 ≡ size (simple_of t)
-scalar-cell t = (scalar-one t).0
+pub scalar_cell : (t : ℕ) → 1 ≡ size (simple_of t)
+scalar_cell t = (scalar_one t).0
 
-pub scalar-held : (t : ℕ) → bytes (simple_of t) ≡ t ∷ [] → Holds (pad 96 0 (t ∷ [])) (simple_of t)
+pub scalar_held : (t : ℕ) → bytes (simple_of t) ≡ t ∷ [] → Holds (pad 96 0 (t ∷ [])) (simple_of t)
 unfolding encoded
-scalar-held t h =
-    let one = scalar-one t in
+scalar_held t h =
+    let one = scalar_one t in
     record {
       is = ap (λ (l : List ℕ). pad 96 0 l) (sym h);
       few_cells = omega (arith, one.0);
@@ -67,7 +67,7 @@ scalar-held t h =
 pub scalar_is : (t : ℕ) (x : List ℕ) → x ≡ pad 96 0 (t ∷ []) → bytes (simple_of t) ≡ t ∷ []
     → Types (record { error = 0; body = x; cells = 1; offset = 0 }) (ok (simple_of t)) 0
 scalar_is t x e h =
-    given x 1 0 (simple_of t) 0 (subst (λ (l : List ℕ). Holds l (simple_of t)) (sym e) (scalar-held t h)) (scalar-cell t) refl
+    given x 1 0 (simple_of t) 0 (subst (λ (l : List ℕ). Holds l (simple_of t)) (sym e) (scalar_held t h)) (scalar_cell t) refl
     (ok (simple_of t)) refl
 
 -- ---- the bounds, by the numbers of a body

@@ -24,7 +24,7 @@ use Rattle.body.specs.Encode.{Holds}
 use Rattle.body.proofs.Bytes.{tag}
 use Rattle.body.proofs.Making.{held_at, simple_taken}
 use Rattle.body.proofs.Tags.{held_tag, by_first}
-use Rattle.body.proofs.Answers.{scalar-cell}
+use Rattle.body.proofs.Answers.{scalar_cell}
 use Rattle.cells.proofs.Operands.{lies_long}
 use Rattle.run.proofs.Copying.{one_cell}
 use Rattle.run.proofs.Parts.{cells_room}
@@ -41,7 +41,7 @@ pub simple_is : (first : ℕ) (body : List ℕ) (b : Body) → Holds body b → 
 simple_is first body b h e l =
     record {
       is = λ k. h.is ∙ sym (simple_taken body 0 b (held_at body b h) (omega (arith, l, e))) ∙ ap (λ (j : ℕ). pad body_bytes 0 (j ∷ [])) e;
-      one_cell = λ k. ap size (by_first b (omega (arith, l, e, held_tag body b h))) ∙ sym (scalar-cell (tag b));
+      one_cell = λ k. ap size (by_first b (omega (arith, l, e, held_tag body b h))) ∙ sym (scalar_cell (tag b));
     }
 
 pub no_simple : (body : List ℕ) (b : Body) → IsSimple 0 body b

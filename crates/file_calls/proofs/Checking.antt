@@ -14,7 +14,7 @@ use Rattle.lingua.specs.Format.{rows_of}
 use Rattle.lingua.specs.Refusal.{place_in, rank, lowest, file_rules, row_rules, whole_file_rules, pair_rules, type_check_refusal}
 use Rattle.lingua.specs.Trees.{profile_of}
 use Rattle.lingua.specs.Typing.{check_profile}
-use Rattle.lingua.specs.Answers.{typeCheckMeaning}
+use Rattle.lingua.specs.Answers.{type_check_meaning}
 use Rattle.lingua.specs.declared.CheckAnswer.TheVariants as check_answer
 use Rattle.lingua.specs.Calls.{type_check_unless, type_check_call, type_check_result}
 use Rattle.laws.specs.Refusals.{lowest_skip, lowest_first, all_above}
@@ -31,7 +31,7 @@ unfolding pair_rules whole_file_rules file_rules row_rules all_of rank place_in
 above_one prof lims = refl
 
 call_refused : (prof lims layout : List ℕ) (n m : ℕ) → type_check_refusal prof lims layout ≡ n → n ≡ suc m → type_check_result (check_answer.Refused n) layout ≡ type_check_call prof lims layout
-unfolding type_check_result type_check_call type_check_unless typeCheckMeaning
+unfolding type_check_result type_check_call type_check_unless type_check_meaning
 call_refused prof lims layout n m e s = rw (e, s)
 
 pub check_short : (prof lims layout : List ℕ) → (length layout ≡ layout_length → ⊥) → type_check_result (check_answer.Refused 1) layout ≡ type_check_call prof lims layout
@@ -60,9 +60,9 @@ module _ (prof lims layout areas others bodies : List ℕ) (p : Pair) (room : le
       concludes = subst (λ (rows : List ℕ). Concludes v exit (check_profile (profile_of rows (rows_of lims)))) (h.taken z).rows (c (rows_of lims))
 
       pub check_passed : v.error ≡ 0 → type_check_result check_answer.Passed exit ≡ type_check_call prof lims layout
-      unfolding type_check_result type_check_call type_check_unless typeCheckMeaning
+      unfolding type_check_result type_check_call type_check_unless type_check_meaning
       check_passed e = rw (refusal_is, z) (sym (verdict_passed v exit (check_profile (profile_of (rows_of prof) (rows_of lims))) concludes e))
 
       pub check_failed : (v.error ≡ 0 → ⊥) → type_check_result (check_answer.TypeError v.error v.place) exit ≡ type_check_call prof lims layout
-      unfolding type_check_result type_check_call type_check_unless typeCheckMeaning
+      unfolding type_check_result type_check_call type_check_unless type_check_meaning
       check_failed k = rw (refusal_is, z) (sym (verdict_failed v exit (check_profile (profile_of (rows_of prof) (rows_of lims))) concludes k))

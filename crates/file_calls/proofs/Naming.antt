@@ -11,7 +11,7 @@ use Rattle.lingua.specs.Rows.{pair_count}
 use Rattle.lingua.specs.Lookup.{Lookup, lookup, look_up}
 use Rattle.lingua.specs.Format.{profile, rows_of}
 use Rattle.lingua.specs.Refusal.{lowest, whole_file_rules, find_refusal}
-use Rattle.lingua.specs.Answers.{answered, findMeaning}
+use Rattle.lingua.specs.Answers.{answered, find_meaning}
 use Rattle.lingua.specs.declared.FindAnswer.TheVariants as find_answer
 use Rattle.lingua.specs.Calls.{find_unless, find_call}
 use Rattle.laws.specs.Lookup.{found_first, found_none}
@@ -26,8 +26,8 @@ use Rattle.profile.specs.Find.{found_meaning}
 use Rattle.profile.specs.declared.find.Found.{Found}
 use Rattle.profile.specs.declared.find.Found.TheVariants as found
 
-call_refused : (file name : List ℕ) (n m : ℕ) → find_refusal file ≡ n → n ≡ suc m → findMeaning (find_answer.Refused n) ≡ find_call file name
-unfolding findMeaning find_call find_unless
+call_refused : (file name : List ℕ) (n m : ℕ) → find_refusal file ≡ n → n ≡ suc m → find_meaning (find_answer.Refused n) ≡ find_call file name
+unfolding find_meaning find_call find_unless
 call_refused file name n m e s = rw (e, s)
 
 module _ (t : Taken) (file areas bodies : List ℕ) (h : TakenIs t profile file areas bodies) where
@@ -35,7 +35,7 @@ module _ (t : Taken) (file areas bodies : List ℕ) (h : TakenIs t profile file 
   unfolding find_refusal
   refusal_is = sym h.refusal
 
-  pub find_refused : (name : List ℕ) → (t.refusal ≡ 0 → ⊥) → findMeaning (find_answer.Refused t.refusal) ≡ find_call file name
+  pub find_refused : (name : List ℕ) → (t.refusal ≡ 0 → ⊥) → find_meaning (find_answer.Refused t.refusal) ≡ find_call file name
   find_refused name k = call_refused file name t.refusal _ refusal_is (sym (suc-pred-eq_of_ne-zero k))
 
   module _ (z : t.refusal ≡ 0) where
@@ -68,8 +68,8 @@ module _ (t : Taken) (file areas bodies : List ℕ) (h : TakenIs t profile file 
             let looks : n ≡ suc d = sym (ap (λ (l : Lookup). l.looked) at) ∙ f.1 in
             (omega (arith, f.0.there, few), omega (arith, f.0.there, few, looks))
 
-        pub find_found : findMeaning (find_answer.Found d n) ≡ find_call file name
-        unfolding findMeaning
+        pub find_found : find_meaning (find_answer.Found d n) ≡ find_call file name
+        unfolding find_meaning
         find_found = answers (lookup (some d) n) at
 
       module _ (n : ℕ) (e : r ≡ found.Nothing n) where
@@ -83,6 +83,6 @@ module _ (t : Taken) (file areas bodies : List ℕ) (h : TakenIs t profile file 
             let looks : n ≡ pair_count (take t.length areas) declaration_section = sym (ap (λ (l : Lookup). l.looked) missing) ∙ f.1 in
             omega (arith, few, looks)
 
-        pub find_missing : findMeaning (find_answer.Missing n) ≡ find_call file name
-        unfolding findMeaning
+        pub find_missing : find_meaning (find_answer.Missing n) ≡ find_call file name
+        unfolding find_meaning
         find_missing = answers (lookup none n) missing

@@ -1,6 +1,6 @@
 // The reader and the writer of both kinds of file, as public calls.
 ghost use Rattle.std.specs.Prelude.{◌≡◌, length};
-ghost use Rattle.lingua.specs.Answers.{fileMeaning};
+ghost use Rattle.lingua.specs.Answers.{file_meaning};
 ghost use Rattle.lingua.specs.Calls.{read_call, read_result, write_call, write_result};
 
 use blocks::rows::copy_rows;
@@ -15,7 +15,7 @@ use rules::refusal::rows_refusal;
 
 // document 01: the reader. The caller's buffer is written only once no rule applies.
 pub fn read(kind: FileKind, file: &[u8], rows: &mut [u8]) -> ReadAnswer
-    ensures { read_result result rows.new ≡ read_call (fileMeaning kind) file.now rows.old }
+    ensures { read_result result rows.new ≡ read_call (file_meaning kind) file.now rows.old }
 {
     if rows.len() != ROWS_LENGTH {
         return ReadAnswer::Refused(BAD_BUFFER);
@@ -37,7 +37,7 @@ pub fn read(kind: FileKind, file: &[u8], rows: &mut [u8]) -> ReadAnswer
 
 // document 01: the writer.
 pub fn write(kind: FileKind, model: u16, rows: &[u8], file: &mut [u8]) -> WriteAnswer
-    ensures { write_result result file.new ≡ write_call (fileMeaning kind) model rows.now file.old }
+    ensures { write_result result file.new ≡ write_call (file_meaning kind) model rows.now file.old }
 {
     if rows.len() % ROW_BYTES != 0 {
         return WriteAnswer::Refused(BAD_BUFFER);

@@ -1,6 +1,6 @@
 // The search for a variable by its name as a public call: a reading is told its variable by the index that this answers.
 ghost use Rattle.std.specs.Prelude.{◌≡◌};
-ghost use Rattle.lingua.specs.Answers.{findMeaning};
+ghost use Rattle.lingua.specs.Answers.{find_meaning};
 ghost use Rattle.lingua.specs.Calls.{find_call};
 
 use lingua::errors::NO_ERROR;
@@ -11,7 +11,7 @@ use profile::find::{Found, find};
 
 // Among the profile's own declarations; a procedure's are not searched. Nothing is lent, so a refusal leaves nothing.
 pub fn find_variable(profile: &[u8], name: [u8; NAME_BYTES]) -> FindAnswer
-    ensures { findMeaning result ≡ find_call profile.now name }
+    ensures { find_meaning result ≡ find_call profile.now name }
 {
     let mut areas = [0u8; AREAS_LENGTH];
     let mut bodies = [0u8; TYPE_BODIES_LENGTH];

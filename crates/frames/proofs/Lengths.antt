@@ -10,7 +10,7 @@ use Rattle.lingua.specs.Value.{whole, in_range, Composite, composite, in_range_o
 use Rattle.lingua.specs.Expression.{Expression, Yoke}
 use Rattle.lingua.specs.Evaluation.{eval, no_current}
 use Rattle.lingua.specs.Store.{Variable, variable_at, contents, admitted, assigned, copied, yoke_holds, yoke_changed, with_content, with_yoke, Reading, counts_hundredths, reading_value, reading_taken}
-use Rattle.safety.specs.Answers.{same_answer, bound, some-answer, demanded, after}
+use Rattle.safety.specs.Answers.{same_answer, bound, some_answer, demanded, after}
 
 pub assigned_long : (vs : List Variable) (n : ℕ) (x : Composite) (ws : List Variable) → assigned vs n x ≡ ok ws → length ws ≡ length vs
 unfolding assigned
@@ -39,5 +39,5 @@ taken_long vs r ws e =
 pub copied_long : (vs : List Variable) (n : ℕ) (us : List Variable) (m : ℕ) (ws : List Variable) → copied assigned vs n us m ≡ ok ws → length ws ≡ length us
 unfolding copied
 copied_long vs n us m ws e =
-    let x = some-answer (contents vs n) not_filled (λ y. assigned us m y) ws e in
+    let x = some_answer (contents vs n) not_filled (λ y. assigned us m y) ws e in
     assigned_long us m x.0 ws x.2

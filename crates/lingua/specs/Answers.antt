@@ -6,7 +6,7 @@ use Rattle.lingua.specs.Run.{End, finished, failed, out-of-budget}
 use Rattle.lingua.specs.Lookup.{Lookup, lookup}
 use Rattle.lingua.specs.Format.{File, profile, limits}
 use Rattle.lingua.specs.declared.FileKind.{FileKind}
-use Rattle.lingua.specs.declared.FileKind.TheVariants as file-kind
+use Rattle.lingua.specs.declared.FileKind.TheVariants as file_kind
 use Rattle.lingua.specs.declared.RunAnswer.{RunAnswer}
 use Rattle.lingua.specs.declared.RunAnswer.TheVariants as run_answer
 use Rattle.lingua.specs.declared.CheckAnswer.{CheckAnswer}
@@ -34,46 +34,46 @@ abbrev pub ending : ℕ → ℕ → ℕ → ℕ → Ending
 ending n e p s = record { end = n; error = e; place = p; steps = s }
 
 -- 0 finished, 1 failed, 2 out
-abbrev pub endNumber : End → ℕ
-endNumber finished = 0
-endNumber failed = 1
-endNumber out-of-budget = 2
+abbrev pub end_number : End → ℕ
+end_number finished = 0
+end_number failed = 1
+end_number out-of-budget = 2
 
-unfoldable pub runMeaning : RunAnswer → Answer Ending
-runMeaning (run_answer.Refused n) = refused n
-runMeaning (run_answer.Finished s) = answered (ending (endNumber finished) 0 0 s)
-runMeaning (run_answer.Failed e p s) = answered (ending (endNumber failed) e p s)
-runMeaning (run_answer.Out e p s) = answered (ending (endNumber out-of-budget) e p s)
+unfoldable pub run_meaning : RunAnswer → Answer Ending
+run_meaning (run_answer.Refused n) = refused n
+run_meaning (run_answer.Finished s) = answered (ending (end_number finished) 0 0 s)
+run_meaning (run_answer.Failed e p s) = answered (ending (end_number failed) e p s)
+run_meaning (run_answer.Out e p s) = answered (ending (end_number out-of-budget) e p s)
 
 -- ---- the type check
 pub data Verdict : Type 0 where
   passed : Verdict
   faulted : ℕ → ℕ → Verdict
 
-unfoldable pub typeCheckMeaning : CheckAnswer → Answer Verdict
-typeCheckMeaning (check_answer.Refused n) = refused n
-typeCheckMeaning check_answer.Passed = answered passed
-typeCheckMeaning (check_answer.TypeError e p) = answered (faulted e p)
+unfoldable pub type_check_meaning : CheckAnswer → Answer Verdict
+type_check_meaning (check_answer.Refused n) = refused n
+type_check_meaning check_answer.Passed = answered passed
+type_check_meaning (check_answer.TypeError e p) = answered (faulted e p)
 
 -- ---- the reader and the writer
 pub record RowsRead : Type 0 where
   pub model : ℕ
   pub count : ℕ
 
-unfoldable pub readMeaning : ReadAnswer → Answer RowsRead
-readMeaning (read_answer.Refused n) = refused n
-readMeaning (read_answer.Rows m n) = answered (record { model = m; count = n })
+unfoldable pub read_meaning : ReadAnswer → Answer RowsRead
+read_meaning (read_answer.Refused n) = refused n
+read_meaning (read_answer.Rows m n) = answered (record { model = m; count = n })
 
-unfoldable pub writeMeaning : WriteAnswer → Answer (Unit {0})
-writeMeaning (write_answer.Refused n) = refused n
-writeMeaning write_answer.Written = answered tt
+unfoldable pub write_meaning : WriteAnswer → Answer (Unit {0})
+write_meaning (write_answer.Refused n) = refused n
+write_meaning write_answer.Written = answered tt
 
-unfoldable pub fileMeaning : FileKind → File
-fileMeaning file-kind.Profile = profile
-fileMeaning file-kind.Limits = limits
+unfoldable pub file_meaning : FileKind → File
+file_meaning file_kind.Profile = profile
+file_meaning file_kind.Limits = limits
 
 -- ---- the search for a variable by its name
-unfoldable pub findMeaning : FindAnswer → Answer Lookup
-findMeaning (find_answer.Refused n) = refused n
-findMeaning (find_answer.Found d n) = answered (lookup (some d) n)
-findMeaning (find_answer.Missing n) = answered (lookup none n)
+unfoldable pub find_meaning : FindAnswer → Answer Lookup
+find_meaning (find_answer.Refused n) = refused n
+find_meaning (find_answer.Found d n) = answered (lookup (some d) n)
+find_meaning (find_answer.Missing n) = answered (lookup none n)

@@ -13,7 +13,7 @@ use Rattle.lingua.specs.Lookup.{Lookup, look_up}
 use Rattle.lingua.specs.Format.{File, model_of, rows_of, file_of}
 use Rattle.lingua.specs.Inputs.{Inputs, Buffers, buffers}
 use Rattle.lingua.specs.Refusal.{read_refusal, find_refusal, write_refusal, type_check_refusal, checked_refusal, erased_refusal}
-use Rattle.lingua.specs.Answers.{Answer, refused, answered, Ending, ending, endNumber, Verdict, passed, faulted, RowsRead, runMeaning, typeCheckMeaning, readMeaning, writeMeaning}
+use Rattle.lingua.specs.Answers.{Answer, refused, answered, Ending, ending, end_number, Verdict, passed, faulted, RowsRead, run_meaning, type_check_meaning, read_meaning, write_meaning}
 use Rattle.lingua.specs.declared.RunAnswer.{RunAnswer}
 use Rattle.lingua.specs.declared.CheckAnswer.{CheckAnswer}
 use Rattle.lingua.specs.declared.ReadAnswer.{ReadAnswer}
@@ -80,7 +80,7 @@ readings_of (v ∷ vs) [] = []
 readings_of (v ∷ vs) (z ∷ zs) = record { variable = v; number = z } ∷ readings_of vs zs
 
 unfoldable pub ending_of : ℕ → Progress → Ending
-ending_of budget p = ending (endNumber (end_of p)) (last_state p).error (last_state p).place (steps_of budget p)
+ending_of budget p = ending (end_number (end_of p)) (last_state p).error (last_state p).place (steps_of budget p)
 
 -- the caller's buffers as a run leaves them
 unfoldable pub registers_of : Progress → Buffers
@@ -129,19 +129,19 @@ erased_call i budget b layout = erased_unless (erased_refusal i b layout) i budg
 
 -- ---- what a call of the code gave: its answer's meaning, and the lent memory as it left it
 unfoldable pub read_result : ReadAnswer → List ℕ → ReadCall
-read_result r buffer = record { answer = readMeaning r; buffer = buffer }
+read_result r buffer = record { answer = read_meaning r; buffer = buffer }
 
 unfoldable pub write_result : WriteAnswer → List ℕ → WriteCall
-write_result r buffer = record { answer = writeMeaning r; buffer = buffer }
+write_result r buffer = record { answer = write_meaning r; buffer = buffer }
 
 unfoldable pub type_check_result : CheckAnswer → List ℕ → TypeCheckCall
-type_check_result r layout = record { answer = typeCheckMeaning r; layout = layout }
+type_check_result r layout = record { answer = type_check_meaning r; layout = layout }
 
 unfoldable pub run_result : RunAnswer → Buffers → RunCall
-run_result r b = record { answer = runMeaning r; registers = b }
+run_result r b = record { answer = run_meaning r; registers = b }
 
 unfoldable pub checked_result : RunAnswer → Buffers → List ℕ → CheckedCall
-checked_result r b bodies = record { answer = runMeaning r; registers = b; bodies = bodies }
+checked_result r b bodies = record { answer = run_meaning r; registers = b; bodies = bodies }
 
 unfoldable pub erased_result : RunAnswer → Buffers → List ℕ → ErasedCall
-erased_result r b layout = record { answer = runMeaning r; registers = b; layout = layout }
+erased_result r b layout = record { answer = run_meaning r; registers = b; layout = layout }

@@ -15,7 +15,7 @@ use Rattle.lingua.specs.Value.{all_of, pad}
 use Rattle.lingua.specs.Rows.{row_count, table_count}
 use Rattle.lingua.specs.Format.{File, profile, limits, block_count, blocks_for, model_of, rows_of, file_of, file_length}
 use Rattle.lingua.specs.Refusal.{rank, place_in, lowest, file_rules, row_rules, whole_file_rules, read_refusal, write_refusal}
-use Rattle.lingua.specs.Answers.{readMeaning, writeMeaning}
+use Rattle.lingua.specs.Answers.{read_meaning, write_meaning}
 use Rattle.lingua.specs.declared.ReadAnswer.TheVariants as read_answer
 use Rattle.lingua.specs.declared.WriteAnswer.TheVariants as write_answer
 use Rattle.lingua.specs.Calls.{read_unless, read_call, read_result, write_unless, write_call, write_result}
@@ -68,7 +68,7 @@ above_one profile file = refl
 above_one limits file = refl
 
 read_as : (f : File) (file buffer : List ℕ) (n m : ℕ) → read_refusal f file buffer ≡ n → n ≡ suc m → read_result (read_answer.Refused n) buffer ≡ read_call f file buffer
-unfolding read_result read_call read_unless readMeaning
+unfolding read_result read_call read_unless read_meaning
 read_as f file buffer n m e s = rw (e, s)
 
 pub read_short : (f : File) (file buffer : List ℕ) → (length buffer ≡ rows_length → ⊥) → read_result (read_answer.Refused 1) buffer ≡ read_call f file buffer
@@ -88,7 +88,7 @@ read_refused f file buffer n l e h = read_as f file buffer n _ (refusal_is f fil
 
 pub read_done : (f : File) (file buffer out : List ℕ) (model count : ℕ) → length buffer ≡ rows_length → 0 ≡ lowest (whole_file_rules f file)
     → out ≡ pad rows_length 0 (rows_of file) → model ≡ model_of file → count ≡ row_count (rows_of file) → read_result (read_answer.Rows model count) out ≡ read_call f file buffer
-unfolding read_result read_call read_unless readMeaning
+unfolding read_result read_call read_unless read_meaning
 read_done f file buffer out model count l e p q r = rw (refusal_is f file buffer 0 l e, p, q, r)
 
 -- ---- the writer
@@ -99,7 +99,7 @@ rows_above limits rows = refl
 
 write_as : (f : File) (model : ℕ) (rows buffer : List ℕ) (n m : ℕ) → write_refusal f rows buffer ≡ n → n ≡ suc m
     → write_result (write_answer.Refused n) buffer ≡ write_call f model rows buffer
-unfolding write_result write_call write_unless writeMeaning
+unfolding write_result write_call write_unless write_meaning
 write_as f model rows buffer n m e s = rw (e, s)
 
 -- rule 1 of the writer: rows that are no whole tens, or a buffer of another length
@@ -129,7 +129,7 @@ module _ (f : File) (model : ℕ) (rows buffer : List ℕ) (tens : length rows %
   write_refused n e h = write_as f model rows buffer n _ (write_refusal_is n e) (sym (suc-pred-eq_of_ne-zero h))
 
   pub write_done : (out : List ℕ) → 0 ≡ lowest (row_rules f rows) → out ≡ file_of f model rows → write_result write_answer.Written out ≡ write_call f model rows buffer
-  unfolding write_result write_call write_unless writeMeaning
+  unfolding write_result write_call write_unless write_meaning
   write_done out e p = rw (write_refusal_is 0 e, p)
 
 -- ---- taking a file whole

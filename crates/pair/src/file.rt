@@ -1,7 +1,7 @@
 // One whole file: the lowest of its own rules, or its rows gathered.
 ghost use Rattle.std.specs.Prelude.{◌≡◌, ◌≤◌, length};
 ghost use Rattle.lingua.specs.Numbers.{type_bodies_length};
-ghost use Rattle.lingua.specs.Answers.{fileMeaning};
+ghost use Rattle.lingua.specs.Answers.{file_meaning};
 ghost use Rattle.pair.specs.Taken.{room_for, TakenIs};
 
 use blocks::rows::gather_rows;
@@ -22,9 +22,9 @@ pub struct Taken {
 // A whole file, its rows gathered to the front of areas, which has room for those of any accepted file of its kind; and the bodies of a
 // profile's type rows.
 pub fn take(kind: FileKind, file: &[u8], areas: &mut [u8], bodies: &mut [u8]) -> Taken
-    requires kind_in_bounds { room_for (fileMeaning kind) ≤ length areas.old }
+    requires kind_in_bounds { room_for (file_meaning kind) ≤ length areas.old }
     requires bodies_len { length bodies.old ≡ type_bodies_length }
-    ensures { TakenIs result (fileMeaning kind) file.now areas.new bodies.new }
+    ensures { TakenIs result (file_meaning kind) file.now areas.new bodies.new }
 {
     let first = file_refusal(kind, file);
     if first != NO_ERROR {

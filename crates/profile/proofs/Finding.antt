@@ -16,7 +16,7 @@ use Rattle.lingua.specs.Refusal.{is_variable_of, names_one}
 use Rattle.laws.specs.Tests.{every_all}
 use Rattle.laws.specs.Equal.{same_text_lem, text_same}
 use Rattle.laws.specs.Lookup.{Unnamed, NamedAt, found_first, found_none}
-use Rattle.safety.specs.Answers.{true-is-false}
+use Rattle.safety.specs.Answers.{true_is_false}
 use Rattle.safety.specs.Limited.{variable_named}
 use Rattle.profile.specs.Find.{found_meaning, OneNamed}
 use Rattle.profile.specs.declared.find.Found.{Found}
@@ -57,7 +57,7 @@ module _ (p : Body → Bool) (rows name : List ℕ) where
       by : (a b : Bool) → is_variable_of p rows d ≡ a → names_one p rows name ≡ b → is_variable_of p rows d ≡ names_one p rows name
       by true b e q = e ∙ variable_found d h e
       by false false e q = e ∙ sym q
-      by false true e q = true-is-false (sym (variable_named rows right p d h.there name back q) ∙ e)
+      by false true e q = true_is_false (sym (variable_named rows right p d h.there name back q) ∙ e)
 
   -- a variable that is found is there
   pub found_there : (r : Found) (d n : ℕ) → r ≡ At d n → found_meaning r ≡ look_up rows name → d < pair_count rows declaration_section

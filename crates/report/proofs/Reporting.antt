@@ -1,7 +1,7 @@
 -- The whole report: the first line and the variables' lines of the call's answer and memory are the report's text, and it finds room.
 -- Assumes nothing.
 use mathlib.Core.Path.{◌≡◌, refl, sym, ap, ◌∙◌, subst}
-use mathlib.Core.List.{List, [], ◌++◌, append-nil}
+use mathlib.Core.List.{List, [], ◌++◌, append_nil}
 use Prim.Native.Nat.{ℕ, zero, suc, ◌≤◌}
 use native.Mathlib.Omega.{arith}
 use lib.ListN.{length, take, replicate}
@@ -16,7 +16,7 @@ use Rattle.lingua.specs.Run.{run, last_state}
 use Rattle.lingua.specs.Trees.{profile_of}
 use Rattle.lingua.specs.Inputs.{inputs, Buffers, buffers}
 use Rattle.lingua.specs.Refusal.{lowest, pair_rules, reading_wrong, run_fits, checked_refusal}
-use Rattle.lingua.specs.Answers.{runMeaning}
+use Rattle.lingua.specs.Answers.{run_meaning}
 use Rattle.lingua.specs.declared.RunAnswer.{RunAnswer}
 use Rattle.lingua.specs.Calls.{CheckedCall, readings_of, ending_of, registers_of, ran, run_of, checked_unless, checked_call, checked_result}
 use Rattle.lingua.specs.Report.{end_line, refused_text, run_text, report_unless, report_text}
@@ -59,14 +59,14 @@ module _ (prof lims : List ℕ) where
 
     text_by : (n : ℕ) → lowest (pair_rules prof lims) ≡ n
         → checked_result answer after bodies ≡ checked_unless n (inputs prof lims [] []) report_budget lent_buffers lent_bodies
-        → answer_text (runMeaning answer) ++ lines_unless n (rows_of prof) after.cells after.states last ≡ report_unless n prof lims
+        → answer_text (run_meaning answer) ++ lines_unless n (rows_of prof) after.cells after.states last ≡ report_unless n prof lims
     unfolding checked_result checked_unless ran registers_of run_of readings_of answer_text lines_unless report_unless run_text
     text_by zero z e =
         ap (λ (r : CheckedCall). answer_text r.answer ++ memory_lines (rows_of prof) r.registers.cells r.registers.states last 0 (pair_count (rows_of prof) declaration_section)) e
         ∙ ap (λ (l : List ℕ). end_line (ending_of report_budget (run_of (inputs prof lims [] []) report_budget)) ++ l) (sym (store_lines prof lims z report_budget))
-    text_by (suc n) z e = ap (λ (r : CheckedCall). answer_text r.answer ++ []) e ∙ append-nil (refused_text (suc n))
+    text_by (suc n) z e = ap (λ (r : CheckedCall). answer_text r.answer ++ []) e ∙ append_nil (refused_text (suc n))
 
-    report_is : checked_result answer after bodies ≡ report_call prof lims → answer_text (runMeaning answer) ++ variables_text prof lims after.cells after.states last ≡ report_text prof lims
+    report_is : checked_result answer after bodies ≡ report_call prof lims → answer_text (run_meaning answer) ++ variables_text prof lims after.cells after.states last ≡ report_text prof lims
     unfolding variables_text report_text
     report_is e = text_by (lowest (pair_rules prof lims)) refl (by_rules e) ∙ ap (λ (n : ℕ). report_unless n prof lims) (sym refusal_is)
 
@@ -74,7 +74,7 @@ module _ (prof lims : List ℕ) where
         {out mid end-bytes : List ℕ} {then end : ℕ} →
         most_text ≤ length out →
         checked_result answer after bodies ≡ report_call prof lims →
-        Appended out 0 (answer_text (runMeaning answer)) mid then →
+        Appended out 0 (answer_text (run_meaning answer)) mid then →
         length mid ≡ length out →
         Appended mid then (variables_text prof lims after.cells after.states last) end-bytes end →
         Written end-bytes end (report_text prof lims)
@@ -84,7 +84,7 @@ module _ (prof lims : List ℕ) where
           within = whole.within (omega arith);
           is =
               whole.bytes
-              ∙ take_all (length out) (answer_text (runMeaning answer) ++ variables_text prof lims after.cells after.states last)
-              (omega (arith, report_fits prof lims (run_left e) (runMeaning answer)))
+              ∙ take_all (length out) (answer_text (run_meaning answer) ++ variables_text prof lims after.cells after.states last)
+              (omega (arith, report_fits prof lims (run_left e) (run_meaning answer)))
               ∙ report_is e;
         }

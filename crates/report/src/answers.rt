@@ -1,5 +1,5 @@
 // The report's first line, by the run's answer.
-ghost use Rattle.lingua.specs.Answers.{runMeaning};
+ghost use Rattle.lingua.specs.Answers.{run_meaning};
 ghost use Rattle.text.specs.Appended.{Appended};
 ghost use Rattle.report.specs.Call.{answer_text};
 
@@ -17,7 +17,7 @@ const OUT: u8 = 2;
 const NO_PLACE: u16 = 0;
 
 pub(crate) fn put_answer(answer: RunAnswer, out: &mut [u8]) -> usize
-    ensures { Appended out.old 0 (answer_text (runMeaning answer)) out.new result }
+    ensures { Appended out.old 0 (answer_text (run_meaning answer)) out.new result }
 {
     match answer {
         RunAnswer::Refused(number) => return put_refused_line(out, 0, number),

@@ -4,7 +4,7 @@ ghost use Rattle.std.specs.Int.{w64};
 ghost use Rattle.std.proofs.Common.{to_z};
 ghost use Rattle.lingua.specs.Numbers.{type_section, expression_section, instruction_section};
 ghost use Rattle.lingua.specs.Errors.{is_error};
-ghost use Rattle.lingua.specs.Answers.{fileMeaning};
+ghost use Rattle.lingua.specs.Answers.{file_meaning};
 ghost use Rattle.lingua.specs.Value.{all_of};
 ghost use Rattle.lingua.specs.Rows.{table_count, type_row, expression_row, instruction_row};
 ghost use Rattle.lingua.specs.Format.{profile, every_below};
@@ -142,7 +142,7 @@ fn profile_constant_wrong(rows: &[u8], t: Tables) -> bool
 
 pub fn constant_wrong(file: FileKind, rows: &[u8], t: Tables) -> bool
     requires { AreTables rows.now t }
-    ensures { result ≡ constant_wrong (fileMeaning file) rows.now }
+    ensures { result ≡ constant_wrong (file_meaning file) rows.now }
 {
     match file {
         FileKind::Profile => profile_constant_wrong(rows, t),

@@ -1,6 +1,6 @@
 // Rule 7: how many rows each section has, and how many procedures there are.
 ghost use Rattle.std.specs.Prelude.{◌≡◌, List, ℕ};
-ghost use Rattle.lingua.specs.Answers.{fileMeaning};
+ghost use Rattle.lingua.specs.Answers.{file_meaning};
 ghost use Rattle.lingua.specs.Format.{profile};
 ghost use Rattle.lingua.specs.Rules.{between, count_wrong};
 ghost use Rattle.decoder.specs.Tables.{AreTables};
@@ -20,7 +20,7 @@ pub fn in_between(low: usize, high: usize, n: usize) -> bool
 
 // Declarations and limits are counted in pairs.
 pub fn count_wrong(file: FileKind, t: Tables) -> bool
-    ensures { (rows : List ℕ) → AreTables rows t → result ≡ count_wrong (fileMeaning file) rows }
+    ensures { (rows : List ℕ) → AreTables rows t → result ≡ count_wrong (file_meaning file) rows }
 {
     match file {
         FileKind::Profile => profile_count_wrong(t),

@@ -1,7 +1,7 @@
 // Rule 6: the form of rows, each by itself and in their order.
 ghost use Rattle.std.specs.Prelude.{◌≡◌, [], ◌∷◌, ◌+◌, ◌*◌, ◌-◌, ◌/◌, ◌≤◌, length, get_or};
 ghost use Rattle.std.proofs.Math.Option.{some, none};
-ghost use Rattle.lingua.specs.Answers.{fileMeaning};
+ghost use Rattle.lingua.specs.Answers.{file_meaning};
 ghost use Rattle.lingua.specs.Rows.{row_count, kind_at};
 ghost use Rattle.lingua.specs.Format.{every_below};
 ghost use Rattle.lingua.specs.Rules.{used_bytes, section_belongs, row_fits, ascending, paired, form_wrong};
@@ -24,7 +24,7 @@ use lingua::sizes::{
 
 // Limits stand alone in limits files; a profile has the sections before them, and the procedures behind.
 fn section_belongs(file: FileKind, section: u8) -> bool
-    ensures { result ≡ section_belongs (fileMeaning file) section }
+    ensures { result ≡ section_belongs (file_meaning file) section }
 {
     match file {
         FileKind::Profile => in_between(1, 4, section as usize) || section == PROCEDURE_SECTION,
@@ -110,7 +110,7 @@ fn used_bytes(rows: &[u8], i: usize, section: u8) -> usize
 
 fn row_fits(file: FileKind, rows: &[u8], i: usize) -> bool
     requires { 10 * i + 10 ≤ length rows.now }
-    ensures { result ≡ row_fits (fileMeaning file) rows.now i }
+    ensures { result ≡ row_fits (file_meaning file) rows.now i }
 {
     let section = section_at(rows, i);
     if !section_belongs(file, section) {
@@ -124,7 +124,7 @@ fn row_fits(file: FileKind, rows: &[u8], i: usize) -> bool
 }
 
 fn rows_fit(file: FileKind, rows: &[u8]) -> bool
-    ensures { result ≡ every_below (row_count rows.now) (λ i. row_fits (fileMeaning file) rows.now i) }
+    ensures { result ≡ every_below (row_count rows.now) (λ i. row_fits (file_meaning file) rows.now i) }
 {
     let n = rows.len() / ROW_BYTES;
     let mut i = 0;
@@ -170,7 +170,7 @@ fn is_paired(rows: &[u8], t: Table) -> bool
 
 pub fn form_wrong(file: FileKind, rows: &[u8], t: Tables) -> bool
     requires { AreTables rows.now t }
-    ensures { result ≡ form_wrong (fileMeaning file) rows.now }
+    ensures { result ≡ form_wrong (file_meaning file) rows.now }
 {
     if !rows_fit(file, rows) {
         return true;

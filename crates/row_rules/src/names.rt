@@ -1,7 +1,7 @@
 // Rule 8: names of declarations, a procedure's too, and of limits.
 ghost use Rattle.std.specs.Prelude.{◌≡◌, ◌+◌, ◌*◌, ◌/◌, ◌≤◌, ◌<◌, length};
 ghost use Rattle.lingua.specs.Numbers.{most_procedures};
-ghost use Rattle.lingua.specs.Answers.{fileMeaning};
+ghost use Rattle.lingua.specs.Answers.{file_meaning};
 ghost use Rattle.lingua.specs.Format.{profile};
 ghost use Rattle.lingua.specs.Compute.{same_text};
 ghost use Rattle.lingua.specs.Rules.{is_name, is_new, names_fit, name_wrong};
@@ -96,8 +96,8 @@ fn profile_name_wrong(rows: &[u8], t: Tables) -> bool
 
 pub fn name_wrong(file: FileKind, rows: &[u8], t: Tables) -> bool
     requires are_tables { AreTables rows.now t }
-    requires few_procedures { FewProcedures (fileMeaning file) t }
-    ensures { result ≡ name_wrong (fileMeaning file) rows.now }
+    requires few_procedures { FewProcedures (file_meaning file) t }
+    ensures { result ≡ name_wrong (file_meaning file) rows.now }
 {
     match file {
         FileKind::Profile => profile_name_wrong(rows, t),

@@ -6,7 +6,7 @@ use Prim.Native.Nat.{ℕ}
 use native.Mathlib.Omega.{arith}
 use Rattle.lingua.specs.declared.FileKind.{FileKind}
 use Rattle.lingua.specs.declared.FileKind.TheVariants.{Profile, Limits}
-use Rattle.lingua.specs.Answers.{fileMeaning}
+use Rattle.lingua.specs.Answers.{file_meaning}
 use Rattle.lingua.specs.Value.{all_of}
 use Rattle.lingua.specs.Errors.{bad_form, bad_count, bad_name, bad_constant}
 use Rattle.lingua.specs.Rows.{pair_count}
@@ -125,12 +125,12 @@ module _ (a b c d e f : Bool) where
   links_pass p q r s t u = rw (p, q, r, s, t, u)
 
 -- ---- the kind of file that the caller names
-pub is_profile : (k : FileKind) → k ≡ Profile → fileMeaning k ≡ profile
-unfolding fileMeaning
+pub is_profile : (k : FileKind) → k ≡ Profile → file_meaning k ≡ profile
+unfolding file_meaning
 is_profile k e = rw e
 
-pub is_limits : (k : FileKind) → k ≡ Limits → fileMeaning k ≡ limits
-unfolding fileMeaning
+pub is_limits : (k : FileKind) → k ≡ Limits → file_meaning k ≡ limits
+unfolding file_meaning
 is_limits k e = rw e
 
 pub later_profile : (f : File) (rows : List ℕ) → f ≡ profile → lowest (link_rules rows) ≡ lowest (later f rows)
@@ -175,6 +175,6 @@ refused_judged f rows e h = record { refusal = e; held = λ p z. absurd (h z) }
 pub refused_linked : (rows : List ℕ) {r : ℕ} {bodies : List ℕ} → r ≡ lowest (link_rules rows) → (r ≡ 0 → ⊥) → Linked r rows bodies
 refused_linked rows e h = record { refusal = e; held = λ z. absurd (h z) }
 
-pub only_profile : {A : Type 0} (k : FileKind) → k ≡ Limits → fileMeaning k ≡ profile → A
-unfolding fileMeaning
+pub only_profile : {A : Type 0} (k : FileKind) → k ≡ Limits → file_meaning k ≡ profile → A
+unfolding file_meaning
 only_profile k e p = let z : ◌≡◌ {A = ℕ} 0 1 = cc in absurd (let b : ⊥ = omega arith in b)

@@ -1,7 +1,7 @@
 // The first of rules 6 to 13, 18 and 19 that applies to a file's rows. Rules are asked in order, so that each may rely on those before.
 ghost use Rattle.std.specs.Prelude.{◌≡◌, length};
 ghost use Rattle.lingua.specs.Numbers.{type_bodies_length};
-ghost use Rattle.lingua.specs.Answers.{fileMeaning};
+ghost use Rattle.lingua.specs.Answers.{file_meaning};
 ghost use Rattle.decoder.specs.Tables.{AreTables};
 ghost use Rattle.rules.specs.Refusals.{Linkable, Linked, Judged};
 
@@ -53,7 +53,7 @@ fn link_refusal(rows: &[u8], t: Tables, bodies: &mut [u8]) -> u8
 pub fn rows_refusal(file: FileKind, rows: &[u8], t: Tables, bodies: &mut [u8]) -> u8
     requires are_tables { AreTables rows.now t }
     requires bodies_len { length bodies.old ≡ type_bodies_length }
-    ensures { Judged result (fileMeaning file) rows.now bodies.new }
+    ensures { Judged result (file_meaning file) rows.now bodies.new }
 {
     if form_wrong(file, rows, t) {
         return BAD_FORM;

@@ -10,7 +10,7 @@ use Rattle.lingua.specs.Errors.{no_error}
 use Rattle.std.specs.Prelude.{if◌then◌else◌}
 use Rattle.lingua.specs.Store.{Variable}
 use Rattle.lingua.specs.Run.{State, Progress, going, out, step, End, finished, failed}
-use Rattle.lingua.specs.Answers.{Answer, answered, Ending, ending, endNumber, runMeaning}
+use Rattle.lingua.specs.Answers.{Answer, answered, Ending, ending, end_number, run_meaning}
 use Rattle.lingua.specs.Calls.{ending_of}
 use Rattle.lingua.specs.declared.RunAnswer.TheVariants as run_answer
 use Rattle.run.specs.declared.steps.Status.{Status}
@@ -36,22 +36,22 @@ records m zero p h = absurd (h refl)
 records m (suc e) p h = refl
 
 -- ---- the answer
-pub ended_out : (m : Status) (budget : ℕ) → m.out ≡ true → (vs : List Variable) (os : List (List Variable)) → runMeaning (run_answer.Out m.error m.place (budget - m.left)) ≡ answered (ending_of budget (progress_of m.out (state_of m vs) os))
-unfolding runMeaning ending_of
+pub ended_out : (m : Status) (budget : ℕ) → m.out ≡ true → (vs : List Variable) (os : List (List Variable)) → run_meaning (run_answer.Out m.error m.place (budget - m.left)) ≡ answered (ending_of budget (progress_of m.out (state_of m vs) os))
+unfolding run_meaning ending_of
 ended_out m budget e vs os = sym (ap (λ (b : Bool). answered (ending_of budget (progress_of b (state_of m vs) os))) e)
 
 going_ending : (m : Status) (budget : ℕ) (b : Bool) → eqb m.error no_error ≡ b → m.out ≡ false → (vs : List Variable) (os : List (List Variable))
-    → answered (ending_of budget (progress_of m.out (state_of m vs) os)) ≡ answered (ending (endNumber (if b then finished else failed)) m.error m.place (budget - m.left))
+    → answered (ending_of budget (progress_of m.out (state_of m vs) os)) ≡ answered (ending (end_number (if b then finished else failed)) m.error m.place (budget - m.left))
 unfolding ending_of
 going_ending m budget b q e vs os =
     ap (λ (c : Bool). answered (ending_of budget (progress_of c (state_of m vs) os))) e
-    ∙ ap (λ (c : Bool). answered (ending (endNumber (if c then finished else failed)) m.error m.place (budget - m.left))) q
+    ∙ ap (λ (c : Bool). answered (ending (end_number (if c then finished else failed)) m.error m.place (budget - m.left))) q
 
-pub ended_failed : (m : Status) (budget : ℕ) → m.out ≡ false → (m.error ≡ 0 → ⊥) → (vs : List Variable) (os : List (List Variable)) → runMeaning (run_answer.Failed m.error m.place (budget - m.left)) ≡ answered (ending_of budget (progress_of m.out (state_of m vs) os))
-unfolding runMeaning
+pub ended_failed : (m : Status) (budget : ℕ) → m.out ≡ false → (m.error ≡ 0 → ⊥) → (vs : List Variable) (os : List (List Variable)) → run_meaning (run_answer.Failed m.error m.place (budget - m.left)) ≡ answered (ending_of budget (progress_of m.out (state_of m vs) os))
+unfolding run_meaning
 ended_failed m budget e h vs os = sym (going_ending m budget false (ne_eqb m.error no_error h) e vs os)
 
-pub ended_finished : (m : Status) (budget : ℕ) → m.out ≡ false → m.error ≡ 0 → m.place ≡ 0 → (vs : List Variable) (os : List (List Variable)) → runMeaning (run_answer.Finished (budget - m.left)) ≡ answered (ending_of budget (progress_of m.out (state_of m vs) os))
-unfolding runMeaning
+pub ended_finished : (m : Status) (budget : ℕ) → m.out ≡ false → m.error ≡ 0 → m.place ≡ 0 → (vs : List Variable) (os : List (List Variable)) → run_meaning (run_answer.Finished (budget - m.left)) ≡ answered (ending_of budget (progress_of m.out (state_of m vs) os))
+unfolding run_meaning
 ended_finished m budget e h p vs os =
-    sym (going_ending m budget true (eq-eqb m.error no_error h) e vs os ∙ (λ i. answered (ending (endNumber finished) (h i) (p i) (budget - m.left))))
+    sym (going_ending m budget true (eq-eqb m.error no_error h) e vs os ∙ (λ i. answered (ending (end_number finished) (h i) (p i) (budget - m.left))))

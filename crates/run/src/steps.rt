@@ -2,7 +2,7 @@
 // and what it is told by a test.
 ghost use Rattle.std.specs.Prelude.{◌≡◌, false, List, ◌≤◌};
 ghost use Rattle.lingua.specs.Store.{Variable};
-ghost use Rattle.lingua.specs.Answers.{answered, runMeaning};
+ghost use Rattle.lingua.specs.Answers.{answered, run_meaning};
 ghost use Rattle.lingua.specs.Calls.{ending_of};
 ghost use Rattle.run.specs.Statuses.{state_of, progress_of, StepOf, recorded};
 
@@ -88,7 +88,7 @@ pub fn cleared(m: Status) -> Status
 pub fn ended(m: Status, budget: u16) -> RunAnswer
     requires left_le_budget { m.left ≤ budget }
     requires place_value { m.out ≡ false → m.error ≡ 0 → m.place ≡ 0 }
-    ensures { (vs : List Variable) (os : List (List Variable)) → runMeaning result ≡ answered (ending_of budget (progress_of m.out (state_of m vs) os)) }
+    ensures { (vs : List Variable) (os : List (List Variable)) → run_meaning result ≡ answered (ending_of budget (progress_of m.out (state_of m vs) os)) }
 {
     let steps = budget - m.left;
     if m.out {

@@ -27,7 +27,7 @@ use Rattle.lingua.specs.Refusal.{Rule, rule, lowest, file_rules, row_rules, whol
 use Rattle.laws.specs.Outcomes.{false_is_true, and_left, and_right, and_both, or_left, or_right}
 use Rattle.laws.specs.Tests.{below_or}
 use Rattle.laws.specs.Refusals.{lowest_none}
-use Rattle.safety.specs.Answers.{true-is-false}
+use Rattle.safety.specs.Answers.{true_is_false}
 use Rattle.safety.specs.Every.{Every, every_more, every_left, every_right, every_implies, every_joined_part, tabulated, all_true_lem, below_true}
 use Rattle.safety.specs.Constants.{Fitting, ConstantsHave, constants_imply, ConstantsFit, ClosedYoke}
 use Rattle.safety.specs.Everywhere.{Everywhere, at_skip}
@@ -81,8 +81,8 @@ accepted_pair prof lims e =
 -- ---- conditions that a rule is made of
 all_two : (a b : Bool) → not (a && b) ≡ false → (a ≡ true) × (b ≡ true)
 all_two true true e = (refl, refl)
-all_two true false e = true-is-false e
-all_two false b e = true-is-false e
+all_two true false e = true_is_false e
+all_two false b e = true_is_false e
 
 all_three : (a b c : Bool) → not (a && b && c) ≡ false → (a ≡ true) × (b ≡ true) × (c ≡ true)
 all_three a b c e =

@@ -13,7 +13,7 @@ use Rattle.lingua.specs.Operation.{Unary, Binary, unary_body, binary_body}
 use Rattle.lingua.specs.Expression.{Connective, Expression, constant, variable, current, unary, binary, lazy, choice, all_list, Yoke, always, yoke, Instruction, skip, assign, set_yoke, sequence, branch, loop, handle, call}
 use Rattle.lingua.specs.Typing.{TypeError, type_error, Entry, Typed, Finding, fault, own_rule, unary_second, binary_second, Bodies, current_body, elements_at, check, judged, check_yoke, no_current_body, check_test, given_fit, check_instruction}
 use Rattle.laws.specs.Outcomes.{or_fail_ok, same_body_lem, is_boolean_lem}
-use Rattle.safety.specs.Answers.{same_answer, never-ok, bound, both-bound, both-answer, demanded, own-answer}
+use Rattle.safety.specs.Answers.{same_answer, never_ok, bound, both_bound, both_answer, demanded, own_answer}
 
 abbrev pub entry : ℕ → Body → Body → ℕ → Entry
 entry r cur b second = record { row = r; current = cur; result = b; second = second }
@@ -59,12 +59,12 @@ judged_answer : (o : Finding Typed) (suits : Body → Bool) (own : TypeError) (e
     → (t : Typed) × (o ≡ ok t) × (suits t.body ≡ true) × (t.entries ≡ es)
 unfolding judged
 judged_answer (ok t) suits own es q = let m = demanded (suits t.body) own _ es q in (t, refl, m.0, same_answer m.1)
-judged_answer (fail fs) suits own es q = never-ok q
+judged_answer (fail fs) suits own es q = never_ok q
 
 -- the body of a list's elements was there
 elements_answer : (r : ℕ) (cur b : Body) → elements_at r (some cur) ≡ ok b → element_body cur ≡ some b
 unfolding elements_at current_body
-elements_answer r cur b q = or_fail_ok (element_body cur) list_expected b (own-answer r (or_fail (element_body cur) list_expected) b q)
+elements_answer r cur b q = or_fail_ok (element_body cur) list_expected b (own_answer r (or_fail (element_body cur) list_expected) b q)
 
 module _ (vars : Bodies) where
   body_as : {e : Expression} {cur b c : Body} {es : List Entry} → b ≡ c → Checked vars e cur b es → Checked vars e cur c es
@@ -88,28 +88,28 @@ module _ (vars : Bodies) where
   check_checked (unary r o e) cur t q =
       let a = bound (check e vars (some cur)) _ t q in
       let b = bound (own_rule r (unary_body o a.0.body)) _ t a.2 in
-      answered_as b.2 (checked_unary (check_checked e cur a.0 a.1) (own-answer r (unary_body o a.0.body) b.0 b.1))
+      answered_as b.2 (checked_unary (check_checked e cur a.0 a.1) (own_answer r (unary_body o a.0.body) b.0 b.1))
   check_checked (binary r o e f) cur t q =
-      let a = both-bound (check e vars (some cur)) (check f vars (some cur)) _ t q in
+      let a = both_bound (check e vars (some cur)) (check f vars (some cur)) _ t q in
       let b = bound (own_rule r (binary_body o a.0.body a.1.body)) _ t a.4 in
       answered_as b.2
-      (checked_binary (check_checked e cur a.0 a.2) (check_checked f cur a.1 a.3) (own-answer r (binary_body o a.0.body a.1.body) b.0 b.1))
+      (checked_binary (check_checked e cur a.0 a.2) (check_checked f cur a.1 a.3) (own_answer r (binary_body o a.0.body a.1.body) b.0 b.1))
   check_checked (lazy r k e f) cur t q =
-      let a = both-bound (check e vars (some cur)) (check f vars (some cur)) _ t q in
+      let a = both_bound (check e vars (some cur)) (check f vars (some cur)) _ t q in
       let m = demanded (is_boolean a.0.body) (fault boolean_expected r) _ t a.4 in
       let n = demanded (is_boolean a.1.body) (fault boolean_expected r) _ t m.1 in
       answered_as n.1
       (checked_lazy (body_as (is_boolean_lem a.0.body m.0) (check_checked e cur a.0 a.2)) (body_as (is_boolean_lem a.1.body n.0) (check_checked f cur a.1 a.3)))
   check_checked (choice r p e f) cur t q =
-      let a = both-bound (check p vars (some cur)) (both (check e vars (some cur)) (check f vars (some cur))) _ t q in
-      let b = both-answer (check e vars (some cur)) (check f vars (some cur)) a.1 a.3 in
+      let a = both_bound (check p vars (some cur)) (both (check e vars (some cur)) (check f vars (some cur))) _ t q in
+      let b = both_answer (check e vars (some cur)) (check f vars (some cur)) a.1 a.3 in
       let m = demanded (is_boolean a.0.body) (fault boolean_expected r) _ t a.4 in
       let n = demanded (same_body a.1.0.body a.1.1.body) (fault no_coherence r) _ t m.1 in
       answered_as n.1
       (checked_choice (body_as (is_boolean_lem a.0.body m.0) (check_checked p cur a.0 a.2)) (check_checked e cur a.1.0 b.0)
       (body_as (sym (same_body_lem a.1.0.body a.1.1.body n.0)) (check_checked f cur a.1.1 b.1)))
   check_checked (all_list r e) cur t q =
-      let a = both-bound (check e vars (answer_of (elements_at r (some cur)))) (elements_at r (some cur)) _ t q in
+      let a = both_bound (check e vars (answer_of (elements_at r (some cur)))) (elements_at r (some cur)) _ t q in
       let n = demanded (is_boolean a.0.body) (fault yoke_expected r) _ t a.4 in
       answered_as n.1
       (checked_all_list (elements_answer r cur a.1 a.3) (body_as (is_boolean_lem a.0.body n.0) (check_checked e a.1 a.0 (inner_as r e cur a.1 a.0 a.3 a.2))))

@@ -9,7 +9,7 @@ use Rattle.lingua.specs.Expression.{settled_by, Expression, constant, variable, 
 use Rattle.lingua.specs.Evaluation.{Variables, apply_unary, apply_binary, truth_or, boolean_of, all_true, elements_of, eval, eval_yoke}
 use Rattle.lingua.specs.References.{reads_variable}
 use Rattle.laws.specs.Outcomes.{or_left, or_right}
-use Rattle.safety.specs.Answers.{true-is-false}
+use Rattle.safety.specs.Answers.{true_is_false}
 
 -- a composite whose value fits its body
 abbrev pub Fitting : Composite → Type 0
@@ -53,7 +53,7 @@ ClosedYoke (yoke e) = Closed e
 pub eval_any_store : (e : Expression) → reads_variable e ≡ false → (vars others : Variables) (cur : Composite) → eval e vars cur ≡ eval e others cur
 unfolding eval reads_variable
 eval_any_store (constant r c) h vars others cur = refl
-eval_any_store (variable r n) h vars others cur = true-is-false h
+eval_any_store (variable r n) h vars others cur = true_is_false h
 eval_any_store (current r) h vars others cur = refl
 eval_any_store (unary r o e) h vars others cur =
     let p = eval_any_store e h vars others cur in

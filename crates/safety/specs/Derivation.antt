@@ -12,7 +12,7 @@ use Rattle.lingua.specs.Expression.{Connective, Expression, constant, variable, 
 use Rattle.lingua.specs.Typing.{Entry, Typed, unary_second, binary_second, Bodies, check, check_yoke, no_current_body, given_fit, check_instruction}
 use Rattle.lingua.specs.References.{reads_variable}
 use Rattle.laws.specs.Outcomes.{or_left, or_right}
-use Rattle.safety.specs.Answers.{true-is-false}
+use Rattle.safety.specs.Answers.{true_is_false}
 use Rattle.safety.specs.Constants.{ClosedYoke}
 use Rattle.safety.specs.Checked.{entry, Checked, checked_constant, checked_variable, checked_current, checked_unary, checked_binary, checked_lazy, checked_choice, checked_all_list, CheckedYoke, CheckedRow, check_checked, yoke_checked, row_checked}
 use Rattle.safety.specs.Every.{Every, every_none, every_more, every_left, every_right, every_member}
@@ -132,7 +132,7 @@ module _ {H : Entry → Type 0} {vars : Bodies} (others : Bodies) where
   pub derived_closed : {e : Expression} {cur b : Body} → reads_variable e ≡ false → Derived H vars e cur b → Derived H others e cur b
   unfolding reads_variable
   derived_closed z (of_constant q h) = of_constant q h
-  derived_closed z (of_variable q h) = true-is-false z
+  derived_closed z (of_variable q h) = true_is_false z
   derived_closed z (of_current q h) = of_current q h
   derived_closed z (of_unary d q h) = of_unary (derived_closed z d) q h
   derived_closed z (of_binary {e = e} {f} d g q h) =

@@ -15,7 +15,7 @@ use Rattle.lingua.specs.Evaluation.{Variables, apply_unary, apply_binary, truth_
 use Rattle.lingua.specs.Store.{Variable, variable_at, present_body, contents, with_content, with_yoke, within, admitted, assigned, yoke_holds, yoke_changed}
 use Rattle.lingua.specs.Typing.{joined}
 use Rattle.lingua.specs.Meets.{error_in, on_answer, on_true, unless_met, binary_met, first_met, second_met, not_boolean, met, yoke_met, yoke_checks_met, assign_met, test_met, on_filled}
-use Rattle.safety.specs.Answers.{same_answer, bound, true-is-false}
+use Rattle.safety.specs.Answers.{same_answer, bound, true_is_false}
 
 -- ---- failures
 pub ok_is_fail {ℓ} : {A : Type 0} {B : Type ℓ} {a : A} {n : ℕ} → ◌≡◌ {A = Result A} (ok a) (fail n) → B
@@ -49,7 +49,7 @@ pub answer_in : {A : Type 0} (r : Result A) (a : A) (f : A → List ℕ) (n : �
 answer_in r a f n e m = subst (λ (o : Result _). In n (on_answer o f)) (sym e) m
 
 pub unless_in : (t : Bool) (m n : ℕ) → t ≡ false → m ≡ n → In n (unless_met t m)
-unless_in true m n e q = true-is-false e
+unless_in true m n e q = true_is_false e
 unless_in false m n e q = Memᴰ.head (sym q)
 
 pub true_in : (t : Bool) (ns : List ℕ) (n : ℕ) → t ≡ true → In n ns → In n (on_true t ns)
@@ -72,7 +72,7 @@ element_met f g h (x ∷ xs) n e = go (fails (f x) _ n e) (λ q. element_met f g
 
 not_boolean_in : (rs : List (Result Composite)) (ys : List Composite) → all_answers rs ≡ ok ys → all_of (λ x. is_boolean x.body) ys ≡ false → In yoke_expected (not_boolean rs)
 unfolding all_answers all_of not_boolean truth_or
-not_boolean_in [] ys e q = true-is-false (subst (λ (l : List Composite). all_of (λ x. is_boolean x.body) l ≡ false) (sym (same_answer e)) q)
+not_boolean_in [] ys e q = true_is_false (subst (λ (l : List Composite). all_of (λ x. is_boolean x.body) l ≡ false) (sym (same_answer e)) q)
 not_boolean_in (r ∷ rs) ys e q =
     let p = bound r _ ys e in
     let s = bound (all_answers rs) _ ys p.2 in

@@ -14,7 +14,7 @@ use Rattle.lingua.specs.Body.{Body, is_boolean, same_body, element_body}
 use Rattle.lingua.specs.Operation.{unary_body, binary_body}
 use Rattle.lingua.specs.Expression.{Expression, constant, variable, current, unary, binary, lazy, choice, all_list, call}
 use Rattle.lingua.specs.Typing.{TypeError, type_error, Entry, Typed, Finding, own_rule, Bodies, current_body, elements_at, check, lowest_fault, judged, given_fit, check_instruction}
-use Rattle.safety.specs.Answers.{never-ok, same-fault}
+use Rattle.safety.specs.Answers.{never_ok, same_fault}
 use Rattle.safety.specs.Every.{Every, every_none, every_one, every_append, every_implies, every_at}
 use Rattle.safety.specs.Faults.{Lowest, Least, lowest_is, some_fault}
 use Rattle.safety.specs.EntryRows.{tree_rows}
@@ -107,8 +107,8 @@ pub data Named (e : Expression) (vars : Bodies) (b : Body) (suits : Body → Boo
 
 module _ (e : Expression) (vars : Bodies) (b : Body) (suits : Body → Bool) (own f : TypeError) where
   own_named : (t : Typed) → check e vars (some b) ≡ ok t → (s : Bool) → suits t.body ≡ s → (require s own >> ok t.entries) ≡ fail f → Named e vars b suits own f
-  own_named t q true p z = never-ok (sym z)
-  own_named t q false p z = at_own_place q p (sym (same-fault z))
+  own_named t q true p z = never_ok (sym z)
+  own_named t q false p z = at_own_place q p (sym (same_fault z))
 
   row_named : (es : List TypeError) → check e vars (some b) ≡ fail es → EachFault {A = Typed} (AtRowOf (tree_rows e)) (fail es) → (o : Option TypeError) → lowest_fault es ≡ o → or_else o own ≡ f → Named e vars b suits own f
   unfolding Least
@@ -120,7 +120,7 @@ module _ (e : Expression) (vars : Bodies) (b : Body) (suits : Body → Bool) (ow
   by_finding : (o : Finding Typed) → check e vars (some b) ≡ o → EachFault (AtRowOf (tree_rows e)) o → judged o suits own ≡ fail f → Named e vars b suits own f
   unfolding judged
   by_finding (ok t) q h z = own_named t q (suits t.body) refl z
-  by_finding (fail es) q h z = row_named es q h (lowest_fault es) refl (same-fault z)
+  by_finding (fail es) q h z = row_named es q h (lowest_fault es) refl (same_fault z)
 
   pub which_fault : judged (check e vars (some b)) suits own ≡ fail f → Named e vars b suits own f
   which_fault z = by_finding (check e vars (some b)) refl (faults_in_tree vars e (some b)) z
@@ -128,8 +128,8 @@ module _ (e : Expression) (vars : Bodies) (b : Body) (suits : Body → Bool) (ow
 -- a call has no expression: its own place is named, and only where a variable that it gives has another body than its parameter
 module _ (procs : ℕ → Bodies) (vars : Bodies) (r k : ℕ) (vs rs : List ℕ) (f : TypeError) where
   own_fault : (t : Bool) → ◌≡◌ {A = Outcome TypeError (List Entry)} (require t (type_error no_coherence (instruction_place + r)) >> ok []) (fail f) → (t ≡ false) × (f ≡ type_error no_coherence (instruction_place + r))
-  own_fault true z = never-ok (sym z)
-  own_fault false z = (refl, sym (same-fault z))
+  own_fault true z = never_ok (sym z)
+  own_fault false z = (refl, sym (same_fault z))
 
   pub call_fault : check_instruction procs vars (call r k vs rs) ≡ fail f → (given_fit vars (vs ++ rs) (procs k) 0 ≡ false) × (f ≡ type_error no_coherence (instruction_place + r))
   unfolding check_instruction

@@ -11,7 +11,7 @@ use Rattle.lingua.specs.Body.{Body, is_boolean, same_body, element_body}
 use Rattle.lingua.specs.Operation.{unary_body, binary_body}
 use Rattle.lingua.specs.Expression.{Expression, constant, variable, current, unary, binary, lazy, choice, all_list}
 use Rattle.lingua.specs.Typing.{TypeError, Typed, Finding, own_rule, Bodies, current_body, elements_at, check, lower, lowest_fault}
-use Rattle.safety.specs.Answers.{never-ok}
+use Rattle.safety.specs.Answers.{never_ok}
 use Rattle.safety.specs.Every.{Every, every_none, every_more, every_implies}
 
 -- ---- the lower of two
@@ -122,7 +122,7 @@ module _ (vars : Bodies) where
 -- without a body there is a fault
 fault_there : {o : Finding Typed} → Explained o → (es : List TypeError) → o ≡ fail es → lowest_fault es ≡ none → ⊥
 unfolding Least
-fault_there (has_answer t) es q k = never-ok (sym q)
+fault_there (has_answer t) es q k = never_ok (sym q)
 fault_there (has_fault e fs) es q k =
     let p : es ≡ [] = subst (λ (o : Option TypeError). Least es o) k (lowest_is es) in
     let z : ◌≡◌ {A = ℕ} 0 1 = cc in

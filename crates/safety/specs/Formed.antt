@@ -22,7 +22,7 @@ use Rattle.lingua.specs.Trees.{no_expression, type_body_of, type_body_in, type_b
 use Rattle.lingua.specs.Rules.{unary_attribute, binary_attribute, attributes_fit, expression_attributes, type_attributes}
 use Rattle.laws.specs.Outcomes.{ok_same, or_fail_ok}
 use Rattle.laws.specs.Formed.{formed_as, unary_formed, binary_formed}
-use Rattle.safety.specs.Answers.{same_answer, never-ok, bound, demanded}
+use Rattle.safety.specs.Answers.{same_answer, never_ok, bound, demanded}
 use Rattle.safety.specs.Every.{Every, every_none, every_more}
 use Rattle.safety.specs.Forest.{ConstantHas, lower_has}
 use Rattle.safety.specs.ProfileScopes.{scope_every}
@@ -59,7 +59,7 @@ abbrev GivesFormed : Result Body → Type 0
 GivesFormed o = (b : Body) → o ≡ ok b → WellFormed b
 
 no_body : {n : ℕ} → GivesFormed (fail n)
-no_body b e = never-ok e
+no_body b e = never_ok e
 
 row_formed : (row : TypeRow) (look : ℕ → Result Body) → SimpleFormed row → attributes_fit (type_attributes row) ≡ true → ((a : ℕ) → GivesFormed (look a)) → GivesFormed (type_body_of row look)
 unfolding SimpleFormed type_body_of type_attributes all_of unary_attribute binary_attribute

@@ -16,7 +16,7 @@ use Rattle.lingua.specs.Trees.{instruction_tree, profile_of}
 use Rattle.lingua.specs.Format.{rows_of}
 use Rattle.lingua.specs.Refusal.{lowest, pair_rules}
 use Rattle.laws.specs.Outcomes.{none_is_some}
-use Rattle.safety.specs.Answers.{bound, some-answer, demanded}
+use Rattle.safety.specs.Answers.{bound, some_answer, demanded}
 use Rattle.safety.specs.Every.{Every, every_all, every_implies}
 use Rattle.safety.specs.Stored.{assigned_each, changed_each}
 use Rattle.safety.specs.Everywhere.{Everywhere, at_skip, everywhere_implies}
@@ -40,7 +40,7 @@ formed_stable = record { marked = λ s n p h. h; stepped = λ s n e h. h }
 formed_copy : (a n b m : ℕ) → Passes (λ c. StateFormed) a n b m
 unfolding Passes StateFormed ContentsFormed copied
 formed_copy a n b m s t h k ws q =
-    let x = some-answer (contents s.store n) not_filled (λ y. assigned t.store m y) ws q in
+    let x = some_answer (contents s.store n) not_filled (λ y. assigned t.store m y) ws q in
     assigned_each (λ j z. WellFormed z.body) t.store k m x.0 (h n x.0 x.1) ws x.2
 
 names_keep : (a : ℕ) (i : Instruction) → RowNames i → Keeps (λ c. StateFormed) a i

@@ -14,7 +14,7 @@ use Rattle.lingua.specs.Store.{Limit, Variable, no_variable, variable_at, conten
 use Rattle.lingua.specs.Run.{State, Declaration, unfilled, begun, exec, called, Profile, scope_declarations, scope_program, started, take_readings, run, last_state, open_calls}
 use Rattle.lingua.specs.Typing.{bodies_of}
 use Rattle.laws.specs.Outcomes.{none_is_some}
-use Rattle.safety.specs.Answers.{bound, some-answer}
+use Rattle.safety.specs.Answers.{bound, some_answer}
 use Rattle.safety.specs.Every.{Every, every_none, every_more, every_all, every_implies}
 use Rattle.safety.specs.Constants.{ConstantsFit, ClosedYoke}
 use Rattle.safety.specs.Fitting.{FilledFit, eval_fits}
@@ -86,7 +86,7 @@ kept_family p h =
 pub copy_keeps : (p : Profile) (a n b m : ℕ) → Passes (ScopesKept p) a n b m
 unfolding Passes ScopesKept StateKept copied FilledFit
 copy_keeps p a n b m s t h k ws q =
-    let x = some-answer (contents s.store n) _ _ ws q in
+    let x = some_answer (contents s.store n) _ _ ws q in
     assigned_kept (scope_store p b) t.store k m x.0 (kept_fit (scope_store p a) s.store h n x.0 x.1) ws x.2
 
 pub well_made_keeps : (p : Profile) (a : ℕ) (i : Instruction) → WellMade i → Keeps (ScopesKept p) a i

@@ -21,7 +21,7 @@ use Rattle.lingua.specs.Rules.{is_name, is_new, names_fit, name_wrong}
 use Rattle.lingua.specs.Refusal.{Rule, rule, lowest, file_rules, row_rules, whole_file_rules, pair_rules, is_variable_of, ends_fit, names_one, limit_fits, limit_wrong}
 use Rattle.laws.specs.Outcomes.{and_left, and_right, none_is_some}
 use Rattle.laws.specs.Equal.{same_text_lem, text_same}
-use Rattle.safety.specs.Answers.{true-is-false}
+use Rattle.safety.specs.Answers.{true_is_false}
 use Rattle.safety.specs.Every.{below_true}
 use Rattle.safety.specs.Passed.{variable_has}
 use Rattle.safety.specs.ProfileScopes.{scope_limit}
@@ -35,13 +35,13 @@ record Fails (n : ℕ) (p : ℕ → Bool) : Type 0 where
 
 some_fails : (n : ℕ) (p : ℕ → Bool) → every_below n p ≡ false → Fails n p
 unfolding every_below
-some_fails zero p e = true-is-false e
+some_fails zero p e = true_is_false e
 some_fails (suc n) p e = by (every_below n p) (p n) refl refl (λ q. some_fails n p q)
   where
     by : (a b : Bool) → every_below n p ≡ a → p n ≡ b → (every_below n p ≡ false → Fails n p) → Fails (suc n) p
     by false b q r h = let f = h q in record { at = f.at; below = omega (arith, f.below); fails = f.fails }
     by true false q r h = record { at = n; below = omega arith; fails = r }
-    by true true q r h = true-is-false (sym (ap (λ (a : Bool). a && p n) q ∙ r) ∙ e)
+    by true true q r h = true_is_false (sym (ap (λ (a : Bool). a && p n) q ∙ r) ∙ e)
 
 -- ---- the limit of a name stands at a row of that name
 record NamedAt (limits name : List ℕ) (n : ℕ) : Type 0 where
@@ -76,7 +76,7 @@ module _ (rows : List ℕ) (right : name_wrong profile rows ≡ false) where
     no_lower c d l e k =
         let differs : not (same_text (name_at rows (scope_table a) c) (name_at rows (scope_table a) d)) ≡ true = below_true d (λ j. not (same_text (name_at rows (scope_table a) j) (name_at rows (scope_table a) d))) (new_at d l) c k in
         let same : same_text (name_at rows (scope_table a) c) (name_at rows (scope_table a) d) ≡ true = ap (λ (name : List ℕ). same_text name (name_at rows (scope_table a) d)) e ∙ text_same (name_at rows (scope_table a) d) in
-        true-is-false (sym same ∙ not-true _ differs)
+        true_is_false (sym same ∙ not-true _ differs)
 
     pub one_in_scope : (c d : ℕ) → c < pair_count rows (scope_table a) → d < pair_count rows (scope_table a) → name_at rows (scope_table a) c ≡ name_at rows (scope_table a) d → c ≡ d
     one_in_scope c d k l e = by (ltb c d) (ltb d c) refl refl

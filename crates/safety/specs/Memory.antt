@@ -32,7 +32,7 @@ use Rattle.laws.specs.Tests.{below_or}
 use Rattle.laws.specs.Stores.{cells_at as lent_cells, flag_at_lem, yoke_at_lem}
 use Rattle.laws.specs.Presents.{bodies_at, bodies_same}
 use Rattle.laws.specs.Frames.{Bounded, length_call_cells, length_call_states, open_cells_at, open_states_at, present_own, present_open, behind_padded, bodies_behind, flag_behind}
-use Rattle.safety.specs.Answers.{same_answer, bound, some-answer, demanded, after}
+use Rattle.safety.specs.Answers.{same_answer, bound, some_answer, demanded, after}
 use Rattle.safety.specs.Every.{Every, every_none, every_more, every_all, every_implies}
 use Rattle.safety.specs.ProfileScopes.{scope_length, scope_empty}
 use Rattle.safety.specs.Everywhere.{Everywhere, everywhere_all, everywhere_both, everywhere_implies}
@@ -78,7 +78,7 @@ module _ (p : Profile) where
   long_copy : (a n b m : ℕ) → Passes ScopesLong a n b m
   unfolding Passes ScopesLong copied
   long_copy a n b m s t h k ws q =
-      let x = some-answer (contents s.store n) not_filled (λ y. assigned t.store m y) ws q in
+      let x = some_answer (contents s.store n) not_filled (λ y. assigned t.store m y) ws q in
       assigned_long t.store m x.0 ws x.2 ∙ k
 
   long_keeps : (a : ℕ) (i : Instruction) → Keeps ScopesLong a i

@@ -14,7 +14,7 @@ use Rattle.lingua.specs.Store.{Variable, variable_at, contents, admitted, assign
 use Rattle.lingua.specs.Run.{State, Declaration, unfilled, begun, exec, called, scope_declarations, scope_program, started, take_readings, run, last_state, open_calls}
 use Rattle.lingua.specs.Rows.{ExpressionRow, constant_row, variable_row, current_row, unary_row, binary_row, lazy_row, choice_row, all_list_row, unknown_expression, expression_row, InstructionRow, skip_row, assign_row, set_yoke_row, sequence_row, branch_row, loop_row, handle_row, call_row, unknown_instruction, instruction_row}
 use Rattle.lingua.specs.Trees.{expression_of, expression_in, expression_tree, yoke_tree, instruction_of, instruction_in, instruction_tree, declaration_in, profile_of}
-use Rattle.safety.specs.Answers.{same_answer, bound, some-answer, demanded, after}
+use Rattle.safety.specs.Answers.{same_answer, bound, some_answer, demanded, after}
 use Rattle.safety.specs.Every.{Every, every_none, every_more, every_all, every_implies}
 use Rattle.safety.specs.Everywhere.{Everywhere, at_skip, everywhere_implies}
 use Rattle.safety.specs.ProfileScopes.{scope_every, scope_runs}
@@ -76,7 +76,7 @@ module _ (rows : List ℕ) where
   named_copy : (a n b m : ℕ) → Passes (λ c. StateNamed) a n b m
   unfolding Passes StateNamed copied
   named_copy a n b m s t h k ws q =
-      let x = some-answer (contents s.store n) not_filled (λ y. assigned t.store m y) ws q in
+      let x = some_answer (contents s.store n) not_filled (λ y. assigned t.store m y) ws q in
       assigned_named t.store k m x.0 ws x.2
 
   -- an instruction's own row sets a named yoke

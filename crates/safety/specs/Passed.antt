@@ -25,7 +25,7 @@ use Rattle.lingua.specs.Refusal.{lowest, pair_rules, body_has, is_variable_of, i
 use Rattle.lingua.specs.Calls.{readings_of}
 use Rattle.laws.specs.Outcomes.{and_left, and_right, false_is_true, or_right}
 use Rattle.laws.specs.Tests.{below_or}
-use Rattle.safety.specs.Answers.{same_answer, bound, all-answered}
+use Rattle.safety.specs.Answers.{same_answer, bound, all_answered}
 use Rattle.safety.specs.Every.{Every, every_none, every_more, every_left, every_right, every_joined_part, every_implies, every_unmap, every_get_d, tabulated, all_true_lem}
 use Rattle.safety.specs.Derivation.{Anything, anything, DerivedYoke, DerivedRow, yoke_derives, row_derives, yoke_closed}
 use Rattle.safety.specs.Everywhere.{Everywhere, at_skip, everywhere_implies, everywhere_both}
@@ -83,8 +83,8 @@ module _ (H : Entry → Type 0) (p : Profile) (es : List Entry) (passed : check_
       let a = bound (all_answers (check_declarations own 0 (all_declarations p))) _ es passed in
       let b = bound (all_answers (map (λ i. check_scoped p i) p.instructions)) _ es a.2 in
       let k = subst (Every H) (sym (same_answer b.2)) each in
-      let ds = all-answered (check_declarations own 0 (all_declarations p)) a.0 a.1 (every_joined_part a.0 (every_left (joined a.0) (joined b.0) k)) in
-      let is = all-answered (map (λ i. check_scoped p i) p.instructions) b.0 b.1 (every_joined_part b.0 (every_right (joined a.0) (joined b.0) k)) in (
+      let ds = all_answered (check_declarations own 0 (all_declarations p)) a.0 a.1 (every_joined_part a.0 (every_left (joined a.0) (joined b.0) k)) in
+      let is = all_answered (map (λ i. check_scoped p i) p.instructions) b.0 b.1 (every_joined_part b.0 (every_right (joined a.0) (joined b.0) k)) in (
         declarations_derive H own 0 (all_declarations p) ds,
         every_implies (λ i (h : (xs : List Entry) × (check_scoped p i ≡ ok xs) × Every H xs). row_derives (procedure_bodies p) (scope_bodies p i.scope) i.instruction h.0 h.1 h.2)
             (every_unmap (λ i. check_scoped p i) p.instructions is),

@@ -19,7 +19,7 @@ use Rattle.lingua.specs.Meets.{yoke_met, yoke_checks_met, assign_met, test_met, 
 use Rattle.laws.specs.Coherent.{coherent_same}
 use Rattle.laws.specs.Classes.{overflow_runs, yoke_runs, unfilled_runs}
 use Rattle.laws.specs.Outcomes.{none_is_some, and_left, and_right, same_body_lem}
-use Rattle.safety.specs.Answers.{bound, some-answer, demanded, after, same_answer}
+use Rattle.safety.specs.Answers.{bound, some_answer, demanded, after, same_answer}
 use Rattle.safety.specs.Every.{Every, every_none, every_more, every_append, every_implies}
 use Rattle.safety.specs.Constants.{Fitting, ConstantsFit, ClosedYoke}
 use Rattle.safety.specs.Stored.{StoreKept, replaced, assigned_each, changed_each}
@@ -163,7 +163,7 @@ module _ (H : Entry → Type 0) (p : Profile) where
   pub typed_copy : (a n b m : ℕ) → scope_bodies p a n ≡ scope_bodies p b m → Passes ScopesTyped a n b m
   unfolding Passes ScopesTyped copied VariablesFit ScopesKept StateKept
   typed_copy a n b m e s t h k ws q =
-      let x = some-answer (contents s.store n) not_filled (λ y. assigned t.store m y) ws q in
+      let x = some_answer (contents s.store n) not_filled (λ y. assigned t.store m y) ws q in
       let v = h.fit n x.0 x.1 in
       record { kept = copy_keeps p a n b m s t h.kept k.kept ws q; yokes = assigned_yokes H (scope_bodies p b) t.store k.yokes m x.0 ws x.2; fit = assigned_fit (scope_bodies p b) t.store k.fit m x.0 (v.0 ∙ e) v.1 ws x.2 }
 

@@ -18,7 +18,7 @@ use Rattle.lingua.specs.Meets.{error_in, on_answer, unless_met, expand_met, chan
 use Rattle.laws.specs.Outcomes.{false_is_true, required, asked, and_left, and_right, same_body_lem, or_right}
 use Rattle.laws.specs.Sound.{unary_sound, binary_sound}
 use Rattle.laws.specs.Classes.{overflow_runs, division_runs, empty_runs, full_runs, long_runs}
-use Rattle.safety.specs.Answers.{same_answer, never-ok}
+use Rattle.safety.specs.Answers.{same_answer, never_ok}
 use Rattle.safety.specs.Every.{Every, every_none, every_append, every_one}
 use Rattle.safety.specs.Constants.{Fitting}
 use Rattle.lingua.specs.Rounding.{nearest}
@@ -49,7 +49,7 @@ good_then (stops l) k = stops l
 -- an answer has the body, and fits it
 pub good_answer : {b : Body} {r : Result Composite} → Good b r → (x : Composite) → r ≡ ok x → (x.body ≡ b) × Fitting x
 good_answer {b} (gives e h) x q = subst (λ (z : Composite). (z.body ≡ b) × Fitting z) (same_answer q) (e, h)
-good_answer (stops l) x q = never-ok q
+good_answer (stops l) x q = never_ok q
 
 pub answer_met : {b : Body} {r : Result Composite} {f : Composite → List ℕ} → Good b r → ((x : Composite) → x.body ≡ b → Fitting x → RunErrors (f x)) → RunErrors (on_answer r f)
 answer_met (gives {x} e h) k = k x e h
@@ -143,7 +143,7 @@ halves_good : (p : Result Body) (q : Result Value) (d : Body) → p ≡ ok d →
 unfolding RunErrorOnly
 halves_good (ok b) (ok v) d e h l = let s = same_answer e in gives s (subst (λ (c : Body). Fits v c) (sym s) (h v refl))
 halves_good (ok b) (fail n) d e h l = stops l
-halves_good (fail n) q d e h l = never-ok e
+halves_good (fail n) q d e h l = never_ok e
 
 pub unary_good : (o : Unary) (x : Composite) (d : Body) → Fitting x → unary_body o x.body ≡ ok d → Good d (apply_unary o x)
 unfolding apply_unary

@@ -12,7 +12,7 @@ use Rattle.lingua.specs.Evaluation.{Variables, truth_or, boolean_of, eval_yoke}
 use Rattle.lingua.specs.Store.{Variable, variable_at, present_of, present_body, contents, with_content, with_yoke, within, admitted, assigned, yoke_holds, yoke_changed, Reading, reading_taken, counts_hundredths, reading_value}
 use Rattle.laws.specs.Outcomes.{and_left, and_right, none_is_some}
 use Rattle.laws.specs.Coherent.{coherent_alone}
-use Rattle.safety.specs.Answers.{same_answer, never-ok, bound, demanded, after}
+use Rattle.safety.specs.Answers.{same_answer, never_ok, bound, demanded, after}
 use Rattle.safety.specs.Constants.{Fitting, ClosedYoke, yoke_any_store}
 use Rattle.safety.specs.Fitting.{FilledFit, yoke_fits, true_is}
 use Rattle.laws.specs.Sound.{quantity_fits}
@@ -52,7 +52,7 @@ some_same e = cc
 
 required_true : (t : Bool) (n : ℕ) (u : Unit {0}) → ◌≡◌ {A = Result (Unit {0})} (require t n) (ok u) → t ≡ true
 required_true true n u e = refl
-required_true false n u e = never-ok e
+required_true false n u e = never_ok e
 
 -- ---- assignment
 -- what the checks of a new value show

@@ -21,7 +21,7 @@ use Rattle.lingua.specs.Meets.{run_met}
 use Rattle.lingua.specs.Trees.{yoke_tree, limit_of, name_at, profile_of}
 use Rattle.lingua.specs.Format.{profile, limits, rows_of, file_of}
 use Rattle.lingua.specs.Refusal.{checked_refusal}
-use Rattle.lingua.specs.Answers.{answered, ending, faulted, runMeaning}
+use Rattle.lingua.specs.Answers.{answered, ending, faulted, run_meaning}
 use Rattle.lingua.specs.Inputs.{Inputs, inputs, Buffers, buffers}
 use Rattle.lingua.specs.Calls.{CheckedCall, readings_of, type_check_call, checked_call, erased_call, checked_result, erased_result}
 use Rattle.lingua.specs.Examples.{row, example_limits, example_limits_file}
@@ -138,7 +138,7 @@ unfolding WitnessRuns
 witness_two_runs =
     two_runs witness_inputs 9 fives sevens sixes (replicate layout_length 8)
     (checked_result (run_answer.Finished 4) (none_open speed_cells speed_states) speed_bodies) (erased_result (run_answer.Finished 4) (none_open speed_cells speed_states) witness_layout)
-    (unfold checked_result runMeaning in sym checked_gives) (unfold erased_result runMeaning in sym erased_gives) witness_passes
+    (unfold checked_result run_meaning in sym checked_gives) (unfold erased_result run_meaning in sym erased_gives) witness_passes
     listed
 
 two_variables : length (profile_of (rows_of witness_file) (rows_of example_limits_file)).declarations ≡ 2
@@ -146,7 +146,7 @@ unfolding computing witness_file witness_rows example_limits_file example_limits
 two_variables = refl
 
 pub speed_holds : HoldsValue (rows_of witness_file) (profile_of (rows_of witness_file) (rows_of example_limits_file)).declarations speed_cells speed_states 0
-unfolding WitnessRuns checked_result runMeaning flag_at
+unfolding WitnessRuns checked_result run_meaning flag_at
 speed_holds = by witness_two_runs
   where
     by : WitnessRuns → HoldsValue (rows_of witness_file) (profile_of (rows_of witness_file) (rows_of example_limits_file)).declarations speed_cells speed_states 0
@@ -225,7 +225,7 @@ unfolding CallRuns
 call_two_runs =
     two_runs call_inputs 2 fives sevens sixes (replicate layout_length 8)
     (checked_result (run_answer.Out 0 0 2) one_open pace_bodies) (erased_result (run_answer.Out 0 0 2) one_open call_layout)
-    (unfold checked_result runMeaning in sym call_checked) (unfold erased_result runMeaning in sym call_erased) call_passes
+    (unfold checked_result run_meaning in sym call_checked) (unfold erased_result run_meaning in sym call_erased) call_passes
     listed
 
 -- no procedure but the first has variables
@@ -237,7 +237,7 @@ abbrev PaceHolds : Type 0
 PaceHolds = HoldsValue (rows_of call_file) (scope_declarations (profile_of (rows_of call_file) (rows_of example_limits_file)) 1) (call_cells_at pace_cells 0) (call_states_at pace_states 0) 0
 
 pub pace_holds : PaceHolds
-unfolding CallRuns checked_result runMeaning flag_at
+unfolding CallRuns checked_result run_meaning flag_at
 pace_holds = by call_two_runs
   where
     of_open : (ks : List ℕ) → drop (states_length * length ks) pace_states ≡ replicate (open_states_length - states_length * length ks) 0

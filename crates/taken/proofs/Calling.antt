@@ -1,6 +1,6 @@
 -- The ways in which a run of a taken pair ends: refused, or as the run of both files ends. Assumes nothing.
 use mathlib.Core.Path.{◌≡◌, refl, sym, ap, ap₂, ◌∙◌, subst}
-use mathlib.Core.List.{List, ◌++◌, append-nil}
+use mathlib.Core.List.{List, ◌++◌, append_nil}
 use Prim.Native.Nat.{ℕ, suc, ◌-◌, ◌≤◌}
 use native.Mathlib.Nat.{suc-pred-eq_of_ne-zero}
 use native.Mathlib.Omega.{arith}
@@ -17,7 +17,7 @@ use Rattle.lingua.specs.Trees.{profile_of}
 use Rattle.lingua.specs.Format.{rows_of}
 use Rattle.lingua.specs.Inputs.{Inputs, Buffers, buffers}
 use Rattle.lingua.specs.Refusal.{checked_refusal, erased_refusal}
-use Rattle.lingua.specs.Answers.{refused, runMeaning}
+use Rattle.lingua.specs.Answers.{refused, run_meaning}
 use Rattle.lingua.specs.declared.RunAnswer.{RunAnswer}
 use Rattle.lingua.specs.declared.RunAnswer.TheVariants as run_answer
 use Rattle.lingua.specs.Calls.{RunCall, readings_of, ran, run_of, with_bodies, checked_unless, checked_call, with_layout, erased_unless, erased_call, run_result, checked_result, erased_result}
@@ -81,11 +81,11 @@ front_back own area before n l e =
     ap (λ (k : ℕ). own ++ drop k (take n before ++ (area ++ drop (length before - n) (drop n before)))) e
     ∙ ap (λ (x : List ℕ). own ++ x) (drop_at (take n before) (area ++ drop (length before - n) (drop n before)) n (length-take-le n before l))
     ∙ ap (λ (x : List ℕ). own ++ (area ++ x)) (drop_of_length-le (drop n before) (let z : length (drop n before) ≤ length before - n = omega (arith, length-drop n before) in z))
-    ∙ ap (λ (x : List ℕ). own ++ x) (append-nil area)
+    ∙ ap (λ (x : List ℕ). own ++ x) (append_nil area)
 
 module _ (i : Inputs) (b : Buffers) (present : List ℕ) (budget : ℕ) where
   checked_refused : (n m : ℕ) → checked_refusal i b present ≡ n → n ≡ suc m → checked_result (run_answer.Refused n) b present ≡ checked_call i budget b present
-  unfolding checked_result checked_call checked_unless runMeaning
+  unfolding checked_result checked_call checked_unless run_meaning
   checked_refused n m e s = rw (e, s)
 
   pub present_wrong : (length present ≡ present_bodies_length → ⊥) → checked_result (run_answer.Refused 1) b present ≡ checked_call i budget b present
@@ -110,7 +110,7 @@ module _ (i : Inputs) (b : Buffers) (present : List ℕ) (budget : ℕ) where
 -- ---- the type check's verdict on rows
 module _ (rows limits : List ℕ) (v : Verdict) (table : List ℕ) (c : (lims : List ℕ) → Concludes v table (check_profile (profile_of rows lims))) where
   verdict_fails : (budget : ℕ) (b : Buffers) (layout : List ℕ) (o : Outcome TypeError (List Entry)) (q : Progress) → Concludes v table o → (v.error ≡ 0 → ⊥) → erased_result (run_answer.Refused 17) b layout ≡ erased_verdict o budget q b layout
-  unfolding Concludes erased_verdict erased_result runMeaning
+  unfolding Concludes erased_verdict erased_result run_meaning
   verdict_fails budget b layout (ok es) q h f = absurd (f h.passed)
   verdict_fails budget b layout (fail e) q h f = refl
 
@@ -143,7 +143,7 @@ passed_done rows limits who numbers budget b layout copy p r after e =
 -- ---- the erased run
 module _ (i : Inputs) (b : Buffers) (layout : List ℕ) (budget : ℕ) where
   erased_refused : (n m : ℕ) → erased_refusal i b layout ≡ n → n ≡ suc m → erased_result (run_answer.Refused n) b layout ≡ erased_call i budget b layout
-  unfolding erased_result erased_call erased_unless runMeaning
+  unfolding erased_result erased_call erased_unless run_meaning
   erased_refused n m e s = rw (e, s)
 
   pub layout_wrong : (length layout ≡ layout_length → ⊥) → erased_result (run_answer.Refused 1) b layout ≡ erased_call i budget b layout

@@ -11,7 +11,7 @@ use Rattle.lingua.specs.Body.{Body}
 use Rattle.lingua.specs.Operation.{top, unary_body}
 use Rattle.lingua.specs.Typing.{type_error, Typed, Finding, fault, own_rule, unary_second, current_body, elements_at, lower, lowest_fault}
 use Rattle.laws.specs.Outcomes.{and_left, and_right, false_is_true}
-use Rattle.safety.specs.Answers.{never-ok, same_answer, true-is-false}
+use Rattle.safety.specs.Answers.{never_ok, same_answer, true_is_false}
 use Rattle.safety.specs.Faults.{lower_none, lowest_fault_append}
 use Rattle.body.specs.Encode.{Holds}
 use Rattle.body.specs.declared.typed.Typed.{Typed as HalfTyped}
@@ -40,8 +40,8 @@ gives_body c l m t k e p =
 
 -- no body: what is asked behind it is not
 pub gives_none : {A : Type 0} (c : Checked) (l m : List ℕ) (o : Finding A) (k : A → Finding Typed) → Finds c o → c.known ≡ false → Gives c l m (o >>= k)
-gives_none c l m (ok a) k f e = true-is-false (sym f.known ∙ e)
-gives_none c l m (fail es) k f e = record { finds = record { known = e; fault = f.fault }; passes = λ t q. never-ok q }
+gives_none c l m (ok a) k f e = true_is_false (sym f.known ∙ e)
+gives_none c l m (fail es) k f e = record { finds = record { known = e; fault = f.fault }; passes = λ t q. never_ok q }
 
 -- a fault of the row's own
 pub fault_named : (n p : ℕ) → 1 ≤ n → fault_at n p ≡ some (type_error n p)
@@ -51,7 +51,7 @@ fault_named (suc n) p l = refl
 pub faulted : (c : Checked) (l m : List ℕ) (n p : ℕ) → (c.known ≡ false) × (c.error ≡ n) × (c.place ≡ p) → 1 ≤ n → Gives c l m (fail (fault n p))
 unfolding lowest_fault
 faulted c l m n p h k =
-    record { finds = record { known = h.0; fault = ap₂ fault_at h.1 h.2 ∙ fault_named n p k }; passes = λ t q. never-ok q }
+    record { finds = record { known = h.0; fault = ap₂ fault_at h.1 h.2 ∙ fault_named n p k }; passes = λ t q. never_ok q }
 
 -- ---- two at once
 -- the code's ways to the lower of two faults

@@ -19,7 +19,7 @@ use Rattle.lingua.specs.References.{expression_variables, rows_refer, variables_
 use Rattle.laws.specs.Outcomes.{or_left, or_right}
 use Rattle.laws.specs.Refers.{Refers, refers, roots_of}
 use Rattle.laws.specs.Reached.{term_below}
-use Rattle.safety.specs.Answers.{true-is-false}
+use Rattle.safety.specs.Answers.{true_is_false}
 use Rattle.safety.specs.Every.{Every, every_more}
 use Rattle.safety.specs.Accepted.{AcceptedRows, expression_variables_lem}
 use Rattle.safety.specs.Scoped.{term_scope}
@@ -30,7 +30,7 @@ module _ (m : ℕ) where
   pub closed_reads : (e : Expression) → reads_variable e ≡ false → ReadsBelow m e
   unfolding reads_variable ReadsBelow
   closed_reads (constant r c) h = tt
-  closed_reads (variable r n) h = true-is-false h
+  closed_reads (variable r n) h = true_is_false h
   closed_reads (current r) h = tt
   closed_reads (unary r o e) h = closed_reads e h
   closed_reads (binary r o e f) h =

@@ -16,7 +16,7 @@ use Rattle.lingua.specs.Operation.{Unary, Binary, unary_body, binary_body}
 use Rattle.lingua.specs.Expression.{Connective, Expression, constant, variable, current, unary, binary, lazy, choice, all_list}
 use Rattle.lingua.specs.Typing.{Entry, Typed, Finding, unary_second, binary_second, Bodies, current_body, current_or, elements_at, check, lowest_fault, placed}
 use Rattle.laws.specs.Outcomes.{is_boolean_lem}
-use Rattle.safety.specs.Answers.{never-ok}
+use Rattle.safety.specs.Answers.{never_ok}
 use Rattle.body.specs.Encode.{Holds, Held}
 use Rattle.body.specs.declared.typed.Typed.{Typed as HalfTyped}
 use Rattle.body_half.specs.Half.{Half}
@@ -77,7 +77,7 @@ module _ (c : Checked) (r : ℕ) (x : List ℕ) (l m : List ℕ) (n : Noted c r 
 pub no_current_gives : (c : Checked) (r p : ℕ) (l m : List ℕ) (vars : Bodies) (known : Bool) (b : Body) → known ≡ false → (c.known ≡ false) × (c.error ≡ 0) × (c.place ≡ p) → Gives c l m (check (current r) vars (current_if known b))
 unfolding check current_body lowest_fault
 no_current_gives c r p l m vars known b k h =
-    rw k (record { finds = record { known = h.0; fault = ap (λ (n : ℕ). fault_at n c.place) h.1 }; passes = λ t q. never-ok q })
+    rw k (record { finds = record { known = h.0; fault = ap (λ (n : ℕ). fault_at n c.place) h.1 }; passes = λ t q. never_ok q })
 
 -- ---- one operand
 module _ (r : ℕ) (o : Unary) (e : Expression) (vars : Bodies) (cur : Option Body) where

@@ -10,7 +10,7 @@ use Rattle.lingua.specs.Store.{Variable, Reading, cells_in, states_in}
 use Rattle.lingua.specs.Run.{State, Progress, going, last_state, open_calls, exec, begun, started, take_readings, run}
 use Rattle.lingua.specs.Trees.{instruction_tree, profile_of}
 use Rattle.lingua.specs.Inputs.{buffers}
-use Rattle.lingua.specs.Answers.{answered, runMeaning}
+use Rattle.lingua.specs.Answers.{answered, run_meaning}
 use Rattle.lingua.specs.declared.RunAnswer.{RunAnswer}
 use Rattle.lingua.specs.Calls.{ending_of, registers_of, ran, run_result}
 use Rattle.laws.specs.Every.{Every}
@@ -113,7 +113,7 @@ last_open_lem : (b : Bool) (s : State) (os : List (List Variable)) → (b ≡ fa
 last_open_lem true s os h = refl
 last_open_lem false s os h = sym (h refl)
 
-result_is : {w : Way} (a : RunAnswer) (budget : ℕ) (after free : Lent) (q : Progress) → runMeaning a ≡ answered (ending_of budget q) → after.cells ≡ cells_in (last_state q).store → after.states ≡ states_in (last_state q).store → OnZeros w free (open_calls q)
+result_is : {w : Way} (a : RunAnswer) (budget : ℕ) (after free : Lent) (q : Progress) → run_meaning a ≡ answered (ending_of budget q) → after.cells ≡ cells_in (last_state q).store → after.states ≡ states_in (last_state q).store → OnZeros w free (open_calls q)
     → run_result a (buffers after.cells after.states free.cells free.states) ≡ ran budget q
 unfolding run_result ran registers_of
 result_is a budget after free q m c d z = rw (m, c, d, z.cells_are, z.states_are)
@@ -170,7 +170,7 @@ module _ {w : Way} {s : Setting} {l o at after free : Lent} {u : Table} {first t
         on_zeros h.clear bounded (run_shallow (profile_of s.context.rows limits) rs budget)
         (subst (λ (os : List (List Variable)). free ≡ Rattle.run.specs.Reached.overlaid os o) (sym ended_open) area)
 
-  pub run_answered : (a : RunAnswer) → ((vs : List Variable) (os : List (List Variable)) → runMeaning a ≡ answered (ending_of budget (progress_of last.out (state_of last vs) os))) → Runs w s l o after free rs budget a
+  pub run_answered : (a : RunAnswer) → ((vs : List Variable) (os : List (List Variable)) → run_meaning a ≡ answered (ending_of budget (progress_of last.out (state_of last vs) os))) → Runs w s l o after free rs budget a
   run_answered a h = record {
     is = λ limits g. let k = run_reaches limits g in
         result_is a budget after free (run (profile_of s.context.rows limits) rs budget) (h k.store k.opens ∙ ap (λ (q : Progress). answered (ending_of budget q)) (sym k.is))

@@ -2,17 +2,17 @@
 use Rattle.std.proofs.Common.{arith}
 use Rattle.lingua.specs.Rows.{row_count}
 use Rattle.lingua.specs.Format.{blocks_for, file_length}
-use Rattle.lingua.specs.Answers.{fileMeaning}
+use Rattle.lingua.specs.Answers.{file_meaning}
 use Rattle.blocks.proofs.writer.file_length.Goals as goal
 
 pub returns-in-Limits : goal.returns-in-Limits
-unfolding fileMeaning file_length blocks_for
+unfolding file_meaning file_length blocks_for
 returns-in-Limits c = rw c.in-Limits.is
 
 pub returns-then-begun-le1 : goal.returns-then-begun-le1
-unfolding fileMeaning file_length blocks_for row_count
+unfolding file_meaning file_length blocks_for row_count
 returns-then-begun-le1 c = rw c.in_default.is (omega arith)
 
 pub returns : goal.returns
-unfolding fileMeaning file_length blocks_for row_count
+unfolding file_meaning file_length blocks_for row_count
 returns c = rw c.in_default.is (omega arith)

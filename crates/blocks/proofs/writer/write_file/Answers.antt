@@ -2,7 +2,7 @@ use Rattle.std.proofs.Common.{◌+◌, ◌-◌, ◌*◌, ◌/◌, length, drop, 
 use borrow.Rule.Slice.PartMut.{same_len_mid}
 use Rattle.lingua.specs.Numbers.{block_bytes, area_bytes}
 use Rattle.lingua.specs.Format.{blocks_from}
-use Rattle.lingua.specs.Answers.{fileMeaning}
+use Rattle.lingua.specs.Answers.{file_meaning}
 use Rattle.laws.specs.Parts.{length_part, length_taken}
 use Rattle.blocks.proofs.Writes.{write_next, file_written}
 use Rattle.blocks.proofs.writer.write_file.Goals as goal
@@ -21,7 +21,7 @@ loop-k-preserved c =
     let last = c.write_block.new.block in (
       omega arith,
       same_len_mid (block_bytes * c.loop-k.k) (block_bytes * c.loop-k.k + block_bytes - block_bytes * c.loop-k.k) c.loop-k.out last c.write_block.auto.block ∙ c.loop-k.invariant.1,
-      write_next (fileMeaning c.args.kind) c.args.model (length c.args.out.now / block_bytes) c.loop-k.k c.args.rows.now c.area_of-area.result.now c.args.out.now c.loop-k.out last
+      write_next (file_meaning c.args.kind) c.args.model (length c.args.out.now / block_bytes) c.loop-k.k c.args.rows.now c.area_of-area.result.now c.args.out.now c.loop-k.out last
           c.area_of-area.ensures c.loop-k.invariant.2 c.write_block.ensures,
     )
 
@@ -29,4 +29,4 @@ pub shape_of-out : goal.shape_of-out
 shape_of-out c = c.loop-k.invariant.1
 
 pub returns : goal.returns
-returns c = file_written (fileMeaning c.args.kind) c.args.model c.loop-k.k c.args.rows.now c.args.out.now c.loop-k.out c.requires.0 (omega arith) c.loop-k.invariant.2
+returns c = file_written (file_meaning c.args.kind) c.args.model c.loop-k.k c.args.rows.now c.args.out.now c.loop-k.out c.requires.0 (omega arith) c.loop-k.invariant.2

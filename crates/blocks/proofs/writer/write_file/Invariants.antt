@@ -2,11 +2,11 @@
 use Rattle.std.proofs.Common.{◌≡◌, ◌-◌, ◌*◌, ◌≤◌, ◌++◌, length, drop}
 use Rattle.lingua.specs.Numbers.{block_bytes}
 use Rattle.lingua.specs.Format.{blocks_from}
-use Rattle.lingua.specs.Answers.{fileMeaning}
+use Rattle.lingua.specs.Answers.{file_meaning}
 use Rattle.blocks.proofs.writer.write_file.Given as goal
 
 abbrev pub invariant-loop-k : goal.invariant-loop-k
-invariant-loop-k l = (l.k ≤ l.count) × (length l.out ≡ length l.initial.out) × (l.out ≡ blocks_from (fileMeaning l.kind) l.model l.count 0 l.k l.rows ++ drop (block_bytes * l.k) l.initial.out)
+invariant-loop-k l = (l.k ≤ l.count) × (length l.out ≡ length l.initial.out) × (l.out ≡ blocks_from (file_meaning l.kind) l.model l.count 0 l.k l.rows ++ drop (block_bytes * l.k) l.initial.out)
 
 abbrev pub decreases-loop-k : goal.decreases-loop-k
 decreases-loop-k l = l.count - l.k

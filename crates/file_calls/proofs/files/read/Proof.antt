@@ -3,7 +3,7 @@ use mathlib.Core.Path.{refl, sym, ◌∙◌}
 use native.Mathlib.Omega.{arith}
 use borrow.Author.Rules.{rules}
 use lib.Seq.{length-take-le}
-use Rattle.lingua.specs.Answers.{fileMeaning}
+use Rattle.lingua.specs.Answers.{file_meaning}
 use Rattle.lingua.specs.Format.{model_of}
 use Rattle.pair.proofs.Returns.{read_short, read_refused, read_done, none_of_either, header_there, taken_length, rows_written, room_most}
 use Rattle.file_calls.proofs.files.read.Statement.{statement}
@@ -16,17 +16,17 @@ use Rattle.pair.proofs.file.take.Reads as take-reads
 
 returns : tie.Need-returns
 returns c =
-    read_short (fileMeaning c.before.before.before.args.kind) _ _ c.if1.true
+    read_short (file_meaning c.before.before.before.args.kind) _ _ c.if1.true
 
 slice-aggregate-take : tie.Need-slice-aggregate-take
 slice-aggregate-take c = search rules
 
 take-requires : tie.Need-take-requires
-take-requires c κs = (room_most (fileMeaning c.before.before.before.before.before.args.kind), refl)
+take-requires c κs = (room_most (file_meaning c.before.before.before.before.before.args.kind), refl)
 
 returns-2 : tie.Need-returns-2
 returns-2 c =
-    read_refused (fileMeaning c.before.before.before.before.before.before.before.before.before.args.kind) _ _ _ c.before.before.before.before.before.before.if1.false c.before.before.before.take.ensures.refusal c.if2.true
+    read_refused (file_meaning c.before.before.before.before.before.before.before.before.before.args.kind) _ _ _ c.before.before.before.before.before.before.if1.false c.before.before.before.take.ensures.refusal c.if2.true
 
 array-share-prefix-areas : tie.Need-array-share-prefix-areas
 array-share-prefix-areas c =
@@ -42,7 +42,7 @@ copy-rows-requires c κs =
 
 word16-at-requires : tie.Need-word16-at-requires
 word16-at-requires c κs =
-    header_there (fileMeaning c.before.before.before.before.before.before.before.before.before.before.before.before.before.before.args.kind) _ (none_of_either (fileMeaning c.before.before.before.before.before.before.before.before.before.before.before.before.before.before.args.kind) _ (sym c.before.before.before.before.before.if2.false ∙ c.before.before.before.before.before.before.before.before.take.ensures.refusal)).0
+    header_there (file_meaning c.before.before.before.before.before.before.before.before.before.before.before.before.before.before.args.kind) _ (none_of_either (file_meaning c.before.before.before.before.before.before.before.before.before.before.before.before.before.before.args.kind) _ (sym c.before.before.before.before.before.if2.false ∙ c.before.before.before.before.before.before.before.before.take.ensures.refusal)).0
 
 cast-t21 : tie.Need-overflow-cast-t21
 cast-t21 c =
@@ -55,7 +55,7 @@ returns-3 : tie.Need-returns-3
 unfolding model_of
 returns-3 c =
     let n = taken_length _ _ _ _ _ c.before.before.before.before.before.before.before.before.before.take.ensures c.before.before.before.before.before.before.if2.false in
-    read_done (fileMeaning c.before.before.before.before.before.before.before.before.before.before.before.before.before.before.before.args.kind) _ _ _ _ _ c.before.before.before.before.before.before.before.before.before.before.before.before.if1.false (sym c.before.before.before.before.before.before.if2.false ∙ c.before.before.before.before.before.before.before.before.before.take.ensures.refusal)
+    read_done (file_meaning c.before.before.before.before.before.before.before.before.before.before.before.before.before.before.before.args.kind) _ _ _ _ _ c.before.before.before.before.before.before.before.before.before.before.before.before.if1.false (sym c.before.before.before.before.before.before.if2.false ∙ c.before.before.before.before.before.before.before.before.before.take.ensures.refusal)
     (rows_written _ _ _ _ _ _ _ c.before.before.before.before.before.before.before.before.before.take.ensures c.before.before.before.before.before.before.if2.false c.before.before.before.before.before.before.before.before.before.before.before.before.if1.false c.before.before.before.copy-rows.ensures) c.word16-at.ensures (omega (arith, n.0))
 
 slice-aggregate-take-2 : tie.Need-slice-aggregate-take-2

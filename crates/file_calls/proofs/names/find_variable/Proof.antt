@@ -1,7 +1,7 @@
 -- `names::find_variable` meets its contract: refused by the profile's rules, or as the search ends. Assumes nothing.
 use mathlib.Core.Path.{refl, sym}
 use lib.Seq.{length-take-le}
-use Rattle.lingua.specs.Answers.{fileMeaning}
+use Rattle.lingua.specs.Answers.{file_meaning}
 use Rattle.pair.proofs.Returns.{room_most}
 use Rattle.lingua.specs.Format.{profile}
 use Rattle.file_calls.proofs.Naming.{find_refused, declarations_there, at_small, missing_small, find_found, find_missing}
@@ -16,11 +16,11 @@ slice-aggregate-take-2 : tie.Need-slice-aggregate-take-2
 slice-aggregate-take-2 c = search rules
 
 take-requires : tie.Need-take-requires
-unfolding fileMeaning
+unfolding file_meaning
 take-requires c κs = (room_most profile, refl)
 
 returns : tie.Need-returns
-unfolding fileMeaning
+unfolding file_meaning
 returns c = find_refused _ _ _ _ c.before.before.before.take.ensures _ c.if1.true
 
 array-share-prefix-areas : tie.Need-array-share-prefix-areas
@@ -33,33 +33,33 @@ slice-aggregate-find-2 : tie.Need-slice-aggregate-find-2
 slice-aggregate-find-2 c = search rules
 
 find-requires : tie.Need-find-requires
-unfolding fileMeaning
+unfolding file_meaning
 find-requires c κs = (declarations_there _ _ _ _ c.before.before.before.before.before.before.before.take.ensures c.before.before.before.before.if1.false, search rules)
 
 enum-known-found : tie.Need-enum-known-found
 enum-known-found c = search rules
 
 cast-t26 : tie.Need-overflow-cast-t26
-unfolding fileMeaning
+unfolding file_meaning
 cast-t26 c = record { fits = (at_small _ _ _ _ c.before.before.before.before.before.before.before.before.before.before.before.take.ensures c.before.before.before.before.before.before.before.before.if1.false _ _ c.before.before.before.find.ensures _ _ c.before.found.given.1).0 }
 
 cast-t27 : tie.Need-overflow-cast-t27
-unfolding fileMeaning
+unfolding file_meaning
 cast-t27 c = record { fits = (at_small _ _ _ _ c.before.before.before.before.before.before.before.before.before.before.before.take.ensures c.before.before.before.before.before.before.before.before.if1.false _ _ c.before.before.before.find.ensures _ _ c.before.found.given.1).1 }
 
 enum-known-found-2 : tie.Need-enum-known-found-2
 enum-known-found-2 c = search rules
 
 cast-t28 : tie.Need-overflow-cast-t28
-unfolding fileMeaning
+unfolding file_meaning
 cast-t28 c = record { fits = missing_small _ _ _ _ c.before.before.before.before.before.before.before.before.before.before.before.take.ensures c.before.before.before.before.before.before.before.before.if1.false _ _ c.before.before.before.find.ensures _ c.before.found2.given.1 }
 
 returns-2 : tie.Need-returns-2
-unfolding fileMeaning
+unfolding file_meaning
 returns-2 c = find_found _ _ _ _ c.before.before.before.before.before.before.before.before.before.before.before.take.ensures c.before.before.before.before.before.before.before.before.if1.false _ _ c.before.before.before.find.ensures _ _ c.before.found.given.1
 
 returns-3 : tie.Need-returns-3
-unfolding fileMeaning
+unfolding file_meaning
 returns-3 c = find_missing _ _ _ _ c.before.before.before.before.before.before.before.before.before.before.before.take.ensures c.before.before.before.before.before.before.before.before.if1.false _ _ c.before.before.before.find.ensures _ c.before.found2.given.1
 
 pub find-variable-spec : {M : Type 1} → statement M

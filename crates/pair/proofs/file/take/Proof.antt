@@ -2,7 +2,7 @@
 use mathlib.Core.Path.{sym, ◌∙◌}
 use borrow.Author.Rules.{rules}
 use lib.Seq.{length-take-le}
-use Rattle.lingua.specs.Answers.{fileMeaning}
+use Rattle.lingua.specs.Answers.{file_meaning}
 use Rattle.pair.proofs.Returns.{taken_by_file, taken_by_rows, room_enough}
 use Rattle.pair.proofs.file.take.Statement.{statement}
 use Rattle.pair.proofs.file.take.Tie as tie
@@ -16,10 +16,10 @@ file-refusal-requires : tie.Need-file-refusal-requires
 file-refusal-requires c κs = search rules
 
 returns : tie.Need-returns
-returns c = taken_by_file _ (fileMeaning c.before.before.before.before.before.before.args.kind) _ _ _ c.before.before.file-refusal.ensures c.before.if1.true
+returns c = taken_by_file _ (file_meaning c.before.before.before.before.before.before.args.kind) _ _ _ c.before.before.file-refusal.ensures c.before.if1.true
 
 gather-rows-requires : tie.Need-gather-rows-requires
-gather-rows-requires c κs = room_enough (fileMeaning c.before.before.before.before.before.before.args.kind) _ _ (sym c.before.before.file-refusal.ensures ∙ c.before.if1.false) c.before.before.before.before.before.before.requires.0
+gather-rows-requires c κs = room_enough (file_meaning c.before.before.before.before.before.before.args.kind) _ _ (sym c.before.before.file-refusal.ensures ∙ c.before.if1.false) c.before.before.before.before.before.before.requires.0
 
 slice-aggregate-tables-of : tie.Need-slice-aggregate-tables-of
 slice-aggregate-tables-of c = sym (length-take-le _ _ c.before.before.before.gather-rows.ensures.inside)
@@ -32,7 +32,7 @@ rows-refusal-requires c κs = (c.before.before.tables-of.ensures, c.before.befor
 
 returns-2 : tie.Need-returns-2
 returns-2 c =
-    taken_by_rows _ (fileMeaning c.before.before.before.before.before.before.before.before.before.before.before.before.before.before.before.before.args.kind) _ _ _ (sym c.before.before.before.before.before.before.before.before.before.before.before.before.file-refusal.ensures ∙ c.before.before.before.before.before.before.before.before.before.before.before.if1.false) c.before.before.before.before.before.before.before.before.before.gather-rows.ensures c.before.before.before.before.before.tables-of.ensures c.before.before.rows-refusal.ensures
+    taken_by_rows _ (file_meaning c.before.before.before.before.before.before.before.before.before.before.before.before.before.before.before.before.args.kind) _ _ _ (sym c.before.before.before.before.before.before.before.before.before.before.before.before.file-refusal.ensures ∙ c.before.before.before.before.before.before.before.before.before.before.before.if1.false) c.before.before.before.before.before.before.before.before.before.gather-rows.ensures c.before.before.before.before.before.tables-of.ensures c.before.before.rows-refusal.ensures
 
 no-tables-requires : tie.Need-no-tables-requires
 no-tables-requires c κs = search rules

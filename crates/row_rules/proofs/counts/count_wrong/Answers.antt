@@ -1,13 +1,13 @@
 -- `count_wrong` meets its contract, by the kind of file. Assumes nothing.
-use Rattle.lingua.specs.Answers.{fileMeaning}
+use Rattle.lingua.specs.Answers.{file_meaning}
 use Rattle.row_rules.proofs.Forms.{counts_limits}
 use borrow.Author.Rules.{rules}
 use Rattle.row_rules.proofs.counts.count_wrong.Goals as goal
 
 pub returns-in-Profile : goal.returns-in-Profile
-unfolding fileMeaning
+unfolding file_meaning
 returns-in-Profile c = λ rows h. rw c.in-Profile.is (c.profile_count_wrong.ensures rows h)
 
 pub returns-in-Limits : goal.returns-in-Limits
-unfolding fileMeaning
+unfolding file_meaning
 returns-in-Limits c = λ rows h. rw c.in-Limits.is (counts_limits rows c.args.t h)

@@ -5,7 +5,7 @@ use Prim.Native.Nat.{ℕ, ◌-◌, ◌/◌, ◌≤◌}
 use native.Mathlib.Omega.{arith}
 use lib.ListN.{length}
 use borrow.Author.Tests.{not-true, not-false}
-use Rattle.lingua.specs.Answers.{fileMeaning}
+use Rattle.lingua.specs.Answers.{file_meaning}
 use Rattle.lingua.specs.Rows.{row_count}
 use Rattle.lingua.specs.Format.{every_below}
 use Rattle.lingua.specs.Rules.{row_fits}
@@ -13,7 +13,7 @@ use Rattle.row_rules.proofs.Every.{every_none, every_more, every_fails, every_al
 use Rattle.row_rules.proofs.form.rows_fit.Given as goal
 
 abbrev pub invariant-loop-i : goal.invariant-loop-i
-invariant-loop-i l = (l.i ≤ l.n) × (every_below l.i (λ k. row_fits (fileMeaning l.file) l.rows k) ≡ true)
+invariant-loop-i l = (l.i ≤ l.n) × (every_below l.i (λ k. row_fits (file_meaning l.file) l.rows k) ≡ true)
 
 abbrev pub decreases-loop-i : goal.decreases-loop-i
 decreases-loop-i l = l.n - l.i

@@ -2,7 +2,7 @@
 use mathlib.Core.Path.{ap, ◌∙◌}
 use mathlib.Core.Bool.{not}
 use Rattle.lingua.specs.Numbers.{limit_section}
-use Rattle.lingua.specs.Answers.{fileMeaning}
+use Rattle.lingua.specs.Answers.{file_meaning}
 use Rattle.lingua.specs.Rules.{names_fit, name_wrong}
 use Rattle.row_rules.specs.Form.{FewProcedures}
 use Rattle.row_rules.proofs.Forms.{own_section}
@@ -10,20 +10,20 @@ use borrow.Author.Rules.{rules}
 use Rattle.row_rules.proofs.names.name_wrong.Goals as goal
 
 pub profile_name_wrong-requires-clause-are_tables : goal.profile_name_wrong-requires-clause-are_tables
-unfolding fileMeaning FewProcedures
+unfolding file_meaning FewProcedures
 profile_name_wrong-requires-clause-are_tables c = c.requires.are_tables
 
 pub profile_name_wrong-requires-clause-count_le_most_procedures : goal.profile_name_wrong-requires-clause-count_le_most_procedures
-unfolding fileMeaning FewProcedures
+unfolding file_meaning FewProcedures
 profile_name_wrong-requires-clause-count_le_most_procedures c = (rw c.in-Profile.is at c.requires.few_procedures)
 
 pub names_fit-requires : goal.names_fit-requires
 names_fit-requires c = own_section c.args.rows.now limit_section c.args.t.limits c.requires.are_tables.limits
 
 pub returns-in-Profile : goal.returns-in-Profile
-unfolding fileMeaning
+unfolding file_meaning
 returns-in-Profile c = rw c.in-Profile.is c.profile_name_wrong.ensures
 
 pub returns-in-Limits : goal.returns-in-Limits
-unfolding fileMeaning name_wrong
+unfolding file_meaning name_wrong
 returns-in-Limits c = rw c.in-Limits.is (ap not (c.names_fit.ensures ∙ ap (names_fit c.args.rows.now) c.requires.are_tables.limits.section))

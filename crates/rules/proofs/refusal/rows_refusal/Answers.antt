@@ -3,7 +3,7 @@ use Rattle.rules.proofs.Lowest.{refused_6, refused_7, refused_8, refused_9, refu
 use mathlib.Core.Path.{◌≡◌, sym, ◌∙◌, subst}
 use mathlib.Core.Bool.{false}
 use native.Mathlib.Omega.{arith}
-use Rattle.lingua.specs.Answers.{fileMeaning}
+use Rattle.lingua.specs.Answers.{file_meaning}
 use Rattle.lingua.specs.Format.{File, profile}
 use Rattle.lingua.specs.Rules.{count_wrong, constant_wrong}
 use borrow.Author.Rules.{rules}
@@ -14,11 +14,11 @@ form_wrong-requires c = c.requires.are_tables
 
 pub returns-then-form_wrong : goal.returns-then-form_wrong
 returns-then-form_wrong c =
-    refused_judged (fileMeaning c.args.file) c.args.rows.now (refused_6 (fileMeaning c.args.file) c.args.rows.now c.form_wrong.ensures c.if-form_wrong.true) (omega arith)
+    refused_judged (file_meaning c.args.file) c.args.rows.now (refused_6 (file_meaning c.args.file) c.args.rows.now c.form_wrong.ensures c.if-form_wrong.true) (omega arith)
 
 pub returns-then-count_wrong : goal.returns-then-count_wrong
 returns-then-count_wrong c =
-    refused_judged (fileMeaning c.args.file) c.args.rows.now (refused_7 (fileMeaning c.args.file) c.args.rows.now c.form_wrong.ensures (c.count_wrong.ensures c.args.rows.now c.requires.are_tables) c.if-form_wrong.false c.if-count_wrong.true) (omega arith)
+    refused_judged (file_meaning c.args.file) c.args.rows.now (refused_7 (file_meaning c.args.file) c.args.rows.now c.form_wrong.ensures (c.count_wrong.ensures c.args.rows.now c.requires.are_tables) c.if-form_wrong.false c.if-count_wrong.true) (omega arith)
 
 pub name_wrong-requires-clause-are_tables : goal.name_wrong-requires-clause-are_tables
 name_wrong-requires-clause-are_tables c =
@@ -26,22 +26,22 @@ name_wrong-requires-clause-are_tables c =
 
 pub name_wrong-requires-clause-few_procedures : goal.name_wrong-requires-clause-few_procedures
 name_wrong-requires-clause-few_procedures c =
-    (few_procedures_lem (fileMeaning c.args.file) c.args.rows.now c.args.t c.requires.are_tables (sym (c.count_wrong.ensures c.args.rows.now c.requires.are_tables) ∙ c.if-count_wrong.false))
+    (few_procedures_lem (file_meaning c.args.file) c.args.rows.now c.args.t c.requires.are_tables (sym (c.count_wrong.ensures c.args.rows.now c.requires.are_tables) ∙ c.if-count_wrong.false))
 
 pub returns-then-name_wrong : goal.returns-then-name_wrong
 returns-then-name_wrong c =
-    refused_judged (fileMeaning c.args.file) c.args.rows.now (refused_8 (fileMeaning c.args.file) c.args.rows.now c.form_wrong.ensures (c.count_wrong.ensures c.args.rows.now c.requires.are_tables) c.name_wrong.ensures c.if-form_wrong.false c.if-count_wrong.false c.if-name_wrong.true) (omega arith)
+    refused_judged (file_meaning c.args.file) c.args.rows.now (refused_8 (file_meaning c.args.file) c.args.rows.now c.form_wrong.ensures (c.count_wrong.ensures c.args.rows.now c.requires.are_tables) c.name_wrong.ensures c.if-form_wrong.false c.if-count_wrong.false c.if-name_wrong.true) (omega arith)
 
 pub constant_wrong-requires : goal.constant_wrong-requires
 constant_wrong-requires c = c.requires.are_tables
 
 pub returns-then-constant_wrong : goal.returns-then-constant_wrong
 returns-then-constant_wrong c =
-    refused_judged (fileMeaning c.args.file) c.args.rows.now (refused_9 (fileMeaning c.args.file) c.args.rows.now c.form_wrong.ensures (c.count_wrong.ensures c.args.rows.now c.requires.are_tables) c.name_wrong.ensures c.constant_wrong.ensures c.if-form_wrong.false c.if-count_wrong.false c.if-name_wrong.false c.if-constant_wrong.true) (omega arith)
+    refused_judged (file_meaning c.args.file) c.args.rows.now (refused_9 (file_meaning c.args.file) c.args.rows.now c.form_wrong.ensures (c.count_wrong.ensures c.args.rows.now c.requires.are_tables) c.name_wrong.ensures c.constant_wrong.ensures c.if-form_wrong.false c.if-count_wrong.false c.if-name_wrong.false c.if-constant_wrong.true) (omega arith)
 
 pub link_refusal-requires : goal.link_refusal-requires
 link_refusal-requires c =
-    let e : fileMeaning c.args.file ≡ profile = is_profile c.args.file c.in-Profile.is in
+    let e : file_meaning c.args.file ≡ profile = is_profile c.args.file c.in-Profile.is in
     record {
       tables = c.requires.are_tables;
       counts = subst (λ (f : File). count_wrong f c.args.rows.now ≡ false) e (sym (c.count_wrong.ensures c.args.rows.now c.requires.are_tables) ∙ c.if-count_wrong.false);
@@ -53,15 +53,15 @@ pub returns-in-Profile : goal.returns-in-Profile
 returns-in-Profile c =
     record {
       refusal = c.link_refusal.ensures.refusal
-          ∙ later_profile (fileMeaning c.args.file) c.args.rows.now (is_profile c.args.file c.in-Profile.is)
-          ∙ refused_later (fileMeaning c.args.file) c.args.rows.now c.form_wrong.ensures (c.count_wrong.ensures c.args.rows.now c.requires.are_tables) c.name_wrong.ensures c.constant_wrong.ensures c.if-form_wrong.false c.if-count_wrong.false c.if-name_wrong.false c.if-constant_wrong.false;
+          ∙ later_profile (file_meaning c.args.file) c.args.rows.now (is_profile c.args.file c.in-Profile.is)
+          ∙ refused_later (file_meaning c.args.file) c.args.rows.now c.form_wrong.ensures (c.count_wrong.ensures c.args.rows.now c.requires.are_tables) c.name_wrong.ensures c.constant_wrong.ensures c.if-form_wrong.false c.if-count_wrong.false c.if-name_wrong.false c.if-constant_wrong.false;
       held = λ e z. c.link_refusal.ensures.held z;
     }
 
 pub returns-in-Limits : goal.returns-in-Limits
 returns-in-Limits c =
     record {
-      refusal = later_limits (fileMeaning c.args.file) c.args.rows.now (is_limits c.args.file c.in-Limits.is)
-          ∙ refused_later (fileMeaning c.args.file) c.args.rows.now c.form_wrong.ensures (c.count_wrong.ensures c.args.rows.now c.requires.are_tables) c.name_wrong.ensures c.constant_wrong.ensures c.if-form_wrong.false c.if-count_wrong.false c.if-name_wrong.false c.if-constant_wrong.false;
+      refusal = later_limits (file_meaning c.args.file) c.args.rows.now (is_limits c.args.file c.in-Limits.is)
+          ∙ refused_later (file_meaning c.args.file) c.args.rows.now c.form_wrong.ensures (c.count_wrong.ensures c.args.rows.now c.requires.are_tables) c.name_wrong.ensures c.constant_wrong.ensures c.if-form_wrong.false c.if-count_wrong.false c.if-name_wrong.false c.if-constant_wrong.false;
       held = λ e z. only_profile c.args.file c.in-Limits.is e;
     }
