@@ -1,6 +1,6 @@
 -- What the stores of the writer leave: the part of the rows that a block has, its header, its check, the block, and the blocks one
 -- after the other. Assumes nothing.
-use Rattle.std.proofs.Common.{◌≡◌, ℕ, ◌+◌, ◌-◌, ◌*◌, ◌/◌, ◌%◌, ◌≤◌, List, [], ◌∷◌, ◌++◌, length, take, drop, set, sym, ap, ◌∙◌, ap₂, append_assoc, append_nil, arith, length-append, length-drop, take-append-drop, drop_of_length-le, length-take-le, take_all, take_at}
+use Rattle.std.proofs.Common.{◌≡◌, ℕ, ◌+◌, ◌-◌, ◌*◌, ◌/◌, ◌%◌, ◌≤◌, List, [], ◌∷◌, ◌++◌, length, take, drop, set, sym, ap, ◌∙◌, ap₂, append_assoc, append-nil, arith, length-append, length-drop, take-append-drop, drop_of_length-le, length-take-le, take_all, take_at}
 use lib.Seq.{take-nil, drop-length}
 use borrow.Rule.Slice.PartMut.{put_mid}
 use Rattle.lingua.specs.Numbers.{block_bytes, header_bytes, area_bytes, check_place}
@@ -106,6 +106,6 @@ file_written f model k rows out₀ out long all is =
     let n : length out₀ / block_bytes ≡ blocks_for f (row_count rows) = omega (arith, long) in
     is
     ∙ ap (λ (l : List ℕ). blocks_from f model (length out₀ / block_bytes) 0 k rows ++ l) (drop_of_length-le out₀ (let d : length out₀ ≤ block_bytes * k = omega (arith, long) in d))
-    ∙ append_nil (blocks_from f model (length out₀ / block_bytes) 0 k rows)
+    ∙ append-nil (blocks_from f model (length out₀ / block_bytes) 0 k rows)
     ∙ ap (λ (m : ℕ). blocks_from f model (length out₀ / block_bytes) 0 m rows) all
     ∙ ap (λ (m : ℕ). blocks_from f model m 0 m rows) n

@@ -1,6 +1,6 @@
 -- What an array that holds a body gives, and how bodies are made of others, as lists. Assumes nothing.
 use mathlib.Core.Path.{◌≡◌, refl, sym, ap, ◌∙◌}
-use mathlib.Core.List.{List, [], ◌∷◌, ◌++◌, append_assoc, append_nil}
+use mathlib.Core.List.{List, [], ◌∷◌, ◌++◌, append_assoc, append-nil}
 use Prim.Native.Nat.{ℕ, ◌+◌, ◌-◌, ◌≤◌, ◌<◌}
 use native.Mathlib.Omega.{arith}
 use lib.ListN.{length, take, drop, get_or, set, replicate, length-append}
@@ -59,7 +59,7 @@ pub record_made : (x : List ℕ) (n : ℕ) (b : Body) → Holds x b → nodes b 
 unfolding encoded bytes pad count_attributes
 record_made x n b h f =
     after (5 ∷ 1 ∷ n ∷ []) x b 3 93 refl refl (omega (arith, bytes_below_lem b)) h
-    ∙ ap (λ (l : List ℕ). pad 96 0 (5 ∷ 1 ∷ n ∷ l)) (sym (append_nil (bytes b)))
+    ∙ ap (λ (l : List ℕ). pad 96 0 (5 ∷ 1 ∷ n ∷ l)) (sym (append-nil (bytes b)))
 
 pub element_taken : (x : List ℕ) (b : Body) → Holds x (list_of b) → Holds (pad 96 0 (take 95 (drop 1 x))) b
 unfolding encoded bytes size nodes

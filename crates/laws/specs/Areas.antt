@@ -1,6 +1,6 @@
 -- The row areas of a file's blocks, one after the other, and how many rows of them are used. Assumes nothing.
 use Rattle.std.specs.Prelude.{◌≡◌, refl, Bool, true, false, List, ◌++◌, ℕ, zero, suc, ◌+◌, ◌-◌, ◌*◌, ◌/◌, ◌≤◌, ◌<◌, length, get_or, take, drop, if◌then◌else◌}
-use Rattle.std.proofs.Common.{sym, ap, ◌∙◌, append_assoc, append_nil, ⊎_elim, add-zero, add-one, arith, length-append, length-take-le, get_or-take, get_or-append-add, take-take, drop-drop}
+use Rattle.std.proofs.Common.{sym, ap, ◌∙◌, append_assoc, append-nil, ⊎_elim, add-zero, add-one, arith, length-append, length-take-le, get_or-take, get_or-append-add, take-take, drop-drop}
 use Rattle.std.proofs.Math.ListN.{get_or-append, get_or-eq_default}
 use Rattle.lingua.specs.Numbers.{block_bytes, header_bytes, area_bytes, check_place, row_bytes}
 use Rattle.lingua.specs.Rows.{row_count}
@@ -24,7 +24,7 @@ part_area file k =
 -- one block more
 pub areas_more : (k n : ℕ) (file : List ℕ) → areas_from k (suc n) file ≡ areas_from k n file ++ row_area (block_at file (k + n))
 unfolding areas_from
-areas_more k zero file = append_nil (row_area (block_at file k)) ∙ ap (λ (j : ℕ). row_area (block_at file j)) (sym (add-zero k))
+areas_more k zero file = append-nil (row_area (block_at file k)) ∙ ap (λ (j : ℕ). row_area (block_at file j)) (sym (add-zero k))
 areas_more k (suc n) file =
     let e : suc k + n ≡ k + suc n = omega arith in
     ap (λ (l : List ℕ). row_area (block_at file k) ++ l) (areas_more (suc k) n file)

@@ -4,7 +4,7 @@
 use Rattle.std.specs.Prelude.{◌≡◌, refl, ℕ, zero, suc, ◌+◌, ◌-◌, ◌*◌, ◌≤◌, ◌<◌, take, drop, get_or}
 use Rattle.std.proofs.Math.Path.{sym, ap}
 use Rattle.std.proofs.Common.{◌∙◌, zero-mul, suc-mul, mul-le-mul_right, le_of_suc-le-suc, add-one, one-add, arith, length-append, take_at, drop_at}
-use mathlib.Core.List.{List, [], ◌∷◌, ◌++◌, append_assoc, append_nil}
+use mathlib.Core.List.{List, [], ◌∷◌, ◌++◌, append_assoc, append-nil}
 use Rattle.std.proofs.Math.ListN.{length, set, replicate}
 use Rattle.std.proofs.lemmas.List.{length-replicate}
 use Rattle.std.proofs.Math.Seq.{drop-append-add, paste}
@@ -45,12 +45,12 @@ fits_without_last k (fit_item h hs) = fit_item k (fits_without_last h hs)
 module _ (f : Value → List ℤ) where
   pub flat_with_last : (vs : Values) (x : Value) → flat f (with_last vs x) ≡ flat f vs ++ f x
   unfolding flat with_last
-  flat_with_last no_items x = append_nil (f x)
+  flat_with_last no_items x = append-nil (f x)
   flat_with_last (item v vs) x = ap (λ (l : List ℤ). f v ++ l) (flat_with_last vs x) ∙ sym (append_assoc (f v) (flat f vs) (f x))
 
   pub flat_last : (v : Value) (vs : Values) → flat f (item v vs) ≡ flat f (without_last v vs) ++ f (last_from v vs)
   unfolding flat without_last last_from
-  flat_last v no_items = append_nil (f v)
+  flat_last v no_items = append-nil (f v)
   flat_last v (item w vs) = ap (λ (l : List ℤ). f v ++ l) (flat_last w vs) ∙ sym (append_assoc (f v) (flat f (without_last w vs)) (f (last_from w vs)))
 
 -- ---- cells
@@ -135,7 +135,7 @@ unfolding cells_of as_items count_values flat pad
 single_cells {x} {b} h =
     let e : list_places * size b - length (cells_of b x ++ []) ≡ (list_places - 1) * size b = omega (arith, length-append (cells_of b x) [], length_cells h) in
     ap (λ (n : ℕ). pos 1 ∷ (cells_of b x ++ [] ++ replicate n (pos 0))) e
-    ∙ ap (λ (l : List ℤ). pos 1 ∷ (l ++ replicate ((list_places - 1) * size b) (pos 0))) (append_nil (cells_of b x))
+    ∙ ap (λ (l : List ℤ). pos 1 ∷ (l ++ replicate ((list_places - 1) * size b) (pos 0))) (append-nil (cells_of b x))
 
 pub single_fits : {x : Value} {b : Body} → Fits x b → Fits (items (item x no_items)) (list_of b)
 unfolding count_values

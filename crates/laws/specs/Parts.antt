@@ -2,7 +2,7 @@
 use Rattle.std.specs.Prelude.{◌≡◌, refl, ℕ, zero, suc, ◌+◌, ◌-◌, ◌≤◌, ◌<◌, get_or, take, drop, set}
 use Rattle.std.proofs.Common.{sym, ◌∙◌, add-one, length-take, length-drop, drop_of_length-le, length-take-le, get_or-take, get_or-drop, take_at, drop_at, drop-drop, take-suc-set}
 use Rattle.std.proofs.Math.Path.{ap}
-use mathlib.Core.List.{List, [], ◌∷◌, ◌++◌, append_assoc, append_nil}
+use mathlib.Core.List.{List, [], ◌∷◌, ◌++◌, append_assoc, append-nil}
 use Rattle.std.proofs.Math.Nat.{sub-zero}
 use native.Mathlib.Omega.{arith}
 use Rattle.std.proofs.Math.ListN.{length, replicate}
@@ -23,7 +23,7 @@ module _ {A : Type 0} where
   unfolding pad
   pad_whole n z xs h =
       let e : n - length xs ≡ 0 = omega arith in
-      ap (λ (k : ℕ). xs ++ replicate k z) e ∙ append_nil xs
+      ap (λ (k : ℕ). xs ++ replicate k z) e ∙ append-nil xs
 
   pub pad_more : (n : ℕ) (z : A) (xs : List A) → length xs ≤ n → pad n z xs ++ (z ∷ []) ≡ pad (n + 1) z xs
   unfolding pad
@@ -50,7 +50,7 @@ module _ {A : Type 0} where
   pub copy_whole : (src dst : List A) → length src ≡ length dst → take (length src) src ++ drop (length src) dst ≡ src
   copy_whole src dst h =
       ap (λ (l : List A). l ++ drop (length src) dst) (take-length src)
-      ∙ ap (λ (l : List A). src ++ l) (drop_of_length-le dst (let e : length dst ≤ length src = omega arith in e)) ∙ append_nil src
+      ∙ ap (λ (l : List A). src ++ l) (drop_of_length-le dst (let e : length dst ≤ length src = omega arith in e)) ∙ append-nil src
 
   -- a list whose front is written up to a, with a part written behind it up to e
   pub put_next : (p xs ys : List A) (a e : ℕ) → length p ≡ a → a ≤ e

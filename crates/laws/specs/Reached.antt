@@ -9,7 +9,7 @@ use mathlib.Core.List.Memᴰ.{append_left as in_left}
 use mathlib.Core.List.Memᴰ.{append_right as in_right}
 use mathlib.Core.List.Memᴰ.{head as here}
 use mathlib.Core.List.Memᴰ.{tail as there}
-use mathlib.Core.List.{List, ◌∷◌, ◌++◌, map, append_nil, Memᴰ as In}
+use mathlib.Core.List.{List, ◌∷◌, ◌++◌, map, append-nil, Memᴰ as In}
 use Rattle.lingua.specs.Numbers.{expression_section, instruction_section}
 use Rattle.lingua.specs.Expression.{Expression, Instruction, skip}
 use Rattle.lingua.specs.Typing.{joined}
@@ -106,10 +106,10 @@ unfolding instruction_rows instruction_of parts joined
 instruction_node rows r skip_row look = refl
 instruction_node rows r (assign_row n e) look = refl
 instruction_node rows r (set_yoke_row n y) look = refl
-instruction_node rows r (sequence_row i j) look = simp append_nil
-instruction_node rows r (branch_row e i j) look = simp append_nil
-instruction_node rows r (loop_row e i) look = simp append_nil
-instruction_node rows r (handle_row n i) look = simp append_nil
+instruction_node rows r (sequence_row i j) look = simp append-nil
+instruction_node rows r (branch_row e i j) look = simp append-nil
+instruction_node rows r (loop_row e i) look = simp append-nil
+instruction_node rows r (handle_row n i) look = simp append-nil
 instruction_node rows r (call_row k b c) look = refl
 instruction_node rows r unknown_instruction look = refl
 
@@ -118,28 +118,28 @@ unfolding expression_rows expression_of operands joined
 expression_node r (constant_row c) look = refl
 expression_node r (variable_row n) look = refl
 expression_node r current_row look = refl
-expression_node r (unary_row o a) look = simp append_nil
-expression_node r (binary_row o a b) look = simp append_nil
-expression_node r (lazy_row k a b) look = simp append_nil
-expression_node r (choice_row a b c) look = simp append_nil
-expression_node r (all_list_row a) look = simp append_nil
+expression_node r (unary_row o a) look = simp append-nil
+expression_node r (binary_row o a b) look = simp append-nil
+expression_node r (lazy_row k a b) look = simp append-nil
+expression_node r (choice_row a b c) look = simp append-nil
+expression_node r (all_list_row a) look = simp append-nil
 expression_node r unknown_expression look = refl
 
 yoke_used : (rows : List ℕ) (y : ℕ) → yoke_rows (yoke_tree rows y) ≡ joined (map (λ e. expression_rows (expression_tree rows e)) (yoke_root y))
 unfolding yoke_rows yoke_tree yoke_root joined
 yoke_used rows zero = refl
-yoke_used rows (suc r) = simp append_nil
+yoke_used rows (suc r) = simp append-nil
 
 used_node : (rows : List ℕ) (r : ℕ) (row : InstructionRow) (look : ℕ → Instruction)
     → used_expressions (instruction_of rows r row look) ≡ joined (map (λ e. expression_rows (expression_tree rows e)) (evaluated row ++ yoke_set row)) ++ joined (map (λ a. used_expressions (look a)) (parts row))
 unfolding used_expressions instruction_of parts evaluated yoke_set joined
 used_node rows r skip_row look = refl
-used_node rows r (assign_row n e) look = simp append_nil
-used_node rows r (set_yoke_row n y) look = yoke_used rows y ∙ sym (append_nil (joined (map (λ e. expression_rows (expression_tree rows e)) (yoke_root y))))
-used_node rows r (sequence_row i j) look = simp append_nil
-used_node rows r (branch_row e i j) look = simp append_nil
-used_node rows r (loop_row e i) look = simp append_nil
-used_node rows r (handle_row n i) look = simp append_nil
+used_node rows r (assign_row n e) look = simp append-nil
+used_node rows r (set_yoke_row n y) look = yoke_used rows y ∙ sym (append-nil (joined (map (λ e. expression_rows (expression_tree rows e)) (yoke_root y))))
+used_node rows r (sequence_row i j) look = simp append-nil
+used_node rows r (branch_row e i j) look = simp append-nil
+used_node rows r (loop_row e i) look = simp append-nil
+used_node rows r (handle_row n i) look = simp append-nil
 used_node rows r (call_row k b c) look = refl
 used_node rows r unknown_instruction look = refl
 

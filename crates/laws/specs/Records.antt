@@ -2,7 +2,7 @@
 -- cells around it, and expand is an insertion there; and each result fits. Carried by two splits of the cells, at an attribute
 -- and where a new one goes, by induction over the fields. That attributes ascend is not needed. Assumes nothing.
 use Rattle.std.specs.Prelude.{◌≡◌, refl, Bool, true, false, List, [], ◌++◌, ℕ, ◌+◌, eqb, ltb, length, take, drop, ℤ, if◌then◌else◌}
-use Rattle.std.proofs.Common.{sym, ap, ap₂, ◌∙◌, subst, append_assoc, append_nil, arith, length-append, take_at, drop_at, eq-eqb}
+use Rattle.std.proofs.Common.{sym, ap, ap₂, ◌∙◌, subst, append_assoc, append-nil, arith, length-append, take_at, drop_at, eq-eqb}
 use Rattle.std.proofs.Math.Option.{some}
 use Rattle.lingua.specs.Outcome.{is_some}
 use Rattle.lingua.specs.Body.{Body, record_of, Attributes, end, attribute, size, sizes, attribute_body, attribute_offset, insert_attribute, remove_attribute}
@@ -183,7 +183,7 @@ sizes_insert n c (attribute m b fs) = go (ltb n m) (sizes_insert n c fs)
 -- the cells of a record of one attribute are the attribute's
 pub make_record_cells : (n : ℕ) (b : Body) (x : Value) → cells_of (record_of (attribute n b end)) (fields (field n x no_fields)) ≡ cells_of b x
 unfolding cells_of field_cells as_fields
-make_record_cells n b x = append_nil (cells_of b x)
+make_record_cells n b x = append-nil (cells_of b x)
 
 pub make_record_size : (n : ℕ) (b : Body) → size (record_of (attribute n b end)) ≡ size b
 unfolding size sizes

@@ -2,7 +2,7 @@
 use Rattle.std.specs.Prelude.{◌≡◌, length, take, drop}
 use Rattle.std.proofs.Math.Path.{refl, sym, ap}
 use Rattle.std.proofs.Common.{◌∙◌, add-zero, add-one}
-use mathlib.Core.List.{List, ◌∷◌, ◌++◌, append_assoc, append_nil}
+use mathlib.Core.List.{List, ◌∷◌, ◌++◌, append_assoc, append-nil}
 use Prim.Native.Nat.{ℕ, zero, suc, ◌+◌, ◌*◌}
 use native.Mathlib.Omega.{arith}
 use Rattle.std.proofs.Math.ListN.{length-append}
@@ -39,7 +39,7 @@ module _ (f : File) (model n : ℕ) (rows : List ℕ) where
   -- one block more
   pub blocks_more : (k m : ℕ) → blocks_from f model n k (suc m) rows ≡ blocks_from f model n k m rows ++ written f model n rows (k + m)
   unfolding blocks_from
-  blocks_more k zero = append_nil (written f model n rows k) ∙ ap (λ (j : ℕ). written f model n rows j) (sym (add-zero k))
+  blocks_more k zero = append-nil (written f model n rows k) ∙ ap (λ (j : ℕ). written f model n rows j) (sym (add-zero k))
   blocks_more k (suc m) =
       let e : suc k + m ≡ k + suc m = omega arith in
       ap (λ (l : List ℕ). written f model n rows k ++ l) (blocks_more (suc k) m)

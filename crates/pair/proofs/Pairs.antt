@@ -1,7 +1,7 @@
 -- The first rule of both files: the earlier of the two files' own, then the rules of both together. Assumes nothing.
 use mathlib.Core.Path.{◌≡◌, refl, sym, ap, ap₂, ◌∙◌, subst}
 use mathlib.Core.Bool.{Bool, true, false, not, ◌&&◌}
-use mathlib.Core.List.{List, [], ◌∷◌, ◌++◌, append_assoc, append_nil}
+use mathlib.Core.List.{List, [], ◌∷◌, ◌++◌, append_assoc, append-nil}
 use Prim.Native.Nat.{ℕ, zero, suc, ◌<◌, ◌≤◌}
 use native.Mathlib.Omega.{arith}
 use lib.Dec.{eqb}
@@ -118,7 +118,7 @@ pub pair_refused : (t : Pair) (n : ℕ) (prof lims areas others bodies : List �
 pair_refused t n prof lims areas others bodies e l h = record { refusal = e ∙ l; taken = λ z. absurd (h (sym e ∙ z)) }
 
 pub accepted_file : (prof : List ℕ) → lowest (row_rules profile (rows_of prof)) ≡ 0 → AcceptedRows (rows_of prof)
-accepted_file prof e = accepted_rows (rows_of prof) [] (ap lowest (append_nil (row_rules profile (rows_of prof))) ∙ e)
+accepted_file prof e = accepted_rows (rows_of prof) [] (ap lowest (append-nil (row_rules profile (rows_of prof))) ∙ e)
 
 module _ (p l : Taken) (prof lims areas others bodies front : List ℕ) (hp : TakenIs p profile prof areas bodies) (hl : TakenIs l limits lims others front) (z : lesser p.refusal l.refusal ≡ 0) where
   none_p : p.refusal ≡ 0

@@ -1,7 +1,7 @@
 -- The variables' lines, one behind another, as the loop puts them. Assumes nothing.
 use mathlib.Core.Path.{◌≡◌, sym, ap, ◌∙◌, subst}
 use mathlib.Core.Bool.{Bool}
-use mathlib.Core.List.{List, ◌++◌, append_assoc, append_nil}
+use mathlib.Core.List.{List, ◌++◌, append_assoc, append-nil}
 use Prim.Native.Nat.{ℕ, zero, suc, ◌+◌, ◌-◌, ◌*◌, ◌/◌, ◌≤◌, ◌<◌}
 use native.Mathlib.Nat.{zero-add}
 use native.Mathlib.Numerals.{add-one}
@@ -46,7 +46,7 @@ module _ (rows : List ℕ) (cells : List ℤ) (states : List ℕ) (vs : List Var
   lines_one_more : (d n : ℕ) → memory_lines rows cells states vs d (suc n) ≡ memory_lines rows cells states vs d n ++ memory_line rows cells states vs (d + n)
   unfolding memory_lines
   lines_one_more d zero =
-      append_nil (memory_line rows cells states vs d) ∙ ap (λ (k : ℕ). memory_line rows cells states vs k) (let e : d ≡ d + zero = omega arith in e)
+      append-nil (memory_line rows cells states vs d) ∙ ap (λ (k : ℕ). memory_line rows cells states vs k) (let e : d ≡ d + zero = omega arith in e)
   lines_one_more d (suc n) =
       ap (λ (l : List ℕ). memory_line rows cells states vs d ++ l) (lines_one_more (suc d) n)
       ∙ sym (append_assoc (memory_line rows cells states vs d) (memory_lines rows cells states vs (suc d) n) (memory_line rows cells states vs (suc d + n)))

@@ -1,7 +1,7 @@
 -- The whole report: the first line and the variables' lines of the call's answer and memory are the report's text, and it finds room.
 -- Assumes nothing.
 use mathlib.Core.Path.{◌≡◌, refl, sym, ap, ◌∙◌, subst}
-use mathlib.Core.List.{List, [], ◌++◌, append_nil}
+use mathlib.Core.List.{List, [], ◌++◌, append-nil}
 use Prim.Native.Nat.{ℕ, zero, suc, ◌≤◌}
 use native.Mathlib.Omega.{arith}
 use lib.ListN.{length, take, replicate}
@@ -64,7 +64,7 @@ module _ (prof lims : List ℕ) where
     text_by zero z e =
         ap (λ (r : CheckedCall). answer_text r.answer ++ memory_lines (rows_of prof) r.registers.cells r.registers.states last 0 (pair_count (rows_of prof) declaration_section)) e
         ∙ ap (λ (l : List ℕ). end_line (ending_of report_budget (run_of (inputs prof lims [] []) report_budget)) ++ l) (sym (store_lines prof lims z report_budget))
-    text_by (suc n) z e = ap (λ (r : CheckedCall). answer_text r.answer ++ []) e ∙ append_nil (refused_text (suc n))
+    text_by (suc n) z e = ap (λ (r : CheckedCall). answer_text r.answer ++ []) e ∙ append-nil (refused_text (suc n))
 
     report_is : checked_result answer after bodies ≡ report_call prof lims → answer_text (run_meaning answer) ++ variables_text prof lims after.cells after.states last ≡ report_text prof lims
     unfolding variables_text report_text

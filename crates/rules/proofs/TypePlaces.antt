@@ -1,6 +1,6 @@
 -- Bodies in the flat array: one is read, and one is stored beside the others. Assumes nothing.
 use mathlib.Core.Path.{◌≡◌, refl, sym, ap, ◌∙◌}
-use mathlib.Core.List.{List, [], ◌∷◌, ◌++◌, append_assoc, append_nil}
+use mathlib.Core.List.{List, [], ◌∷◌, ◌++◌, append_assoc, append-nil}
 use Prim.Native.Nat.{ℕ, zero, suc, ◌+◌, ◌-◌, ◌*◌, ◌≤◌, ◌<◌}
 use native.Mathlib.Nat.{zero-add}
 use native.Mathlib.Numerals.{add-one}
@@ -18,7 +18,7 @@ copy_more d s from j p q =
     ∙ paste_more d 0 s from j (let l : 0 + j < length d = omega arith in l) q
 
 pub copied : (d s : List ℕ) → length d ≡ 96 → paste d 0 s 96 ≡ take 96 s
-copied d s e = ap (λ (r : List ℕ). take 96 s ++ r) (ap (λ (n : ℕ). drop n d) (sym e) ∙ drop-length d) ∙ append_nil (take 96 s)
+copied d s e = ap (λ (r : List ℕ). take 96 s ++ r) (ap (λ (n : ℕ). drop n d) (sym e) ∙ drop-length d) ∙ append-nil (take 96 s)
 
 -- a turn of the store
 pub store_more : (d : List ℕ) (at : ℕ) (s : List ℕ) (j : ℕ) → at + j < length d → j < length s → set (paste d at s j) (at + j) (get_or s j 0) ≡ paste d at s (j + 1)

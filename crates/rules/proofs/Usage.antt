@@ -2,7 +2,7 @@
 -- "once" is the same of the count as of the list. Assumes nothing.
 use mathlib.Core.Path.{◌≡◌, refl, sym, ap, ap₂, ◌∙◌, subst}
 use mathlib.Core.Bool.{Bool, ◌&&◌}
-use mathlib.Core.List.{List, [], ◌∷◌, ◌++◌, append_nil, append_assoc}
+use mathlib.Core.List.{List, [], ◌∷◌, ◌++◌, append-nil, append_assoc}
 use mathlib.Core.Logic.{⊎_elim}
 use Prim.Native.Nat.{ℕ, zero, suc, ◌+◌, ◌-◌, ◌≤◌, ◌<◌, min, pred}
 use native.Mathlib.Numerals.{add-one}
@@ -78,7 +78,7 @@ counted_zeros = record { long = length-replicate {A = ℕ} 512 0; counts = λ r 
 -- ---- short lists
 module _ (xs : List ℕ) where
   pub short_0 : (n x y z : ℕ) → n ≡ 0 → xs ≡ xs ++ take n (x ∷ y ∷ z ∷ [])
-  short_0 n x y z e = rw e (sym (append_nil xs))
+  short_0 n x y z e = rw e (sym (append-nil xs))
 
   pub short_1 : (n x y z : ℕ) → n ≡ 1 → xs ++ (x ∷ []) ≡ xs ++ take n (x ∷ y ∷ z ∷ [])
   short_1 n x y z e = rw e
@@ -102,7 +102,7 @@ mentions_alike mention.Part h = h.parts
 
 pub joined_snoc : {A : Type 0} (f : ℕ → List A) (i n : ℕ) → joined (tabulate_from i (suc n) f) ≡ joined (tabulate_from i n f) ++ f (i + n)
 unfolding joined tabulate_from
-joined_snoc f i zero = append_nil (f i) ∙ ap f (sym (add-zero i))
+joined_snoc f i zero = append-nil (f i) ∙ ap f (sym (add-zero i))
 joined_snoc f i (suc n) = ap (λ l. f i ++ l) (joined_snoc f (suc i) n ∙ ap (λ (k : ℕ). joined (tabulate_from (suc i) n f) ++ f k) (suc-add i n ∙ sym (add-suc i n))) ∙ sym (append_assoc (f i) (joined (tabulate_from (suc i) n f)) (f (i + suc n)))
 
 pub joined_more : {A : Type 0} (f : ℕ → List A) (n : ℕ) → joined (tabulate (n + 1) f) ≡ joined (tabulate n f) ++ f n
@@ -112,7 +112,7 @@ joined_more f n = rw (add-one n) (joined_snoc f 0 n ∙ ap (λ (k : ℕ). joined
 module _ (f : ℕ → List ℕ) (uses xs : List ℕ) where
   pub turn_none : Counted uses xs → Counted uses (xs ++ joined (tabulate 0 f))
   unfolding joined tabulate tabulate_from
-  turn_none h = counted_to h (sym (append_nil xs))
+  turn_none h = counted_to h (sym (append-nil xs))
 
   pub turn_more : (n : ℕ) (ys : List ℕ) → ys ≡ f n → Counted uses (xs ++ joined (tabulate n f) ++ ys) → Counted uses (xs ++ joined (tabulate (n + 1) f))
   turn_more n ys e h = counted_to h (append_assoc xs (joined (tabulate n f)) ys ∙ ap (λ (l : List ℕ). xs ++ l) (ap (λ (l : List ℕ). joined (tabulate n f) ++ l) e ∙ sym (joined_more f n)))
@@ -163,7 +163,7 @@ tabulate_more f n = rw (add-one n) (tabulate_snoc f 0 n ∙ ap (λ (k : ℕ). ta
 module _ (f : ℕ → ℕ) (uses xs : List ℕ) where
   pub rows_none : Counted uses xs → Counted uses (xs ++ tabulate 0 f)
   unfolding tabulate tabulate_from
-  rows_none h = counted_to h (sym (append_nil xs))
+  rows_none h = counted_to h (sym (append-nil xs))
 
   pub rows_more : (n y : ℕ) → y ≡ f n → Counted uses (xs ++ tabulate n f ++ (y ∷ [])) → Counted uses (xs ++ tabulate (n + 1) f)
   rows_more n y e h = counted_to h (append_assoc xs (tabulate n f) (y ∷ []) ∙ ap (λ (l : List ℕ). xs ++ l) (ap (λ (k : ℕ). tabulate n f ++ (k ∷ [])) e ∙ sym (tabulate_more f n)))

@@ -1,6 +1,6 @@
 -- A loop that fills a list from the front with one element. Assumes nothing.
 use mathlib.Core.Path.{◌≡◌, refl, sym, ap, ◌∙◌}
-use mathlib.Core.List.{List, [], ◌∷◌, ◌++◌, append_nil}
+use mathlib.Core.List.{List, [], ◌∷◌, ◌++◌, append-nil}
 use Prim.Native.Nat.{ℕ, zero, suc, ◌+◌, ◌≤◌, ◌<◌}
 use native.Mathlib.Nat.{not-suc-le-zero, le_of_suc-le-suc}
 use native.Mathlib.Numerals.{add-one}
@@ -20,4 +20,4 @@ module _ {A : Type 0} where
   -- all of it
   pub filled : (d l : List A) (v : A) (n i : ℕ) → l ≡ replicate i v ++ drop i d → i ≡ n → length d ≡ n → l ≡ replicate n v
   filled d l v n i e h k =
-      e ∙ ap (λ (x : List A). replicate i v ++ x) (drop_of_length-le d (let z : length d ≤ i = omega arith in z)) ∙ append_nil (replicate i v) ∙ ap (λ (j : ℕ). replicate j v) h
+      e ∙ ap (λ (x : List A). replicate i v ++ x) (drop_of_length-le d (let z : length d ≤ i = omega arith in z)) ∙ append-nil (replicate i v) ∙ ap (λ (j : ℕ). replicate j v) h

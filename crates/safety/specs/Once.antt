@@ -7,7 +7,7 @@ use Rattle.std.proofs.Common.{sym, ap₂, ◌∙◌}
 use Rattle.std.specs.Prelude.{◌≢◌, ◌⊎◌, Bool, if◌then◌else◌}
 use Rattle.std.proofs.Math.Logic.{inl, inr}
 use Rattle.std.proofs.Math.Bool.{true, false}
-use mathlib.Core.List.{List, [], ◌∷◌, ◌++◌, map, append_nil, append_assoc}
+use mathlib.Core.List.{List, [], ◌∷◌, ◌++◌, map, append-nil, append_assoc}
 use Rattle.std.proofs.Math.Option.{Option, none}
 use Prim.Native.Nat.{ℕ, zero, suc, ◌+◌, ◌≤◌, ◌<◌}
 use native.Mathlib.Omega.{arith}
@@ -141,7 +141,7 @@ module _ (rows : List ℕ) (x : ℕ) where
 
   count_one : (r : ℕ) → occurrences x (uses rows (r ∷ [])) ≡ occurrences x (used_by rows r)
   unfolding uses joined
-  count_one r = ap (occurrences x) (append_nil (used_by rows r))
+  count_one r = ap (occurrences x) (append-nil (used_by rows r))
 
   -- a list of rows that are reached from r: r itself, and what its rows use
   unfoldable Reached : ℕ → List ℕ → Type 0
@@ -177,11 +177,11 @@ unfolding tree_rows expression_of operands joined
 node_rows r (constant_row c) look = refl
 node_rows r (variable_row n) look = refl
 node_rows r current_row look = refl
-node_rows r (unary_row o a) look = ap (λ (l : List ℕ). l ++ (r ∷ [])) (sym (append_nil (tree_rows (look a))))
-node_rows r (binary_row o a b) look = ap (λ (l : List ℕ). (tree_rows (look a) ++ l) ++ (r ∷ [])) (sym (append_nil (tree_rows (look b))))
-node_rows r (lazy_row k a b) look = ap (λ (l : List ℕ). (tree_rows (look a) ++ l) ++ (r ∷ [])) (sym (append_nil (tree_rows (look b))))
-node_rows r (choice_row a b c) look = ap (λ (l : List ℕ). (tree_rows (look a) ++ (tree_rows (look b) ++ l)) ++ (r ∷ [])) (sym (append_nil (tree_rows (look c))))
-node_rows r (all_list_row a) look = ap (λ (l : List ℕ). l ++ (r ∷ [])) (sym (append_nil (tree_rows (look a))))
+node_rows r (unary_row o a) look = ap (λ (l : List ℕ). l ++ (r ∷ [])) (sym (append-nil (tree_rows (look a))))
+node_rows r (binary_row o a b) look = ap (λ (l : List ℕ). (tree_rows (look a) ++ l) ++ (r ∷ [])) (sym (append-nil (tree_rows (look b))))
+node_rows r (lazy_row k a b) look = ap (λ (l : List ℕ). (tree_rows (look a) ++ l) ++ (r ∷ [])) (sym (append-nil (tree_rows (look b))))
+node_rows r (choice_row a b c) look = ap (λ (l : List ℕ). (tree_rows (look a) ++ (tree_rows (look b) ++ l)) ++ (r ∷ [])) (sym (append-nil (tree_rows (look c))))
+node_rows r (all_list_row a) look = ap (λ (l : List ℕ). l ++ (r ∷ [])) (sym (append-nil (tree_rows (look a))))
 node_rows r unknown_expression look = refl
 
 module _ (rows : List ℕ) (accepted : AcceptedRows rows) where
@@ -234,16 +234,16 @@ tabulated_rows rows f g h e i (suc n) =
 yoke_forest : (rows : List ℕ) (y : ℕ) → yoke_rows (yoke_tree rows y) ≡ joined (map (rows_under rows) (yoke_root y))
 unfolding yoke_rows yoke_tree yoke_root joined
 yoke_forest rows zero = refl
-yoke_forest rows (suc r) = sym (append_nil (rows_under rows r))
+yoke_forest rows (suc r) = sym (append-nil (rows_under rows r))
 
 own_forest : (rows : List ℕ) (r : ℕ) (row : InstructionRow) (look : ℕ → Instruction) → own_rows (instruction_of rows r row look) ≡ joined (map (rows_under rows) (evaluated row ++ yoke_set row))
 unfolding own_rows instruction_of evaluated yoke_set joined
 own_forest rows r skip_row look = refl
-own_forest rows r (assign_row n e) look = sym (append_nil (rows_under rows e))
+own_forest rows r (assign_row n e) look = sym (append-nil (rows_under rows e))
 own_forest rows r (set_yoke_row n y) look = yoke_forest rows y
 own_forest rows r (sequence_row i j) look = refl
-own_forest rows r (branch_row e i j) look = sym (append_nil (rows_under rows e))
-own_forest rows r (loop_row e i) look = sym (append_nil (rows_under rows e))
+own_forest rows r (branch_row e i j) look = sym (append-nil (rows_under rows e))
+own_forest rows r (loop_row e i) look = sym (append-nil (rows_under rows e))
 own_forest rows r (handle_row n i) look = refl
 own_forest rows r (call_row k b c) look = refl
 own_forest rows r unknown_instruction look = refl

@@ -1,6 +1,6 @@
 -- The ways in which a run of a taken pair ends: refused, or as the run of both files ends. Assumes nothing.
 use mathlib.Core.Path.{◌≡◌, refl, sym, ap, ap₂, ◌∙◌, subst}
-use mathlib.Core.List.{List, ◌++◌, append_nil}
+use mathlib.Core.List.{List, ◌++◌, append-nil}
 use Prim.Native.Nat.{ℕ, suc, ◌-◌, ◌≤◌}
 use native.Mathlib.Nat.{suc-pred-eq_of_ne-zero}
 use native.Mathlib.Omega.{arith}
@@ -81,7 +81,7 @@ front_back own area before n l e =
     ap (λ (k : ℕ). own ++ drop k (take n before ++ (area ++ drop (length before - n) (drop n before)))) e
     ∙ ap (λ (x : List ℕ). own ++ x) (drop_at (take n before) (area ++ drop (length before - n) (drop n before)) n (length-take-le n before l))
     ∙ ap (λ (x : List ℕ). own ++ (area ++ x)) (drop_of_length-le (drop n before) (let z : length (drop n before) ≤ length before - n = omega (arith, length-drop n before) in z))
-    ∙ ap (λ (x : List ℕ). own ++ x) (append_nil area)
+    ∙ ap (λ (x : List ℕ). own ++ x) (append-nil area)
 
 module _ (i : Inputs) (b : Buffers) (present : List ℕ) (budget : ℕ) where
   checked_refused : (n m : ℕ) → checked_refusal i b present ≡ n → n ≡ suc m → checked_result (run_answer.Refused n) b present ≡ checked_call i budget b present

@@ -1,6 +1,6 @@
 -- How a variable's cells go on, one behind another. Assumes nothing.
 use mathlib.Core.Path.{◌≡◌, sym, ap, subst, ◌∙◌}
-use mathlib.Core.List.{List, [], ◌∷◌, ◌++◌, append_assoc, append_nil}
+use mathlib.Core.List.{List, [], ◌∷◌, ◌++◌, append_assoc, append-nil}
 use Prim.Native.Nat.{ℕ, ◌+◌, ◌≤◌, ◌<◌}
 use native.Mathlib.Numerals.{add-one}
 use lib.ListN.{length, take, get_or}
@@ -12,7 +12,7 @@ use Rattle.text.proofs.Texts.{append_both}
 
 one_more : (zs : List ℤ) (z : ℤ) → cell_texts (zs ++ (z ∷ [])) ≡ cell_texts zs ++ ((32 ∷ []) ++ signed_decimal z)
 unfolding cell_texts
-one_more [] z = ap (λ (l : List ℕ). 32 ∷ l) (append_nil (signed_decimal z))
+one_more [] z = ap (λ (l : List ℕ). 32 ∷ l) (append-nil (signed_decimal z))
 one_more (x ∷ zs) z =
     ap (λ (l : List ℕ). 32 ∷ (signed_decimal x ++ l)) (one_more zs z)
     ∙ ap (λ (l : List ℕ). 32 ∷ l) (sym (append_assoc (signed_decimal x) (cell_texts zs) ((32 ∷ []) ++ signed_decimal z)))

@@ -1,6 +1,6 @@
 -- How a name is put byte by byte, up to its first zero. Assumes nothing.
 use mathlib.Core.Path.{◌≡◌, refl, sym, ap, ◌∙◌}
-use mathlib.Core.List.{List, [], ◌∷◌, ◌++◌, append_assoc, append_nil}
+use mathlib.Core.List.{List, [], ◌∷◌, ◌++◌, append_assoc, append-nil}
 use Prim.Native.Nat.{ℕ, suc, ◌+◌, ◌≤◌, ◌<◌}
 use native.Mathlib.Numerals.{add-one}
 use borrow.Author.Tests.{eq-eqb, ne_eqb}
@@ -46,7 +46,7 @@ name_stop name i h z e =
     (e
     ∙ ap (λ (l : List ℕ). take i name ++ l)
     (ap until_zero (drop-cons name i 0 h) ∙ stop (get_or name i 0) (drop (suc i) name) z)
-    ∙ append_nil (take i name))
+    ∙ append-nil (take i name))
 
 -- no zero at all
 pub name_end :
@@ -55,4 +55,4 @@ name_end name i h e =
     sym
     (e
     ∙ ap (λ (l : List ℕ). take i name ++ l) (ap until_zero (drop_of_length-le name {i = i} h) ∙ nothing)
-    ∙ append_nil (take i name))
+    ∙ append-nil (take i name))

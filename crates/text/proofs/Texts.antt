@@ -1,6 +1,6 @@
 -- How texts at the start of a buffer go on from one `put` to the next. Assumes nothing.
 use mathlib.Core.Path.{◌≡◌, refl, sym, ap, ◌∙◌}
-use mathlib.Core.List.{List, [], ◌∷◌, ◌++◌, append_assoc, append_nil}
+use mathlib.Core.List.{List, [], ◌∷◌, ◌++◌, append_assoc, append-nil}
 use Prim.Native.Nat.{ℕ, zero, suc, ◌+◌, ◌<◌}
 use native.Mathlib.Numerals.{add-one}
 use native.Mathlib.Omega.{arith}
@@ -15,7 +15,7 @@ append_none out at =
       within = λ w. w;
       bytes =
           sym
-          (ap (take (length out)) (append_nil (take at out))
+          (ap (take (length out)) (append-nil (take at out))
           ∙ take_all (length out) (take at out) (simp length-take (omega arith)));
     }
 

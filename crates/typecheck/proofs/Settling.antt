@@ -1,7 +1,7 @@
 -- What yokes, tests, assignments and whole lists of them give, for each way in which their functions end. Assumes nothing.
 use mathlib.Core.Path.{◌≡◌, refl, sym, ap, ◌∙◌, subst}
 use mathlib.Core.Bool.{Bool, true, false}
-use mathlib.Core.List.{List, [], ◌∷◌, ◌++◌, append_assoc, append_nil}
+use mathlib.Core.List.{List, [], ◌∷◌, ◌++◌, append_assoc, append-nil}
 use mathlib.Core.Option.{some}
 use Prim.Native.Nat.{ℕ, zero, suc, ◌+◌, ◌-◌, ◌≤◌, ◌<◌}
 use native.Mathlib.Numerals.{add-one}
@@ -141,7 +141,7 @@ prefixed_more ps es (fail e) = refl
 
 joined_more : (ps : List (List Entry)) (es : List Entry) → joined (ps ++ (es ∷ [])) ≡ joined ps ++ es
 unfolding joined
-joined_more [] es = append_nil es
+joined_more [] es = append-nil es
 joined_more (p ∷ ps) es = ap (λ (x : List Entry). p ++ x) (joined_more ps es) ∙ sym (append_assoc p (joined ps) es)
 
 module _ (f : ℕ → Outcome TypeError (List Entry)) (n : ℕ) where
@@ -190,5 +190,5 @@ module _ (f : ℕ → Outcome TypeError (List Entry)) (n i : ℕ) (l0 l : List �
   done_all v h e =
       let z : n - i ≡ 0 = omega arith in
       let r : all_answers (tabulate n f) ≡ ok d.parts =
-      d.rest ∙ ap (λ (k : ℕ). prefixed d.parts (all_answers (tabulate_from i k f))) z ∙ unfold tabulate_from in ap ok (append_nil d.parts) in
+      d.rest ∙ ap (λ (k : ℕ). prefixed d.parts (all_answers (tabulate_from i k f))) z ∙ unfold tabulate_from in ap ok (append-nil d.parts) in
       rw r (entries_settle v l0 l (joined d.parts) e d.layout)

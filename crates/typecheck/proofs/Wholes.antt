@@ -1,6 +1,6 @@
 -- The whole check by its two lists, of scopes and of instruction rows, and how it ends. Assumes nothing.
 use mathlib.Core.Path.{◌≡◌, refl, sym, ap, ap₂, ◌∙◌, fun_ext}
-use mathlib.Core.List.{List, [], ◌∷◌, ◌++◌, map, append_nil, append_assoc}
+use mathlib.Core.List.{List, [], ◌∷◌, ◌++◌, map, append-nil, append_assoc}
 use mathlib.Core.Option.{Option, none}
 use Prim.Native.Nat.{ℕ, zero, suc, ◌+◌}
 use native.Mathlib.Omega.{arith}
@@ -179,4 +179,4 @@ module _ (x y : Outcome TypeError (List Entry)) (u : Verdict) (l0 l1 : List ℕ)
 pub filled : (l0 l : List ℕ) (i : ℕ) → l ≡ replicate i 0 ++ drop i l0 → i ≡ layout_length → length l0 ≡ layout_length → l ≡ replicate layout_length 0
 filled l0 l i e h k =
     let s : i ≡ length l0 = omega arith in
-    e ∙ ap (λ (x : List ℕ). replicate i 0 ++ x) (ap (λ (n : ℕ). drop n l0) s ∙ drop-length l0) ∙ append_nil (replicate i 0) ∙ ap (λ (n : ℕ). replicate n 0) h
+    e ∙ ap (λ (x : List ℕ). replicate i 0 ++ x) (ap (λ (n : ℕ). drop n l0) s ∙ drop-length l0) ∙ append-nil (replicate i 0) ∙ ap (λ (n : ℕ). replicate n 0) h

@@ -2,7 +2,7 @@
 -- comes behind it. Assumes nothing.
 use mathlib.Core.Path.{◌≡◌, refl, sym, ap, ◌∙◌, subst}
 use mathlib.Core.Bool.{false}
-use mathlib.Core.List.{List, [], ◌++◌, append_nil}
+use mathlib.Core.List.{List, [], ◌++◌, append-nil}
 use Prim.Native.Nat.{ℕ, zero, suc, ◌+◌, ◌-◌, ◌*◌, ◌≤◌, ◌<◌}
 use native.Mathlib.Omega.{arith}
 use lib.IntN.{ℤ}
@@ -72,7 +72,7 @@ nothing_left : {A : Type 0} (xs : List A) (n : ℕ) → drop (length xs - n) (dr
 nothing_left xs n = ap (λ (k : ℕ). drop k (drop n xs)) (sym (length-drop n xs)) ∙ drop-length (drop n xs)
 
 put_end : {A : Type 0} (xs ys : List A) (n : ℕ) → take n xs ++ (ys ++ drop (length xs - n) (drop n xs)) ≡ take n xs ++ ys
-put_end {A} xs ys n = ap (λ (q : List A). take n xs ++ q) (ap (λ (q : List A). ys ++ q) (nothing_left xs n) ∙ append_nil ys)
+put_end {A} xs ys n = ap (λ (q : List A). take n xs ++ q) (ap (λ (q : List A). ys ++ q) (nothing_left xs n) ∙ append-nil ys)
 
 same_area : {o p : Lent} → o.cells ≡ p.cells → o.states ≡ p.states → o.bodies ≡ p.bodies → o ≡ p
 same_area {o} {p} e f g =
