@@ -2,15 +2,14 @@
 -- table has none. What a decoded row names is what the row names, but for attributes above a byte. Assumes nothing.
 use mathlib.Core.Path.{◌≡◌, refl, sym, ap, ◌∙◌, subst}
 use mathlib.Core.Logic.{◌≢◌, ⊎_elim}
-use mathlib.Core.Bool.{Bool, true, false, ◌&&◌}
+use mathlib.Core.Bool.{Bool, true, ◌&&◌}
 use mathlib.Core.List.{List, [], ◌∷◌}
-use mathlib.Core.Option.{Option, some, none}
-use Prim.Native.Nat.{ℕ, ◌+◌, ◌<◌, ◌≤◌, min}
+use mathlib.Core.Option.{some, none}
+use Prim.Native.Nat.{ℕ, ◌+◌, ◌<◌, ◌≤◌}
 use native.Mathlib.Omega.{arith}
-use lib.Dec.{eqb, ltb}
+use lib.Dec.{ltb}
 use borrow.Author.Tests.{ne_eqb, lt-ltb, le-ltb}
-use Rattle.lingua.specs.Numbers.{attribute_numbers, type_section, expression_section, instruction_section}
-use Rattle.std.specs.Prelude.{if◌then◌else◌}
+use Rattle.lingua.specs.Numbers.{type_section, expression_section, instruction_section}
 use Rattle.lingua.specs.Value.{all_of}
 use Rattle.lingua.specs.Operation.{Unary, Binary}
 use Rattle.lingua.specs.Rows.{kind_at, a_at, b_at, c_at, row_in, RowKind, numbered, said, used_of, TypeRow, unknown_type, type_kinds, type_at, type_row, ExpressionRow, constant_row, variable_row, current_row, unary_row, binary_row, lazy_row, choice_row, all_list_row, unknown_expression, expression_kinds, expression_at, expression_row, operands, InstructionRow, unknown_instruction, instruction_kinds, instruction_at, instruction_row}

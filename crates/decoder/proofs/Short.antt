@@ -2,12 +2,11 @@
 use mathlib.Core.Path.{◌≡◌, refl, sym, ap, ap₂, ◌∙◌}
 use mathlib.Core.Bool.{Bool, true, false, ◌&&◌, and-true, and_assoc}
 use mathlib.Core.List.{List, [], ◌∷◌, ◌++◌}
-use Prim.Native.Nat.{ℕ, zero, suc, ◌-◌, ◌≤◌, ◌<◌}
+use Prim.Native.Nat.{ℕ, zero, suc, ◌-◌}
 use native.Mathlib.Omega.{arith}
 use lib.Dec.{leb, ltb, leb-zero}
 use lib.ListN.{take}
 use lib.Seq.{take-nil}
-use borrow.Author.Tests.{ne_eqb}
 use Rattle.lingua.specs.Errors.{is_error, error_numbers}
 use Rattle.lingua.specs.Value.{all_of}
 use Rattle.lingua.specs.Rows.{yoke_root}

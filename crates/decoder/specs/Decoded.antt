@@ -5,7 +5,7 @@ use Rattle.lingua.specs.Body.{Body, boolean, number, word, hundredths}
 use Rattle.lingua.specs.Operation.{Unary, negation, make_record, select, make-list, top, pop, remove, to-hundredths, to_number, Binary, add, subtract, multiply, divide, less, equal, glue, expand, change, push}
 use Rattle.lingua.specs.Operations.{unary_meaning, binary_meaning}
 use Rattle.lingua.specs.Expression.{Connective, conjunction, disjunction}
-use Rattle.lingua.specs.Rows.{kind_at, wide_at, number_at, bytes_at, RowKind, numbered, used_of, TypeRow, simple_type, list_type, record_type, expand_type, unknown_type, type_kinds, type_at, Constant, boolean_constant, number_constant, word_constant, hundredths_constant, ExpressionRow, constant_row, variable_row, current_row, unary_row, binary_row, lazy_row, choice_row, all_list_row, unknown_expression, expression_kinds, expression_at, InstructionRow, skip_row, assign_row, set_yoke_row, sequence_row, branch_row, loop_row, handle_row, call_row, unknown_instruction, instruction_kinds, instruction_at}
+use Rattle.lingua.specs.Rows.{kind_at, wide_at, number_at, bytes_at, numbered, used_of, TypeRow, simple_type, list_type, record_type, expand_type, unknown_type, type_kinds, type_at, Constant, boolean_constant, number_constant, word_constant, hundredths_constant, ExpressionRow, constant_row, variable_row, current_row, unary_row, binary_row, lazy_row, choice_row, all_list_row, unknown_expression, expression_kinds, expression_at, InstructionRow, skip_row, assign_row, set_yoke_row, sequence_row, branch_row, loop_row, handle_row, call_row, unknown_instruction, instruction_kinds, instruction_at}
 use Rattle.lingua.specs.Rules.{unary_attribute, binary_attribute}
 use Rattle.decoder.specs.declared.decode.Simple.{Simple}
 use Rattle.decoder.specs.declared.decode.Simple.TheVariants as simple

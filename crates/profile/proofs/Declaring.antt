@@ -1,22 +1,19 @@
 -- Declarations and limits: their rows, and a variable's body. Assumes nothing.
-use mathlib.Core.Path.{◌≡◌, refl, sym, ap, ap₂, ◌∙◌, subst}
-use mathlib.Core.Logic.{◌≢◌}
+use mathlib.Core.Path.{◌≡◌, sym, ap, ◌∙◌, subst}
 use mathlib.Core.Bool.{Bool, true, false, or-true, or-false}
 use mathlib.Core.List.{List}
-use Prim.Native.Nat.{ℕ, zero, suc, ◌+◌, ◌-◌, ◌*◌, ◌/◌, ◌≤◌, ◌<◌}
+use Prim.Native.Nat.{ℕ, ◌+◌, ◌*◌, ◌/◌, ◌≤◌, ◌<◌}
 use native.Mathlib.Omega.{arith}
-use lib.Dec.{eqb, ltb}
+use lib.Dec.{eqb}
 use lib.ListN.{length, get_or}
 use lib.IntN.{ℤ}
 use mir.Syntax.{w32}
 use mir.Val.{to_z}
 use borrow.Author.Tests.{lt-ltb, le-ltb}
-use Rattle.lingua.specs.Numbers.{declaration_section, type_section, limit_section, row_bytes, scope_table}
-use Rattle.lingua.specs.Outcome.{ok, Result}
+use Rattle.lingua.specs.Numbers.{declaration_section, type_section, limit_section, scope_table}
 use Rattle.lingua.specs.Body.{Body, is_number, is_hundredths, is_quantity}
 use Rattle.lingua.specs.Compute.{same_text}
-use Rattle.lingua.specs.Store.{Limit}
-use Rattle.lingua.specs.Rows.{word32, a_at, b_at, bytes_at, table_start, table_count, row_in, pair_count, name_row, detail_row, type_row}
+use Rattle.lingua.specs.Rows.{word32, a_at, b_at, bytes_at, table_count, row_in, pair_count, name_row, detail_row, type_row}
 use Rattle.lingua.specs.Trees.{type_body, body_in, declared_body, body_or, name_at}
 use Rattle.lingua.specs.References.{yoke_in}
 use Rattle.lingua.specs.Refusal.{is_variable_of}

@@ -1,24 +1,20 @@
 -- What a decoded row says where its kind is known and its attributes fit. Assumes nothing.
 use mathlib.Core.Path.{◌≡◌, refl, sym, ap, ◌∙◌}
-use mathlib.Core.Bool.{Bool, true, false, ◌&&◌}
+use mathlib.Core.Bool.{Bool, true, false}
 use mathlib.Core.List.{List, [], ◌∷◌}
 use mathlib.Core.Option.{Option, some, none}
 use Prim.Native.Nat.{ℕ, ◌+◌, ◌<◌}
 use native.Mathlib.Omega.{arith}
-use lib.Dec.{ltb}
-use borrow.Author.Tests.{ltb-true}
-use Rattle.lingua.specs.Numbers.{type_section, expression_section, instruction_section, attribute_numbers}
-use Rattle.lingua.specs.Value.{all_of}
+use Rattle.lingua.specs.Numbers.{expression_section, instruction_section, attribute_numbers}
 use Rattle.lingua.specs.Operation.{Unary, Binary}
-use Rattle.lingua.specs.Rows.{kind_at, row_in, numbered, used_of, TypeRow, type_at, type_row, ExpressionRow, constant_row, variable_row, current_row, unary_row, binary_row, lazy_row, choice_row, all_list_row, unknown_expression, expression_kinds, expression_at, expression_row, InstructionRow, instruction_kinds, instruction_at, instruction_row}
+use Rattle.lingua.specs.Rows.{row_in, ExpressionRow, constant_row, variable_row, current_row, unary_row, binary_row, lazy_row, choice_row, all_list_row, unknown_expression, expression_at, expression_row, instruction_at, instruction_row}
 use Rattle.lingua.specs.Rules.{attributes_fit, expression_attributes}
-use Rattle.laws.specs.Outcomes.{and_left, false_is_true}
+use Rattle.laws.specs.Outcomes.{false_is_true}
 use Rattle.decoder.specs.Tables.{IsTable}
-use Rattle.decoder.specs.Decoded.{byte, Naming, names_none, names_one_lem, unary_naming, binary_naming, renamed, type_decoded, TypeSays, expression_meaning, expression_decoded, expression_uses, unary_in_bytes, binary_in_bytes, in_bytes, ExpressionSays, instruction_meaning, instruction_decoded, instruction_uses, InstructionSays}
+use Rattle.decoder.specs.Decoded.{byte, Naming, names_none, names_one_lem, unary_naming, binary_naming, renamed, expression_meaning, expression_decoded, expression_uses, unary_in_bytes, binary_in_bytes, in_bytes, ExpressionSays, instruction_meaning, instruction_decoded, instruction_uses, InstructionSays}
 use Rattle.decoder.specs.declared.tables.Table.{Table}
 use Rattle.decoder.specs.declared.decode.ExpressionRow.{ExpressionRow as CodeRow}
 use Rattle.decoder.specs.declared.decode.InstructionRow.{InstructionRow as CodeInstruction}
-use Rattle.decoder.specs.declared.decode.DecodedType.{DecodedType}
 use Rattle.decoder.specs.declared.decode.DecodedExpression.{DecodedExpression}
 use Rattle.decoder.specs.declared.decode.DecodedExpression.TheVariants as decoded
 use Rattle.decoder.specs.declared.decode.DecodedInstruction.{DecodedInstruction}

@@ -1,6 +1,6 @@
 -- What acceptance shows of a row as the code has it: what it names is there, and its tree by those of the rows that it names.
 -- Assumes nothing.
-use Rattle.std.specs.Prelude.{◌≡◌, Bool, true, false, List, [], ◌∷◌, ◌++◌, ℕ, zero, suc, ◌<◌}
+use Rattle.std.specs.Prelude.{◌≡◌, Bool, true, false, List, ◌++◌, ℕ, ◌<◌}
 use Rattle.std.proofs.Math.Path.{refl, ap, ap₂}
 use Rattle.std.proofs.Common.{sym, ◌∙◌, subst}
 use Rattle.std.specs.Bool.{beq}
@@ -8,11 +8,11 @@ use Rattle.lingua.specs.Numbers.{expression_section, instruction_section, scope_
 use Rattle.lingua.specs.Errors.{is_error}
 use Rattle.lingua.specs.Expression.{Expression, settled_by, constant, variable, current, unary, binary, lazy, choice, all_list, Instruction, skip, assign, set_yoke, sequence, branch, loop, handle, call}
 use Rattle.lingua.specs.Operations.{unary_meaning, binary_meaning}
-use Rattle.lingua.specs.Rows.{row_in, table_count, pair_count, procedure_count, ExpressionRow, expression_row, operands, InstructionRow, call_row, instruction_row, parts, evaluated, yoke_root, yoke_set}
+use Rattle.lingua.specs.Rows.{row_in, table_count, pair_count, procedure_count, ExpressionRow, operands, InstructionRow, call_row, instruction_row, parts, evaluated, yoke_root, yoke_set}
 use Rattle.lingua.specs.Trees.{lower, no_expression, expression_of, expression_tree, yoke_tree, given_values, given_references, instruction_of, instruction_tree, instruction_scope, expression_scope}
 use Rattle.lingua.specs.Rules.{handled_errors}
 use Rattle.lingua.specs.References.{expression_variables, instruction_variables, all_different}
-use Rattle.safety.specs.Every.{Every, every_none, every_more}
+use Rattle.safety.specs.Every.{Every, every_more}
 use Rattle.safety.specs.Accepted.{AcceptedRows, Parameters, operands_below, expression_variables_lem, parts_below, instruction_roots_lem, instruction_variables_lem, call_procedure, given_variables, references_differ, parameters_of}
 use Rattle.decoder.specs.declared.decode.ExpressionRow.TheVariants as code
 use Rattle.decoder.specs.declared.decode.ExpressionRow.{ExpressionRow as CodeRow}

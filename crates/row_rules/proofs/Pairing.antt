@@ -1,15 +1,15 @@
 -- The pairs of procedures: what each row tells of the row behind it, and where section 6 begins. Assumes nothing.
-use mathlib.Core.Path.{◌≡◌, refl, sym, ap, ap₂, ◌∙◌, subst}
+use mathlib.Core.Path.{◌≡◌, refl, sym, ap, ap₂, ◌∙◌}
 use mathlib.Core.Bool.{Bool, true, false, not, ◌&&◌, beq}
 use mathlib.Core.List.{List}
-use Prim.Native.Nat.{ℕ, suc, ◌+◌, ◌*◌, ◌≤◌, ◌<◌}
+use Prim.Native.Nat.{ℕ, suc, ◌+◌, ◌≤◌, ◌<◌}
 use native.Mathlib.Numerals.{add-one}
 use native.Mathlib.Omega.{arith}
 use lib.Dec.{eqb, ltb}
 use lib.ListN.{get_or}
 use borrow.Author.Tests.{eq-eqb, ne_eqb, lt-ltb, le-ltb}
-use Rattle.lingua.specs.Numbers.{procedure_section, header_table}
-use Rattle.lingua.specs.Rows.{row_count, section_at, kind_at, procedure_kind, table_start, table_count}
+use Rattle.lingua.specs.Numbers.{procedure_section}
+use Rattle.lingua.specs.Rows.{row_count, section_at, kind_at, procedure_kind, table_count}
 use Rattle.lingua.specs.Format.{every_below}
 use Rattle.lingua.specs.Rules.{procedure_pairs}
 use Rattle.decoder.specs.Tables.{AreTables}

@@ -1,16 +1,16 @@
 -- What is asked of a call: of its procedure's parameters, and of the variables that it gives. Assumes nothing.
 use mathlib.Core.Path.{◌≡◌, refl, sym, ap, ap₂, ◌∙◌}
-use mathlib.Core.Bool.{Bool, true, false, not, ◌&&◌}
-use mathlib.Core.List.{List, [], ◌∷◌, ◌++◌}
+use mathlib.Core.Bool.{Bool, true, false, ◌&&◌}
+use mathlib.Core.List.{List, ◌++◌}
 use Prim.Native.Nat.{ℕ, ◌+◌, ◌/◌, ◌≤◌, ◌<◌, min}
 use native.Mathlib.Omega.{arith}
 use lib.Dec.{eqb, ltb, leb}
 use borrow.Author.Tests.{ltb-true, le-leb, lt-leb, eq-eqb, ne_eqb}
-use Rattle.lingua.specs.Numbers.{instruction_section, most_parameters, most_variables, variable_table}
-use Rattle.lingua.specs.Rows.{table_count, pair_count, value_count, reference_count, groups, instruction_row}
+use Rattle.lingua.specs.Numbers.{most_parameters, most_variables, variable_table}
+use Rattle.lingua.specs.Rows.{pair_count, value_count, reference_count, groups, instruction_row}
 use Rattle.lingua.specs.Trees.{given_values, given_references, instruction_scope}
-use Rattle.lingua.specs.References.{all_below, on_call, instruction_variables, variables_seen, variables_fit, parameters_fit, bits_above, all_different, rows_refer}
-use Rattle.decoder.specs.Tables.{IsTable, AreTables, Sized, IsProcedure}
+use Rattle.lingua.specs.References.{all_below, on_call, instruction_variables, variables_seen, variables_fit, parameters_fit, bits_above, all_different}
+use Rattle.decoder.specs.Tables.{IsTable, IsProcedure}
 use Rattle.decoder.specs.Decoded.{instruction_meaning}
 use Rattle.decoder.specs.Mentions.{InstructionAlike}
 use Rattle.decoder.specs.declared.decode.InstructionRow.{InstructionRow}

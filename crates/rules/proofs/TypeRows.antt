@@ -1,12 +1,11 @@
 -- A type row's body from those of the rows that it names, and the rows one after another. Assumes nothing.
-use mathlib.Core.Path.{◌≡◌, refl, sym, ap, ◌∙◌, subst}
+use mathlib.Core.Path.{◌≡◌, sym, ap, ◌∙◌, subst}
 use mathlib.Core.Logic.{◌≢◌}
-use mathlib.Core.Bool.{Bool, true, false, not}
+use mathlib.Core.Bool.{true, false, not}
 use mathlib.Core.List.{List, [], ◌∷◌}
-use Prim.Native.Nat.{ℕ, zero, suc, ◌+◌, ◌*◌, ◌≤◌, ◌<◌}
-use native.Mathlib.Numerals.{add-one}
+use Prim.Native.Nat.{ℕ, suc, ◌+◌, ◌*◌, ◌≤◌, ◌<◌}
 use native.Mathlib.Omega.{arith}
-use mathlib.Core.Logic.{◌⊎◌, ⊎_elim}
+use mathlib.Core.Logic.{⊎_elim}
 use lib.Dec.{ltb}
 use lib.ListN.{length}
 use lib.Seq.{paste, length-paste}
@@ -19,19 +18,18 @@ use Rattle.lingua.specs.Operation.{make-list, make_record, expand, unary_body, b
 use Rattle.lingua.specs.Value.{all_of}
 use Rattle.lingua.specs.Rows.{table_count, TypeRow, simple_type, list_type, record_type, expand_type, unknown_type, type_row}
 use Rattle.lingua.specs.Trees.{lower, type_body_of, type_body}
-use Rattle.lingua.specs.Format.{every_below}
 use Rattle.lingua.specs.Rules.{attributes_fit, type_attributes}
 use Rattle.lingua.specs.References.{type_parts, type_wrong}
 use Rattle.laws.specs.Outcomes.{and_left}
 use Rattle.laws.specs.Tests.{below_suc, every_all, every_false}
-use Rattle.safety.specs.Every.{Every, every_none, every_more, every_implies}
+use Rattle.safety.specs.Every.{Every, every_more, every_implies}
 use Rattle.decoder.specs.Tables.{IsTable}
 use Rattle.decoder.specs.declared.tables.Table.{Table}
 use Rattle.body.specs.Encode.{Holds, Held}
 use Rattle.body.specs.Typed.{Types}
 use Rattle.body.specs.declared.typed.Typed.{Typed}
 use Rattle.laws.specs.Encoded.{length_encoded}
-use Rattle.body_half.proofs.Results.{Gives, gives, fails}
+use Rattle.body_half.proofs.Results.{gives, fails}
 use Rattle.rules.specs.Types.{body_at, HeldAt, LooksUp, Answers, TypesReady, BodiesBelow}
 use Rattle.rules.specs.Unrolled.{lower_is, type_unrolled}
 use Rattle.rules.proofs.TypePlaces.{kept_other, kept_own}

@@ -1,17 +1,15 @@
 -- What each rule that does not apply shows of each row by itself: the counts are in their ranges, references name rows and variables that are there,
 -- attributes and handled errors are in range, and every type row has a body. Assumes nothing.
-use Rattle.std.specs.Prelude.{◌≡◌, refl, Bool, true, false, not, ◌&&◌, ◌||◌, List, [], ◌∷◌, ◌++◌, ℕ, zero, suc, ◌+◌, ◌≤◌, ◌<◌, pred, eqb, ltb, leb, if◌then◌else◌}
-use Rattle.std.proofs.Common.{sym, ap, ◌∙◌, arith}
+use Rattle.std.specs.Prelude.{◌≡◌, refl, Bool, true, false, not, ◌&&◌, ◌||◌, List, ◌++◌, ℕ, suc, ◌≤◌, ◌<◌, pred, ltb, leb}
+use Rattle.std.proofs.Common.{sym}
 use borrow.Author.Tests.{ltb-true, leb-true, not-false}
-use Rattle.lingua.specs.Numbers.{attribute_numbers, most_variables, most_types, most_expressions, most_instructions, most_procedures, declaration_section, type_section, expression_section, instruction_section}
-use Rattle.lingua.specs.Errors.{is_error, record_expected}
-use Rattle.lingua.specs.Outcome.{Outcome, ok, fail, Result, is_ok}
-use Rattle.lingua.specs.Body.{Body, boolean, number, word, too_large, size, nodes, depth, width}
-use Rattle.lingua.specs.Operation.{bounded, unary_body, binary_body}
+use Rattle.lingua.specs.Numbers.{most_variables, most_types, most_expressions, most_instructions, most_procedures, declaration_section, type_section, expression_section, instruction_section}
+use Rattle.lingua.specs.Errors.{is_error}
+use Rattle.lingua.specs.Outcome.{is_ok}
 use Rattle.lingua.specs.Value.{all_of}
-use Rattle.lingua.specs.Rows.{table_count, pair_count, procedure_count, body_row, TypeRow, simple_type, list_type, record_type, expand_type, type_row, expression_row, operands, instruction_row, parts, evaluated, yoke_set}
-use Rattle.lingua.specs.Trees.{lower, type_body_of, type_body_in, type_body, instruction_scope, expression_scope}
-use Rattle.lingua.specs.Format.{File, profile, every_below}
+use Rattle.lingua.specs.Rows.{table_count, pair_count, procedure_count, body_row, type_row, expression_row, operands, instruction_row, parts, evaluated, yoke_set}
+use Rattle.lingua.specs.Trees.{type_body, instruction_scope, expression_scope}
+use Rattle.lingua.specs.Format.{profile, every_below}
 use Rattle.lingua.specs.Rules.{between, count_wrong, row_constant_fits, attributes_fit, expression_attributes, type_attributes, handled_errors, constant_wrong}
 use Rattle.lingua.specs.References.{all_below, type_parts, expression_variables, instruction_variables, on_call, declarations_refer, instruction_refers, rows_refer, variables_seen, variables_fit, variables_wrong, reference_wrong, type_wrong}
 use Rattle.laws.specs.Outcomes.{false_is_true, and_left, and_right}

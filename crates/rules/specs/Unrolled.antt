@@ -1,10 +1,9 @@
 -- A row's body and its trees, by those of the rows that it names: the bound on how deep rows refer does not matter. Assumes nothing.
-use Rattle.std.specs.Prelude.{◌≡◌, refl, Bool, true, false, List, ℕ, zero, suc, ◌<◌, ltb}
+use Rattle.std.specs.Prelude.{◌≡◌, refl, Bool, List, ℕ, zero, suc, ◌<◌}
 use Rattle.std.proofs.Common.{sym, ap, ◌∙◌, arith, lt-ltb}
 use Rattle.lingua.specs.Errors.{record_expected}
-use Rattle.lingua.specs.Outcome.{fail, Result}
-use Rattle.lingua.specs.Body.{Body}
-use Rattle.lingua.specs.Expression.{Expression, Instruction, skip}
+use Rattle.lingua.specs.Outcome.{fail}
+use Rattle.lingua.specs.Expression.{skip}
 use Rattle.lingua.specs.Rows.{type_row, expression_row, instruction_row}
 use Rattle.lingua.specs.Trees.{below, lower, no_expression, type_body_of, type_body_in, type_body, expression_of, expression_in, expression_tree, instruction_of, instruction_in, instruction_tree}
 use Rattle.safety.specs.Forest.{lower_same}

@@ -9,12 +9,12 @@ use borrow.Author.Tests.{eq-eqb, ne_eqb}
 use Rattle.lingua.specs.Errors.{no_error}
 use Rattle.std.specs.Prelude.{if◌then◌else◌}
 use Rattle.lingua.specs.Store.{Variable}
-use Rattle.lingua.specs.Run.{State, Progress, going, out, step, End, finished, failed}
-use Rattle.lingua.specs.Answers.{Answer, answered, Ending, ending, end_number, run_meaning}
+use Rattle.lingua.specs.Run.{State, Progress, out, step, finished, failed}
+use Rattle.lingua.specs.Answers.{answered, ending, end_number, run_meaning}
 use Rattle.lingua.specs.Calls.{ending_of}
 use Rattle.lingua.specs.declared.RunAnswer.TheVariants as run_answer
 use Rattle.run.specs.declared.steps.Status.{Status}
-use Rattle.run.specs.Statuses.{state_of, progress_of, onward, recorded}
+use Rattle.run.specs.Statuses.{state_of, progress_of, recorded}
 use Rattle.run.specs.Steps.{step_spent, step_taken}
 
 pub steps_none : (m : Status) → m.left ≡ 0 → (vs : List Variable) (f : State → Progress) → step (state_of m vs) f ≡ out (record { store = vs; error = m.error; place = m.place; left = 0 }) []

@@ -14,7 +14,7 @@ use mir.Syntax.{w64}
 use mir.Val.{to_z, of_z}
 use mir.ValLaws.{to_z-of_z}
 use lib.ListN.{length, take, get_or, set, replicate, length-set, length-replicate}
-use lib.Seq.{paste, take-suc, take_all, length-take-le, get_or-set_same, get_or-set_other}
+use lib.Seq.{paste, take-suc, length-take-le, get_or-set_same, get_or-set_other}
 use Rattle.lingua.specs.Numbers.{most_variables, cells_length, body_bytes, body_nodes, declaration_section, limit_section, variable_bodies_length, scope_table}
 use Rattle.lingua.specs.Outcome.{Result}
 use Rattle.lingua.specs.Body.{Body, nodes}
@@ -26,7 +26,7 @@ use Rattle.lingua.specs.Run.{unfilled}
 use Rattle.lingua.specs.Compute.{same_text}
 use Rattle.lingua.specs.Format.{profile}
 use Rattle.lingua.specs.Rules.{name_wrong}
-use Rattle.lingua.specs.Trees.{body_or, declaration_in, declaration_at, limit_if, limit_from, limit_of, limit_row, name_at}
+use Rattle.lingua.specs.Trees.{body_or, declaration_in, limit_if, limit_from, limit_of, limit_row, name_at}
 use Rattle.laws.specs.Formed.{formed_bounds}
 use Rattle.laws.specs.Every.{every_by, every_take}
 use Rattle.laws.specs.Presents.{variable_bytes, Compact, body_more}

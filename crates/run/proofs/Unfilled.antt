@@ -2,12 +2,12 @@
 -- variable after another. Assumes nothing.
 use mathlib.Core.Path.{◌≡◌, refl, sym, ap, subst, ◌∙◌}
 use mathlib.Core.List.{List, [], ◌∷◌, ◌++◌, map}
-use Prim.Native.Nat.{ℕ, zero, suc, ◌+◌, ◌-◌, ◌*◌, ◌/◌, ◌≤◌, ◌<◌}
+use Prim.Native.Nat.{ℕ, suc, ◌+◌, ◌-◌, ◌*◌, ◌/◌, ◌≤◌, ◌<◌}
 use native.Mathlib.Numerals.{add-one}
 use native.Mathlib.Omega.{arith}
 use lib.IntN.{ℤ, pos}
-use lib.ListN.{length, get_or, take, replicate, length-replicate, length-map, replicate-append-replicate}
-use lib.Seq.{take-suc, take_all, length-take-le}
+use lib.ListN.{length, take, replicate, length-replicate, length-map, replicate-append-replicate}
+use lib.Seq.{take-suc, length-take-le}
 use Rattle.lingua.specs.Numbers.{most_variables, body_cells, cells_length, states_length, scope_table}
 use Rattle.lingua.specs.Value.{pad}
 use Rattle.lingua.specs.Expression.{yoke_number}

@@ -1,8 +1,8 @@
 -- Each kind of instruction, by the ways in which code ends it, whatever is asked of the memory. Assumes nothing.
-use Rattle.std.specs.Prelude.{◌≡◌, Bool, true, false, List, [], ℕ, suc, ◌<◌, ◌≤◌, eqb, ℤ}
+use Rattle.std.specs.Prelude.{◌≡◌, Bool, true, false, List, [], ℕ, suc, ◌<◌, ◌≤◌, eqb}
 use Rattle.std.proofs.Math.Path.{refl, ap}
 use Rattle.std.proofs.Common.{sym, ◌∙◌, subst, arith, eq-eqb, ne_eqb}
-use Rattle.lingua.specs.Outcome.{Result, ◌>>=◌}
+use Rattle.lingua.specs.Outcome.{◌>>=◌}
 use Rattle.lingua.specs.Store.{Variable, contents, assigned, yoke_changed}
 use Rattle.lingua.specs.Expression.{Expression, Yoke, Instruction, assign, set_yoke, sequence, branch, loop, handle}
 use Rattle.lingua.specs.Evaluation.{eval, eval_test, no_current}

@@ -1,14 +1,11 @@
 -- What a step, an action, a decision and a handler are at a moment, by cases of what is recorded. Assumes nothing.
-use Rattle.std.specs.Prelude.{◌≡◌, refl, Bool, true, false, List, [], eqb}
-use Rattle.std.proofs.Common.{sym, ap, ◌∙◌, eq-eqb, ne_eqb}
+use Rattle.std.specs.Prelude.{◌≡◌, refl, Bool, true, false, [], eqb}
+use Rattle.std.proofs.Common.{ap, eq-eqb, ne_eqb}
 use Prim.Native.Nat.{ℕ, zero, suc, ◌<◌, ◌≤◌}
 use native.Mathlib.Omega.{arith}
 use Rattle.lingua.specs.Errors.{no_error}
 use Rattle.lingua.specs.Outcome.{ok, fail, Result}
-use Rattle.lingua.specs.Store.{Variable}
-use Rattle.lingua.specs.Run.{State, Progress, going, out, with_left, step_with, step, unless_error, act, decided, handled, proceed, repeat, last_state}
-use Rattle.run.specs.declared.steps.Status.{Status}
-use Rattle.run.specs.Statuses.{state_of, progress_of, onward}
+use Rattle.lingua.specs.Run.{State, Progress, going, out, with_left, step_with, step, unless_error, act, decided, proceed, repeat, last_state}
 
 -- ---- a step
 pub step_spent : (s : State) (f : State → Progress) → s.left ≡ 0 → step s f ≡ out s []

@@ -10,7 +10,6 @@ use Rattle.decoder.specs.declared.decode.Simple.TheVariants as simple
 use Rattle.decoder.specs.declared.decode.ExpressionRow.TheVariants as code
 use Rattle.decoder.specs.declared.decode.DecodedExpression.TheVariants as decoded
 use Rattle.decoder.proofs.Decoding.{expression_arm, expression_unknown, attribute_as}
-use borrow.Author.Rules.{rules}
 use Rattle.decoder.proofs.decode.expression_at.Goals as goal
 
 pub returns-in-1 : goal.returns-in-1

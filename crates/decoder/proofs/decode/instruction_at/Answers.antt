@@ -5,7 +5,6 @@ use Rattle.decoder.specs.Decoded.{instruction_meaning, instruction_decoded, inst
 use Rattle.decoder.specs.declared.decode.InstructionRow.TheVariants as does
 use Rattle.decoder.specs.declared.decode.DecodedInstruction.TheVariants as decoded_instruction
 use Rattle.decoder.proofs.Decoding.{instruction_arm, instruction_unknown}
-use borrow.Author.Rules.{rules}
 use Rattle.decoder.proofs.decode.instruction_at.Goals as goal
 
 pub returns-in-1 : goal.returns-in-1

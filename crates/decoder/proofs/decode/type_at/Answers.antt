@@ -6,7 +6,6 @@ use Rattle.decoder.specs.declared.decode.Simple.TheVariants as simple
 use Rattle.decoder.specs.declared.decode.TypeRow.TheVariants as type
 use Rattle.decoder.specs.declared.decode.DecodedType.TheVariants as decoded_type
 use Rattle.decoder.proofs.Decoding.{type_arm, type_unknown}
-use borrow.Author.Rules.{rules}
 use Rattle.decoder.proofs.decode.type_at.Goals as goal
 
 pub returns-in-1 : goal.returns-in-1

@@ -4,7 +4,6 @@ use Prim.Native.Nat.{◌+◌, ◌*◌}
 use native.Mathlib.Omega.{arith}
 use lib.ListN.{length-take, length-drop}
 use Rattle.lingua.specs.Rows.{bytes_at}
-use borrow.Author.Rules.{rules}
 use Rattle.decoder.proofs.fields.bytes_at.Goals as goal
 
 pub returns : goal.returns

@@ -1,10 +1,9 @@
-use mathlib.Core.Path.{◌≡◌, refl, sym, ◌∙◌}
-use Prim.Native.Nat.{ℕ, ◌-◌}
+use mathlib.Core.Path.{refl, sym, ◌∙◌}
+use Prim.Native.Nat.{ℕ}
 use native.Mathlib.Omega.{arith}
-use borrow.Author.Rules.{rules}
 use borrow.Author.Tests.{le-leb, lt-leb}
-use lib.ListN.{length, drop, get_or}
-use Rattle.lingua.specs.Rules.{between, padded_by}
+use lib.ListN.{get_or}
+use Rattle.lingua.specs.Rules.{between}
 use Rattle.decoder.proofs.Runs.{padded_nil, padded_zero, padded_fails, padded_step}
 use Rattle.decoder.proofs.fields.padded.Goals as goal
 

@@ -1,12 +1,8 @@
 -- `padded` meets its contract. The invariant: what is asked of the bytes is asked of those from i on. Assumes nothing.
-use mathlib.Core.Path.{◌≡◌, refl, sym, ◌∙◌}
-use Prim.Native.Nat.{ℕ, ◌-◌}
-use native.Mathlib.Omega.{arith}
-use borrow.Author.Rules.{rules}
-use borrow.Author.Tests.{le-leb, lt-leb}
-use lib.ListN.{length, drop, get_or}
+use mathlib.Core.Path.{◌≡◌}
+use Prim.Native.Nat.{◌-◌}
+use lib.ListN.{length, drop}
 use Rattle.lingua.specs.Rules.{between, padded_by}
-use Rattle.decoder.proofs.Runs.{padded_nil, padded_zero, padded_fails, padded_step}
 use Rattle.decoder.proofs.fields.padded.Given as goal
 
 abbrev pub invariant-loop-i : goal.invariant-loop-i

@@ -2,7 +2,6 @@
 use mathlib.Core.Path.{ap₂, ◌∙◌}
 use Prim.Native.Nat.{ℕ, ◌+◌, ◌*◌}
 use Rattle.decoder.proofs.Constant.{wide_is}
-use borrow.Author.Rules.{rules}
 use Rattle.decoder.proofs.fields.wide_at.Goals as goal
 
 pub returns : goal.returns

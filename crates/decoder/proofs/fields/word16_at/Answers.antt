@@ -3,7 +3,6 @@ use mathlib.Core.Path.{refl}
 use Prim.Native.Nat.{◌+◌}
 use native.Mathlib.Omega.{arith}
 use Rattle.lingua.specs.Rows.{word16}
-use borrow.Author.Rules.{rules}
 use Rattle.decoder.proofs.fields.word16_at.Goals as goal
 
 pub overflow_cast-low : goal.overflow_cast-low

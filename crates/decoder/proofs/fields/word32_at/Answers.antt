@@ -3,7 +3,6 @@ use mathlib.Core.Path.{ap₂}
 use Prim.Native.Nat.{ℕ, ◌+◌, ◌*◌}
 use native.Mathlib.Omega.{arith}
 use Rattle.lingua.specs.Rows.{word32}
-use borrow.Author.Rules.{rules}
 use Rattle.decoder.proofs.fields.word32_at.Goals as goal
 
 pub returns : goal.returns

@@ -1,8 +1,5 @@
-use mathlib.Core.Path.{◌≡◌, refl, sym, ◌∙◌}
-use Prim.Native.Nat.{◌-◌}
+use mathlib.Core.Path.{refl, sym, ◌∙◌}
 use native.Mathlib.Omega.{arith}
-use lib.ListN.{length, drop}
-use Rattle.lingua.specs.Format.{all_zero}
 use Rattle.decoder.proofs.Runs.{zero_nil, zero_step, zero_fails}
 use Rattle.decoder.proofs.fields.zero_from.Goals as goal
 

@@ -1,11 +1,9 @@
 -- `zero_from` meets its contract. The invariant: what is asked of the bytes from the start on is asked of those from i on.
 -- Assumes nothing.
-use mathlib.Core.Path.{◌≡◌, refl, sym, ◌∙◌}
+use mathlib.Core.Path.{◌≡◌}
 use Prim.Native.Nat.{◌-◌}
-use native.Mathlib.Omega.{arith}
 use lib.ListN.{length, drop}
 use Rattle.lingua.specs.Format.{all_zero}
-use Rattle.decoder.proofs.Runs.{zero_nil, zero_step, zero_fails}
 use Rattle.decoder.proofs.fields.zero_from.Given as goal
 
 abbrev pub invariant-loop-i : goal.invariant-loop-i

@@ -1,12 +1,7 @@
 -- `groups_below` meets its contract. The invariant: what is asked of the groups that are left is asked of all. Assumes nothing.
-use mathlib.Core.Path.{◌≡◌, refl}
-use mathlib.Core.Bool.{true, false}
-use mathlib.Core.List.{List}
-use Prim.Native.Nat.{ℕ, ◌-◌, ◌/◌, ◌%◌}
-use native.Mathlib.Omega.{arith}
+use mathlib.Core.Path.{◌≡◌}
 use Rattle.lingua.specs.Rows.{groups}
 use Rattle.lingua.specs.References.{all_below}
-use Rattle.decoder.proofs.Grouped.{from_first, from_rest, from_none, not_below, is_below, below_none}
 use Rattle.decoder.proofs.groups.groups_below.Given as goal
 
 abbrev pub invariant-loop-left : goal.invariant-loop-left

@@ -1,12 +1,7 @@
 -- `is_group` meets its contract. The invariant: the number is among those that are left where it is among all. Assumes nothing.
-use mathlib.Core.Path.{◌≡◌, refl}
-use mathlib.Core.Bool.{true, false}
-use mathlib.Core.List.{List}
-use Prim.Native.Nat.{ℕ, ◌-◌, ◌/◌, ◌%◌}
-use native.Mathlib.Omega.{arith}
+use mathlib.Core.Path.{◌≡◌}
 use Rattle.lingua.specs.Rows.{groups}
 use Rattle.lingua.specs.Errors.{is_among}
-use Rattle.decoder.proofs.Grouped.{from_first, from_rest, from_none, is_here, not_here, among_none}
 use Rattle.decoder.proofs.groups.is_group.Given as goal
 
 abbrev pub invariant-loop-left : goal.invariant-loop-left

@@ -3,10 +3,8 @@ use mathlib.Core.Path.{sym, ◌∙◌}
 use mathlib.Core.Bool.{◌&&◌}
 use Prim.Native.Nat.{ℕ}
 use lib.Dec.{leb, ltb}
-use borrow.Author.Tests.{not-true, not-false}
 use Rattle.decoder.specs.Mentions.{listed}
 use Rattle.decoder.proofs.Short.{all_0, all_1, all_2, all_x, all_y, all_z}
-use borrow.Author.Rules.{rules}
 use Rattle.decoder.proofs.mentions.all_within.Goals as goal
 
 pub returns-then-count-eq0 : goal.returns-then-count-eq0

@@ -1,11 +1,10 @@
 -- `assigned` meets its contract, row by row. Assumes nothing.
 use mathlib.Core.Path.{◌≡◌, refl}
-use mathlib.Core.List.{[], ◌∷◌}
+use mathlib.Core.List.{[]}
 use Rattle.lingua.specs.References.{instruction_variables}
 use Rattle.decoder.specs.Decoded.{instruction_meaning}
 use Rattle.decoder.specs.declared.decode.InstructionRow.{InstructionRow}
 use Rattle.decoder.specs.declared.decode.InstructionRow.TheVariants as row
-use borrow.Author.Rules.{rules}
 use Rattle.decoder.proofs.mentions.assigned.Goals as goal
 
 others : (r : InstructionRow) → ((n : _) (e : _) → r ≡ row.Assign n e → ⊥) → ((n : _) (y : _) → r ≡ row.SetYoke n y → ⊥) → instruction_variables (instruction_meaning r) ≡ []

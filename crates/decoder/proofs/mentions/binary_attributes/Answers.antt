@@ -1,11 +1,10 @@
 -- `binary_attributes` meets its contract, operation by operation. Assumes nothing.
 use mathlib.Core.Path.{◌≡◌, refl}
-use mathlib.Core.List.{[], ◌∷◌}
+use mathlib.Core.List.{[]}
 use Rattle.lingua.specs.Rules.{binary_attribute}
 use Rattle.lingua.specs.Operations.{binary_meaning}
 use Rattle.lingua.specs.declared.operations.BinaryOperation.{BinaryOperation}
 use Rattle.lingua.specs.declared.operations.BinaryOperation.TheVariants as row
-use borrow.Author.Rules.{rules}
 use Rattle.decoder.proofs.mentions.binary_attributes.Goals as goal
 
 others : (o : BinaryOperation) → ((n : _) → o ≡ row.Expand n → ⊥) → ((n : _) → o ≡ row.Change n → ⊥) → binary_attribute (binary_meaning o) ≡ []

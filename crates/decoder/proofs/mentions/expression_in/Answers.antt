@@ -5,7 +5,6 @@ use Rattle.lingua.specs.References.{expression_variables}
 use Rattle.decoder.specs.Decoded.{expression_meaning}
 use Rattle.decoder.specs.Reads.{reads_row}
 use Rattle.decoder.proofs.Decoding.{operands_in_bytes, variables_in_bytes, reads_in_bytes, attributes_in_bytes, expression_unknown_of, expression_known_of}
-use borrow.Author.Rules.{rules}
 use Rattle.decoder.proofs.mentions.expression_in.Goals as goal
 
 pub returns-in-Unknown : goal.returns-in-Unknown

@@ -1,11 +1,10 @@
 -- `handled` meets its contract, row by row. Assumes nothing.
 use mathlib.Core.Path.{◌≡◌, refl}
-use mathlib.Core.List.{[], ◌∷◌}
+use mathlib.Core.List.{[]}
 use Rattle.lingua.specs.Rules.{handled_errors}
 use Rattle.decoder.specs.Decoded.{instruction_meaning}
 use Rattle.decoder.specs.declared.decode.InstructionRow.{InstructionRow}
 use Rattle.decoder.specs.declared.decode.InstructionRow.TheVariants as row
-use borrow.Author.Rules.{rules}
 use Rattle.decoder.proofs.mentions.handled.Goals as goal
 
 others : (r : InstructionRow) → ((n : _) (i : _) → r ≡ row.Handle n i → ⊥) → handled_errors (instruction_meaning r) ≡ []

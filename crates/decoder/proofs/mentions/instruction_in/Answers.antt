@@ -4,7 +4,6 @@ use Rattle.lingua.specs.Rules.{handled_errors}
 use Rattle.lingua.specs.References.{instruction_variables, on_call}
 use Rattle.decoder.specs.Decoded.{instruction_meaning}
 use Rattle.decoder.proofs.Decoding.{instruction_unknown_of, instruction_known_of}
-use borrow.Author.Rules.{rules}
 use Rattle.decoder.proofs.mentions.instruction_in.Goals as goal
 
 pub returns-in-Unknown : goal.returns-in-Unknown

@@ -1,6 +1,5 @@
 -- `mentioned` meets its contract, way by way. Assumes nothing.
 use Rattle.decoder.specs.Mentions.{mentioned_by}
-use borrow.Author.Rules.{rules}
 use Rattle.decoder.proofs.mentions.mentioned.Goals as goal
 
 pub returns-in-Yoke : goal.returns-in-Yoke

@@ -1,12 +1,11 @@
 -- `operands` meets its contract, row by row. Assumes nothing.
 use mathlib.Core.Path.{◌≡◌, refl}
-use mathlib.Core.List.{List, [], ◌∷◌}
+use mathlib.Core.List.{List, []}
 use Prim.Native.Nat.{ℕ}
 use Rattle.lingua.specs.Rows.{operands}
 use Rattle.decoder.specs.Decoded.{expression_meaning}
 use Rattle.decoder.specs.declared.decode.ExpressionRow.{ExpressionRow}
 use Rattle.decoder.specs.declared.decode.ExpressionRow.TheVariants as row
-use borrow.Author.Rules.{rules}
 use Rattle.decoder.proofs.mentions.operands.Goals as goal
 
 others : (rows : List ℕ) (i : ℕ) (r : ExpressionRow) → ((o : _) (a : _) → r ≡ row.Unary o a → ⊥) → ((o : _) (a : _) (b : _) → r ≡ row.Binary o a b → ⊥) → ((t : _) (a : _) (b : _) → r ≡ row.Lazy t a b → ⊥) → ((a : _) (b : _) (c : _) → r ≡ row.Choice a b c → ⊥) → ((a : _) → r ≡ row.AllList a → ⊥) → operands (expression_meaning rows i r) ≡ []

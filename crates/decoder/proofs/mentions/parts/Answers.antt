@@ -1,11 +1,10 @@
 -- `parts` meets its contract, row by row. Assumes nothing.
 use mathlib.Core.Path.{◌≡◌, refl}
-use mathlib.Core.List.{[], ◌∷◌}
+use mathlib.Core.List.{[]}
 use Rattle.lingua.specs.Rows.{parts}
 use Rattle.decoder.specs.Decoded.{instruction_meaning}
 use Rattle.decoder.specs.declared.decode.InstructionRow.{InstructionRow}
 use Rattle.decoder.specs.declared.decode.InstructionRow.TheVariants as row
-use borrow.Author.Rules.{rules}
 use Rattle.decoder.proofs.mentions.parts.Goals as goal
 
 others : (r : InstructionRow) → ((i : _) (j : _) → r ≡ row.Sequence i j → ⊥) → ((e : _) (i : _) (j : _) → r ≡ row.Branch e i j → ⊥) → ((e : _) (i : _) → r ≡ row.Loop e i → ⊥) → ((n : _) (i : _) → r ≡ row.Handle n i → ⊥) → parts (instruction_meaning r) ≡ []

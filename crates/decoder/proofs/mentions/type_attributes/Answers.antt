@@ -1,11 +1,10 @@
 -- `type_attributes` meets its contract, row by row. Assumes nothing.
 use mathlib.Core.Path.{◌≡◌, refl}
-use mathlib.Core.List.{[], ◌∷◌}
+use mathlib.Core.List.{[]}
 use Rattle.lingua.specs.Rules.{type_attributes}
 use Rattle.decoder.specs.Decoded.{type_meaning}
 use Rattle.decoder.specs.declared.decode.TypeRow.{TypeRow}
 use Rattle.decoder.specs.declared.decode.TypeRow.TheVariants as row
-use borrow.Author.Rules.{rules}
 use Rattle.decoder.proofs.mentions.type_attributes.Goals as goal
 
 others : (r : TypeRow) → ((n : _) (a : _) → r ≡ row.Record n a → ⊥) → ((a : _) (n : _) (b : _) → r ≡ row.Expand a n b → ⊥) → type_attributes (type_meaning r) ≡ []

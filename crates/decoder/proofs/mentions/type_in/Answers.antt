@@ -3,7 +3,6 @@ use Rattle.lingua.specs.Rules.{type_attributes}
 use Rattle.lingua.specs.References.{type_parts}
 use Rattle.decoder.specs.Decoded.{type_meaning}
 use Rattle.decoder.proofs.Decoding.{type_unknown_of, type_known_of}
-use borrow.Author.Rules.{rules}
 use Rattle.decoder.proofs.mentions.type_in.Goals as goal
 
 pub returns-in-Unknown : goal.returns-in-Unknown

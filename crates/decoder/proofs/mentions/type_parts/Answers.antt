@@ -1,7 +1,6 @@
 -- `type_parts` meets its contract, row by row. Assumes nothing.
 use Rattle.lingua.specs.References.{type_parts}
 use Rattle.decoder.specs.Decoded.{type_meaning}
-use borrow.Author.Rules.{rules}
 use Rattle.decoder.proofs.mentions.type_parts.Goals as goal
 
 pub returns-in-Simple : goal.returns-in-Simple

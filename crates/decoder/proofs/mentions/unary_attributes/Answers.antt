@@ -1,11 +1,10 @@
 -- `unary_attributes` meets its contract, operation by operation. Assumes nothing.
 use mathlib.Core.Path.{◌≡◌, refl}
-use mathlib.Core.List.{[], ◌∷◌}
+use mathlib.Core.List.{[]}
 use Rattle.lingua.specs.Rules.{unary_attribute}
 use Rattle.lingua.specs.Operations.{unary_meaning}
 use Rattle.lingua.specs.declared.operations.UnaryOperation.{UnaryOperation}
 use Rattle.lingua.specs.declared.operations.UnaryOperation.TheVariants as row
-use borrow.Author.Rules.{rules}
 use Rattle.decoder.proofs.mentions.unary_attributes.Goals as goal
 
 others : (o : UnaryOperation) → ((n : _) → o ≡ row.MakeRecord n → ⊥) → ((n : _) → o ≡ row.Select n → ⊥) → ((n : _) → o ≡ row.Remove n → ⊥) → unary_attribute (unary_meaning o) ≡ []

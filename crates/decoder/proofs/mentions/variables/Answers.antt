@@ -1,12 +1,11 @@
 -- `variables` meets its contract, row by row. Assumes nothing.
 use mathlib.Core.Path.{◌≡◌, refl}
-use mathlib.Core.List.{List, [], ◌∷◌}
+use mathlib.Core.List.{List, []}
 use Prim.Native.Nat.{ℕ}
 use Rattle.lingua.specs.References.{expression_variables}
 use Rattle.decoder.specs.Decoded.{expression_meaning}
 use Rattle.decoder.specs.declared.decode.ExpressionRow.{ExpressionRow}
 use Rattle.decoder.specs.declared.decode.ExpressionRow.TheVariants as row
-use borrow.Author.Rules.{rules}
 use Rattle.decoder.proofs.mentions.variables.Goals as goal
 
 others : (rows : List ℕ) (i : ℕ) (r : ExpressionRow) → ((n : _) → r ≡ row.Variable n → ⊥) → expression_variables (expression_meaning rows i r) ≡ []

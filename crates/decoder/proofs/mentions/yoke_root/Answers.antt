@@ -2,7 +2,6 @@
 use mathlib.Core.Path.{◌∙◌}
 use Rattle.lingua.specs.Rows.{yoke_root}
 use Rattle.decoder.proofs.Short.{root_more}
-use borrow.Author.Rules.{rules}
 use Rattle.decoder.proofs.mentions.yoke_root.Goals as goal
 
 pub returns-then-yoke-eq0 : goal.returns-then-yoke-eq0

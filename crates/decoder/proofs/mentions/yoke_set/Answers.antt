@@ -1,11 +1,10 @@
 -- `yoke_set` meets its contract, row by row. Assumes nothing.
 use mathlib.Core.Path.{◌≡◌, refl}
-use mathlib.Core.List.{[], ◌∷◌}
+use mathlib.Core.List.{[]}
 use Rattle.lingua.specs.Rows.{yoke_set}
 use Rattle.decoder.specs.Decoded.{instruction_meaning}
 use Rattle.decoder.specs.declared.decode.InstructionRow.{InstructionRow}
 use Rattle.decoder.specs.declared.decode.InstructionRow.TheVariants as row
-use borrow.Author.Rules.{rules}
 use Rattle.decoder.proofs.mentions.yoke_set.Goals as goal
 
 others : (r : InstructionRow) → ((n : _) (y : _) → r ≡ row.SetYoke n y → ⊥) → yoke_set (instruction_meaning r) ≡ []

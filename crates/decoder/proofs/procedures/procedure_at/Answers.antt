@@ -1,6 +1,5 @@
 -- `procedure_at` meets its contract: the row that begins the procedure lies in the rows. Assumes nothing.
 use Rattle.decoder.proofs.Scoped.{head_place, is_procedure}
-use borrow.Author.Rules.{rules}
 use Rattle.decoder.proofs.procedures.procedure_at.Goals as goal
 
 pub a_at-requires : goal.a_at-requires

@@ -1,6 +1,5 @@
 -- `scope_table` meets its contract: the profile's table, or the procedure's. Assumes nothing.
 use Rattle.decoder.proofs.Scoped.{scope_own, scope_profile}
-use borrow.Author.Rules.{rules}
 use Rattle.decoder.proofs.procedures.scope_table.Goals as goal
 
 pub returns-then-s-eq0 : goal.returns-then-s-eq0

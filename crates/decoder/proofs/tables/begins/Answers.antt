@@ -2,7 +2,6 @@
 use mathlib.Core.Bool.{true, false}
 use borrow.Author.Tests.{eq-eqb, ne_eqb}
 use Rattle.decoder.proofs.Counting.{begins_not, begins_by}
-use borrow.Author.Rules.{rules}
 use Rattle.decoder.proofs.tables.begins.Goals as goal
 
 pub returns-then-section_at-ne-PROCEDURE_SECTION : goal.returns-then-section_at-ne-PROCEDURE_SECTION

@@ -1,9 +1,8 @@
-use mathlib.Core.Path.{◌≡◌, refl, sym}
-use Prim.Native.Nat.{ℕ, suc, ◌+◌, ◌-◌, ◌≤◌}
+use mathlib.Core.Path.{refl}
+use Prim.Native.Nat.{suc}
 use native.Mathlib.Omega.{arith}
-use lib.ListN.{length, get_or, length-set}
+use lib.ListN.{get_or, length-set}
 use Rattle.lingua.specs.Numbers.{header_table}
-use Rattle.lingua.specs.Rows.{table_start}
 use Rattle.decoder.specs.Headers.{start_within}
 use Rattle.decoder.proofs.Counting.{heads_first, head_next, heads_more}
 use Rattle.decoder.proofs.tables.heads_of.Goals as goal

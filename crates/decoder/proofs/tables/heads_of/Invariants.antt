@@ -1,12 +1,9 @@
 -- `heads_of` meets its contract. The invariant: the beginnings up to k are known. Assumes nothing.
-use mathlib.Core.Path.{◌≡◌, refl, sym}
-use Prim.Native.Nat.{ℕ, suc, ◌+◌, ◌-◌, ◌≤◌}
-use native.Mathlib.Omega.{arith}
-use lib.ListN.{length, get_or, length-set}
+use mathlib.Core.Path.{◌≡◌}
+use Prim.Native.Nat.{ℕ, ◌-◌, ◌≤◌}
+use lib.ListN.{length, get_or}
 use Rattle.lingua.specs.Numbers.{header_table}
 use Rattle.lingua.specs.Rows.{table_start}
-use Rattle.decoder.specs.Headers.{start_within}
-use Rattle.decoder.proofs.Counting.{heads_first, head_next, heads_more}
 use Rattle.decoder.proofs.tables.heads_of.Given as goal
 
 abbrev pub invariant-loop-k : goal.invariant-loop-k

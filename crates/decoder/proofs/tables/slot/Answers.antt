@@ -2,7 +2,6 @@
 use native.Mathlib.Omega.{arith}
 use Rattle.lingua.specs.Rows.{begins_procedure}
 use Rattle.decoder.proofs.Counting.{bit_small, slot_low, slot_above, slot_here}
-use borrow.Author.Rules.{rules}
 use Rattle.decoder.proofs.tables.slot.Goals as goal
 
 pub returns-then-section-lt-PROCEDURE_SECTION : goal.returns-then-section-lt-PROCEDURE_SECTION

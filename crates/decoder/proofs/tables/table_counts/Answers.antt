@@ -1,8 +1,8 @@
-use mathlib.Core.Path.{◌≡◌, refl, ap₂, ◌∙◌, sym}
-use Prim.Native.Nat.{ℕ, ◌+◌, ◌-◌, ◌≤◌, ◌<◌, min}
+use mathlib.Core.Path.{refl, ap₂, ◌∙◌, sym}
+use Prim.Native.Nat.{ℕ, ◌+◌, min}
 use native.Mathlib.Omega.{arith}
 use lib.Dec.{eqb}
-use lib.ListN.{length, get_or, length-set}
+use lib.ListN.{length-set}
 use Rattle.lingua.specs.Rows.{row_count, count_below, begins_procedure, table_at}
 use Rattle.laws.specs.Tables.{count_at_most}
 use Rattle.decoder.proofs.Counting.{bit_small, count_more, counted_more, counted_none, counted_all}

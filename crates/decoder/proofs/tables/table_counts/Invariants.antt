@@ -1,13 +1,10 @@
 -- `table_counts` meets its contract. The invariant: the procedures that were begun, and each place has the count of its rows among those
 -- passed. Assumes nothing.
-use mathlib.Core.Path.{◌≡◌, refl, ap₂, ◌∙◌, sym}
-use Prim.Native.Nat.{ℕ, ◌+◌, ◌-◌, ◌≤◌, ◌<◌, min}
-use native.Mathlib.Omega.{arith}
+use mathlib.Core.Path.{◌≡◌}
+use Prim.Native.Nat.{ℕ, ◌-◌, ◌≤◌, ◌<◌, min}
 use lib.Dec.{eqb}
-use lib.ListN.{length, get_or, length-set}
-use Rattle.lingua.specs.Rows.{row_count, count_below, begins_procedure, table_at}
-use Rattle.laws.specs.Tables.{count_at_most}
-use Rattle.decoder.proofs.Counting.{bit_small, count_more, counted_more, counted_none, counted_all}
+use lib.ListN.{length, get_or}
+use Rattle.lingua.specs.Rows.{count_below, begins_procedure, table_at}
 use Rattle.decoder.proofs.tables.table_counts.Given as goal
 
 abbrev pub invariant-loop-i : goal.invariant-loop-i

@@ -2,7 +2,6 @@
 use mathlib.Core.Path.{refl}
 use native.Mathlib.Omega.{arith}
 use Rattle.decoder.proofs.Counting.{sections, are_tables}
-use borrow.Author.Rules.{rules}
 use Rattle.decoder.proofs.tables.tables_of.Goals as goal
 
 pub overflow_add-types : goal.overflow_add-types

@@ -3,7 +3,6 @@ use mathlib.Core.Path.{sym, ap, ◌∙◌}
 use mathlib.Core.Bool.{Bool, ◌&&◌}
 use mir.ValLaws.{to_z-of_z}
 use Rattle.lingua.specs.Value.{in_range_of}
-use borrow.Author.Rules.{rules}
 use Rattle.profile.proofs.agreement.both_in_range.Goals as goal
 
 pub returns-then-not-in_range : goal.returns-then-not-in_range

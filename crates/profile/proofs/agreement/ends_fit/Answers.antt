@@ -2,7 +2,6 @@
 use mathlib.Core.Path.{◌∙◌}
 use mir.ValLaws.{to_z-of_z}
 use Rattle.profile.proofs.Agreeing.{counts_fit, numbers_fit, others_fit}
-use borrow.Author.Rules.{rules}
 use Rattle.profile.proofs.agreement.ends_fit.Goals as goal
 
 pub returns-then-tag-eq-HUNDREDTHS : goal.returns-then-tag-eq-HUNDREDTHS

@@ -10,7 +10,6 @@ use Rattle.lingua.specs.Refusal.{ends_fit}
 use Rattle.profile.specs.Find.{limit, OneNamed}
 use Rattle.profile.proofs.Declaring.{name_is}
 use Rattle.profile.proofs.Agreeing.{ends_crossed, name_decides}
-use borrow.Author.Rules.{rules}
 use Rattle.profile.proofs.agreement.limit_owner.Goals as goal
 
 pub returns-then-high-low : goal.returns-then-high-low

@@ -1,12 +1,10 @@
-use mathlib.Core.Path.{◌≡◌, sym, ◌∙◌}
-use Prim.Native.Nat.{◌-◌, ◌/◌, ◌≤◌}
+use mathlib.Core.Path.{sym, ◌∙◌}
 use native.Mathlib.Omega.{arith}
-use lib.ListN.{length, length-set}
-use Rattle.lingua.specs.Numbers.{most_limits, limit_section}
+use lib.ListN.{length-set}
+use Rattle.lingua.specs.Numbers.{limit_section}
 use Rattle.laws.specs.Outcomes.{false_is_true}
 use Rattle.profile.proofs.Declaring.{pairs}
-use Rattle.profile.proofs.Agreeing.{OwnedTo, owned_none, owned_more, owner_small, limits_wrong, limits_right, all_owned}
-use borrow.Author.Rules.{rules}
+use Rattle.profile.proofs.Agreeing.{owned_none, owned_more, owner_small, limits_wrong, limits_right, all_owned}
 use Rattle.profile.proofs.agreement.limit_wrong.Goals as goal
 
 pub loop-l-init : goal.loop-l-init

@@ -7,7 +7,6 @@ use Rattle.profile.specs.Variables.{variables_known}
 use Rattle.profile.proofs.Declaring.{pairs, variable_there}
 use Rattle.profile.proofs.Finding.{found_there, none_named, one_named, other_named}
 use mir.ValLaws.{to_z-of_z}
-use borrow.Author.Rules.{rules}
 use Rattle.profile.proofs.agreement.owner_named.Goals as goal
 
 pub find-found-requires-clause-table : goal.find-found-requires-clause-table

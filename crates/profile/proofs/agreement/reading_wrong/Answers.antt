@@ -1,9 +1,6 @@
-use mathlib.Core.Path.{◌≡◌, sym, ◌∙◌}
-use mathlib.Core.Bool.{true}
-use Prim.Native.Nat.{◌-◌, ◌≤◌}
+use mathlib.Core.Path.{sym, ◌∙◌}
 use native.Mathlib.Omega.{arith}
 use lib.ListN.{get_or}
-use Rattle.lingua.specs.Format.{every_below}
 use Rattle.lingua.specs.Refusal.{is_quantity_variable}
 use Rattle.laws.specs.Tests.{every_more}
 use Rattle.profile.proofs.Agreeing.{every_begins, too_many, reading_fails, readings_right}

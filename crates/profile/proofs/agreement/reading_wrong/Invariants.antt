@@ -1,14 +1,10 @@
 -- `reading_wrong` meets its contract. The invariant: every reading passed is for a number variable. Assumes nothing.
-use mathlib.Core.Path.{◌≡◌, sym, ◌∙◌}
+use mathlib.Core.Path.{◌≡◌}
 use mathlib.Core.Bool.{true}
 use Prim.Native.Nat.{◌-◌, ◌≤◌}
-use native.Mathlib.Omega.{arith}
-use borrow.Author.Tests.{not-true, not-false}
 use lib.ListN.{get_or}
 use Rattle.lingua.specs.Format.{every_below}
 use Rattle.lingua.specs.Refusal.{is_quantity_variable}
-use Rattle.laws.specs.Tests.{every_more}
-use Rattle.profile.proofs.Agreeing.{every_begins, too_many, reading_fails, readings_right}
 use Rattle.profile.proofs.agreement.reading_wrong.Given as goal
 
 abbrev pub invariant-loop-i : goal.invariant-loop-i

@@ -7,7 +7,6 @@ use mir.Syntax.{w64}
 use mir.Val.{to_z, of_z}
 use mir.ValLaws.{to_z_pos, to_z-of_z}
 use Rattle.profile.proofs.Signs.{minus_one}
-use borrow.Author.Rules.{rules}
 use Rattle.profile.proofs.constants.below_zero.Goals as goal
 
 code_is : (k : ℕ) → k < 9223372036854775808 → negsuc 0 -ℤ to_z w64 k ≡ negsuc k

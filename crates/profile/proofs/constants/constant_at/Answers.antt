@@ -1,7 +1,6 @@
 -- `constant_at` meets its contract: the decoded row is the row. Assumes nothing.
 use Prim.Native.Nat.{◌+◌}
 use Rattle.profile.proofs.ConstantCells.{simple_unknown, simple_known}
-use borrow.Author.Rules.{rules}
 use Rattle.profile.proofs.constants.constant_at.Goals as goal
 
 pub returns-in-Unknown : goal.returns-in-Unknown

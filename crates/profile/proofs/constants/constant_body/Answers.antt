@@ -1,6 +1,5 @@
 -- `constant_body` meets its contract, constant by constant. Assumes nothing.
 use Rattle.profile.proofs.ConstantCells.{body_boolean, body_number, body_word, body_hundredths}
-use borrow.Author.Rules.{rules}
 use Rattle.profile.proofs.constants.constant_body.Goals as goal
 
 pub returns-in-Boolean : goal.returns-in-Boolean

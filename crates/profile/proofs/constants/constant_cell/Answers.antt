@@ -3,7 +3,6 @@ use mathlib.Core.Path.{◌∙◌}
 use mir.Syntax.{w64}
 use mir.ValLaws.{to_z-of_z}
 use Rattle.profile.proofs.ConstantCells.{cell_false, cell_true, cell_number, cell_word, cell_count, word_text, word_padded}
-use borrow.Author.Rules.{rules}
 use Rattle.profile.proofs.constants.constant_cell.Goals as goal
 
 pub returns-then-wide_at-eq0 : goal.returns-then-wide_at-eq0

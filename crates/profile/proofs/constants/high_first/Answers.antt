@@ -2,7 +2,6 @@
 use mathlib.Core.Path.{refl}
 use Prim.Native.Nat.{◌+◌}
 use native.Mathlib.Omega.{arith}
-use borrow.Author.Rules.{rules}
 use Rattle.profile.proofs.constants.high_first.Goals as goal
 
 pub overflow_cast-a : goal.overflow_cast-a

@@ -4,7 +4,6 @@ use native.Mathlib.Omega.{arith}
 use mir.Syntax.{w32, w64}
 use mir.ValLaws.{to_z_pos, to_z-of_z}
 use Rattle.profile.proofs.Signs.{high_32}
-use borrow.Author.Rules.{rules}
 use Rattle.profile.proofs.constants.signed32.Goals as goal
 
 pub returns-then-n-lt2147483648 : goal.returns-then-n-lt2147483648

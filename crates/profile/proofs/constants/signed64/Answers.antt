@@ -4,7 +4,6 @@ use native.Mathlib.Omega.{arith}
 use mir.Syntax.{w64}
 use mir.ValLaws.{to_z-of_z}
 use Rattle.profile.proofs.Signs.{high_64}
-use borrow.Author.Rules.{rules}
 use Rattle.profile.proofs.constants.signed64.Goals as goal
 
 pub returns : goal.returns

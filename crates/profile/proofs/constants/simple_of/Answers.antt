@@ -1,6 +1,6 @@
 -- `simple_of` meets its contract, row by row. Assumes nothing.
 use mathlib.Core.Path.{◌≡◌, refl}
-use mathlib.Core.List.{List, [], ◌∷◌}
+use mathlib.Core.List.{List}
 use Prim.Native.Nat.{ℕ}
 use Rattle.decoder.specs.Decoded.{expression_meaning}
 use Rattle.decoder.specs.declared.decode.ExpressionRow.{ExpressionRow}
@@ -9,7 +9,6 @@ use Rattle.decoder.specs.declared.decode.Simple.TheVariants as simple
 use Rattle.profile.specs.Row.{value_of}
 use Rattle.profile.specs.Constants.{SimpleIn}
 use Rattle.profile.proofs.ConstantCells.{is_constant, simple_constant, simple_none}
-use borrow.Author.Rules.{rules}
 use Rattle.profile.proofs.constants.simple_of.Goals as goal
 
 others : (rows : List ℕ) (i : ℕ) (r : ExpressionRow) → ((s : _) → r ≡ row.Constant s → ⊥) → SimpleIn (expression_meaning rows i r) rows i simple.Boolean

@@ -6,7 +6,6 @@ use mir.Syntax.{w64}
 use mir.ValLaws.{to_z_pos}
 use Rattle.lingua.specs.Value.{is_character, packed}
 use Rattle.profile.proofs.Packing.{word_is, word_half}
-use borrow.Author.Rules.{rules}
 use Rattle.profile.proofs.constants.word_cell.Goals as goal
 
 pub overflow_cast-result : goal.overflow_cast-result

@@ -1,6 +1,5 @@
 -- `declared_body` meets its contract: the type row is there, and so is its body. Assumes nothing.
 use Rattle.profile.proofs.Declaring.{type_inside, declared_is}
-use borrow.Author.Rules.{rules}
 use Rattle.profile.proofs.declarations.declared_body.Goals as goal
 
 pub type_body-requires : goal.type_body-requires

@@ -2,7 +2,6 @@
 use mathlib.Core.Path.{ap, ◌∙◌}
 use Rattle.lingua.specs.Rows.{a_at}
 use Rattle.profile.proofs.Declaring.{scope_detail}
-use borrow.Author.Rules.{rules}
 use Rattle.profile.proofs.declarations.declared_type.Goals as goal
 
 pub returns : goal.returns

@@ -1,6 +1,5 @@
 -- `declared_yoke` meets its contract. Assumes nothing.
 use Rattle.profile.proofs.Declaring.{yoke_is}
-use borrow.Author.Rules.{rules}
 use Rattle.profile.proofs.declarations.declared_yoke.Goals as goal
 
 pub returns-clause-value : goal.returns-clause-value

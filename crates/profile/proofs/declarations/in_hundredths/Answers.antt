@@ -5,7 +5,6 @@ use Rattle.profile.specs.Hundredths.{hundredths_row}
 use Rattle.profile.specs.Variables.{own_scope}
 use Rattle.decoder.proofs.Decoding.{type_decoded_lem}
 use Rattle.profile.proofs.Declaring.{type_below, says_declared}
-use borrow.Author.Rules.{rules}
 use Rattle.profile.proofs.declarations.in_hundredths.Goals as goal
 
 pub declared_type-r-requires-clause-has_scope : goal.declared_type-r-requires-clause-has_scope

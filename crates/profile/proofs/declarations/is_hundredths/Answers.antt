@@ -1,7 +1,6 @@
 -- `is_hundredths` meets its contract, body by body. Assumes nothing.
 use Rattle.lingua.specs.Body.{is_hundredths}
 use Rattle.decoder.specs.Decoded.{simple_meaning}
-use borrow.Author.Rules.{rules}
 use Rattle.profile.proofs.declarations.is_hundredths.Goals as goal
 
 pub returns-in-Boolean : goal.returns-in-Boolean

@@ -5,7 +5,6 @@ use Rattle.lingua.specs.Body.{is_quantity}
 use Rattle.lingua.specs.Refusal.{is_quantity_variable}
 use Rattle.profile.specs.Variables.{own_scope}
 use Rattle.profile.proofs.Declaring.{no_variable_there, variable_there, hundredths_first, number_first}
-use borrow.Author.Rules.{rules}
 use Rattle.profile.proofs.declarations.is_quantity_variable.Goals as goal
 
 pub returns-then-count-d : goal.returns-then-count-d

@@ -1,7 +1,6 @@
 -- `makes_hundredths` meets its contract, row by row. Assumes nothing.
 use Rattle.decoder.specs.Decoded.{type_meaning}
 use Rattle.profile.specs.Hundredths.{hundredths_row}
-use borrow.Author.Rules.{rules}
 use Rattle.profile.proofs.declarations.makes_hundredths.Goals as goal
 
 pub returns-in-Simple : goal.returns-in-Simple

@@ -1,7 +1,6 @@
 -- `says_hundredths` meets its contract: no unknown row makes hundredths. Assumes nothing.
 use Rattle.decoder.specs.Decoded.{type_decoded}
 use Rattle.profile.specs.Hundredths.{hundredths_row}
-use borrow.Author.Rules.{rules}
 use Rattle.profile.proofs.declarations.says_hundredths.Goals as goal
 
 pub returns-in-Unknown : goal.returns-in-Unknown

@@ -1,11 +1,10 @@
 use mathlib.Core.Path.{sym, ◌∙◌}
-use Prim.Native.Nat.{◌-◌, ◌/◌, ◌≤◌}
+use Prim.Native.Nat.{◌/◌}
 use native.Mathlib.Omega.{arith}
 use Rattle.lingua.specs.Numbers.{declaration_section}
-use Rattle.laws.specs.Lookup.{LeftOf, left_begins, left_found, left_passed, left_none}
+use Rattle.laws.specs.Lookup.{left_begins, left_found, left_passed, left_none}
 use Rattle.profile.specs.Find.{found_meaning}
 use Rattle.profile.proofs.Declaring.{pairs, same_name}
-use borrow.Author.Rules.{rules}
 use Rattle.profile.proofs.find.find.Goals as goal
 
 pub loop-looked-init : goal.loop-looked-init

@@ -3,7 +3,6 @@ use mathlib.Core.Path.{◌∙◌}
 use mir.Syntax.{w64}
 use mir.ValLaws.{to_z-of_z}
 use Rattle.profile.proofs.Declaring.{end_is}
-use borrow.Author.Rules.{rules}
 use Rattle.profile.proofs.limits.end_at.Goals as goal
 
 pub returns : goal.returns

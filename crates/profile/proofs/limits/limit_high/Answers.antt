@@ -4,7 +4,6 @@ use mir.Syntax.{w64}
 use mir.ValLaws.{to_z-of_z}
 use Rattle.lingua.specs.Rows.{high_at}
 use Rattle.lingua.specs.Trees.{limit_row}
-use borrow.Author.Rules.{rules}
 use Rattle.profile.proofs.limits.limit_high.Goals as goal
 
 pub returns : goal.returns

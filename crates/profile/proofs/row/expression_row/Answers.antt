@@ -1,6 +1,5 @@
 -- `expression_row` meets its contract: the kind is known, so there is a row, and attributes that fit are its bytes. Assumes nothing.
 use Rattle.profile.proofs.Decoding.{expression_says, expression_not_unknown}
-use borrow.Author.Rules.{rules}
 use Rattle.profile.proofs.row.expression_row.Goals as goal
 
 pub returns-in-Known : goal.returns-in-Known

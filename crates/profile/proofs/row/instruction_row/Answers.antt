@@ -1,6 +1,5 @@
 -- `instruction_row` meets its contract: the kind is known, so there is a row. Assumes nothing.
 use Rattle.profile.proofs.Decoding.{instruction_says, instruction_not_unknown}
-use borrow.Author.Rules.{rules}
 use Rattle.profile.proofs.row.instruction_row.Goals as goal
 
 pub returns-in-Known : goal.returns-in-Known

@@ -10,7 +10,6 @@ use Rattle.lingua.specs.Rules.{constant_fits}
 use Rattle.decoder.specs.Decoded.{constant_meaning}
 use Rattle.decoder.proofs.Constant.{word_is}
 use Rattle.row_rules.specs.Range.{about}
-use borrow.Author.Rules.{rules}
 use Rattle.row_rules.proofs.constants.constant_fits.Goals as goal
 
 pub returns-in-Boolean : goal.returns-in-Boolean

@@ -2,7 +2,6 @@
 use mathlib.Core.Path.{◌∙◌}
 use Rattle.lingua.specs.Rules.{row_constant_fits}
 use Rattle.decoder.proofs.Decoding.{expression_unknown_of, expression_known_of, constant_in_bytes}
-use borrow.Author.Rules.{rules}
 use Rattle.row_rules.proofs.constants.constant_fits_at.Goals as goal
 
 pub returns-in-Unknown : goal.returns-in-Unknown

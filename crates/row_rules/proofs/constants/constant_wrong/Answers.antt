@@ -1,7 +1,6 @@
 -- `constant_wrong` meets its contract, by the kind of file. Assumes nothing.
 use Rattle.lingua.specs.Answers.{file_meaning}
 use Rattle.lingua.specs.Rules.{constant_wrong}
-use borrow.Author.Rules.{rules}
 use Rattle.row_rules.proofs.constants.constant_wrong.Goals as goal
 
 pub returns-in-Profile : goal.returns-in-Profile

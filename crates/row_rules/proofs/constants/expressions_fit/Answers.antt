@@ -1,12 +1,10 @@
-use mathlib.Core.Path.{◌≡◌, sym, ◌∙◌, ap}
-use mathlib.Core.Bool.{true, ◌&&◌}
+use mathlib.Core.Path.{sym, ◌∙◌, ap}
+use mathlib.Core.Bool.{◌&&◌}
 use mathlib.Core.List.{List}
-use Prim.Native.Nat.{ℕ, ◌-◌, ◌≤◌}
+use Prim.Native.Nat.{ℕ}
 use native.Mathlib.Omega.{arith}
-use borrow.Author.Rules.{rules}
 use Rattle.lingua.specs.Numbers.{expression_section}
 use Rattle.lingua.specs.Rows.{table_count, expression_row}
-use Rattle.lingua.specs.Format.{every_below}
 use Rattle.lingua.specs.Rules.{row_constant_fits, attributes_fit, expression_attributes}
 use Rattle.row_rules.proofs.Every.{every_none, every_more, every_fails, every_all, both_left, both_right}
 use Rattle.decoder.proofs.Short.{within_attributes}

@@ -1,13 +1,10 @@
-use mathlib.Core.Path.{◌≡◌, sym, ◌∙◌}
-use mathlib.Core.Bool.{true}
-use Prim.Native.Nat.{ℕ, ◌-◌, ◌≤◌}
+use mathlib.Core.Path.{sym, ◌∙◌}
+use Prim.Native.Nat.{ℕ}
 use native.Mathlib.Omega.{arith}
-use borrow.Author.Rules.{rules}
 use Rattle.lingua.specs.Numbers.{instruction_section}
 use Rattle.lingua.specs.Errors.{is_error}
 use Rattle.lingua.specs.Value.{all_of}
 use Rattle.lingua.specs.Rows.{table_count, instruction_row}
-use Rattle.lingua.specs.Format.{every_below}
 use Rattle.lingua.specs.Rules.{handled_errors}
 use Rattle.row_rules.proofs.Every.{every_none, every_more, every_fails, every_all}
 use Rattle.decoder.proofs.Short.{within_errors}

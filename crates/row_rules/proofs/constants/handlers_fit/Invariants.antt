@@ -1,18 +1,12 @@
 -- `handlers_fit` meets its contract: every row that was passed handles an error. Assumes nothing.
-use mathlib.Core.Path.{◌≡◌, sym, ◌∙◌}
+use mathlib.Core.Path.{◌≡◌}
 use mathlib.Core.Bool.{true}
-use Prim.Native.Nat.{ℕ, ◌-◌, ◌≤◌}
-use native.Mathlib.Omega.{arith}
-use borrow.Author.Rules.{rules}
-use borrow.Author.Tests.{not-true, not-false}
-use Rattle.lingua.specs.Numbers.{instruction_section}
+use Prim.Native.Nat.{◌-◌, ◌≤◌}
 use Rattle.lingua.specs.Errors.{is_error}
 use Rattle.lingua.specs.Value.{all_of}
-use Rattle.lingua.specs.Rows.{table_count, instruction_row}
+use Rattle.lingua.specs.Rows.{instruction_row}
 use Rattle.lingua.specs.Format.{every_below}
 use Rattle.lingua.specs.Rules.{handled_errors}
-use Rattle.row_rules.proofs.Every.{every_none, every_more, every_fails, every_all}
-use Rattle.decoder.proofs.Short.{within_errors}
 use Rattle.row_rules.proofs.constants.handlers_fit.Given as goal
 
 abbrev pub invariant-loop-r : goal.invariant-loop-r

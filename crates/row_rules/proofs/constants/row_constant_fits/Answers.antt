@@ -1,13 +1,12 @@
 -- `row_constant_fits` meets its contract, row by row. Assumes nothing.
 use mathlib.Core.Path.{◌≡◌, refl, sym}
 use mathlib.Core.Bool.{true}
-use mathlib.Core.List.{List, [], ◌∷◌}
+use mathlib.Core.List.{List}
 use Prim.Native.Nat.{ℕ}
 use Rattle.lingua.specs.Rules.{row_constant_fits}
 use Rattle.decoder.specs.Decoded.{expression_meaning}
 use Rattle.decoder.specs.declared.decode.ExpressionRow.{ExpressionRow}
 use Rattle.decoder.specs.declared.decode.ExpressionRow.TheVariants as row
-use borrow.Author.Rules.{rules}
 use Rattle.row_rules.proofs.constants.row_constant_fits.Goals as goal
 
 others : (rows : List ℕ) (i : ℕ) (r : ExpressionRow) → ((s : _) → r ≡ row.Constant s → ⊥) → row_constant_fits (expression_meaning rows i r) ≡ true

@@ -1,16 +1,10 @@
 -- `types_fit` meets its contract: every row that was passed names attributes only. Assumes nothing.
-use mathlib.Core.Path.{◌≡◌, sym, ◌∙◌}
+use mathlib.Core.Path.{◌≡◌}
 use mathlib.Core.Bool.{true}
-use Prim.Native.Nat.{ℕ, ◌-◌, ◌≤◌}
-use native.Mathlib.Omega.{arith}
-use borrow.Author.Rules.{rules}
-use borrow.Author.Tests.{not-true, not-false}
-use Rattle.lingua.specs.Numbers.{type_section}
-use Rattle.lingua.specs.Rows.{table_count, type_row}
+use Prim.Native.Nat.{◌-◌, ◌≤◌}
+use Rattle.lingua.specs.Rows.{type_row}
 use Rattle.lingua.specs.Format.{every_below}
 use Rattle.lingua.specs.Rules.{attributes_fit, type_attributes}
-use Rattle.row_rules.proofs.Every.{every_none, every_more, every_fails, every_all}
-use Rattle.decoder.proofs.Short.{within_below}
 use Rattle.row_rules.proofs.constants.types_fit.Given as goal
 
 abbrev pub invariant-loop-r : goal.invariant-loop-r

@@ -1,7 +1,6 @@
 -- `count_wrong` meets its contract, by the kind of file. Assumes nothing.
 use Rattle.lingua.specs.Answers.{file_meaning}
 use Rattle.row_rules.proofs.Forms.{counts_limits}
-use borrow.Author.Rules.{rules}
 use Rattle.row_rules.proofs.counts.count_wrong.Goals as goal
 
 pub returns-in-Profile : goal.returns-in-Profile

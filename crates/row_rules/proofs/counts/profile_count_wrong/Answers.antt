@@ -5,7 +5,6 @@ use Prim.Native.Nat.{◌/◌}
 use Rattle.lingua.specs.Rules.{between}
 use Rattle.row_rules.proofs.Every.{fifth_1, fifth_2, fifth_3, fifth_4, fifth_5}
 use Rattle.row_rules.proofs.Forms.{counts_profile}
-use borrow.Author.Rules.{rules}
 use Rattle.row_rules.proofs.counts.profile_count_wrong.Goals as goal
 
 pub returns-then-not-in_between : goal.returns-then-not-in_between

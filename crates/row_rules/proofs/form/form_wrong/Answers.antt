@@ -8,7 +8,6 @@ use Rattle.lingua.specs.Format.{every_below}
 use Rattle.lingua.specs.Rules.{row_fits, ascending, paired, procedure_pairs, form_wrong}
 use Rattle.row_rules.proofs.Every.{fifth_1, fifth_2, fifth_3, fifth_4, fifth_5}
 use Rattle.row_rules.proofs.Forms.{own_section}
-use borrow.Author.Rules.{rules}
 use Rattle.row_rules.proofs.form.form_wrong.Goals as goal
 
 pub returns-then-not-rows_fit : goal.returns-then-not-rows_fit

@@ -1,14 +1,11 @@
-use mathlib.Core.Path.{◌≡◌, sym, ◌∙◌}
-use mathlib.Core.Bool.{true}
-use Prim.Native.Nat.{ℕ, ◌+◌, ◌-◌, ◌%◌, ◌≤◌}
+use mathlib.Core.Path.{sym, ◌∙◌}
+use Prim.Native.Nat.{ℕ, ◌+◌, ◌%◌}
 use native.Mathlib.Omega.{arith}
 use lib.Dec.{eqb}
 use borrow.Author.Tests.{eq-eqb, ne_eqb}
 use Rattle.lingua.specs.Rows.{kind_at}
-use Rattle.lingua.specs.Format.{every_below}
 use Rattle.row_rules.proofs.Every.{every_none, every_more, every_fails, every_all, both_left, both_right}
 use Rattle.row_rules.proofs.Forms.{pairs_from}
-use borrow.Author.Rules.{rules}
 use Rattle.row_rules.proofs.form.is_paired.Goals as goal
 
 pub loop-r-init : goal.loop-r-init

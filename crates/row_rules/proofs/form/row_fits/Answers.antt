@@ -6,7 +6,6 @@ use lib.ListN.{drop}
 use Rattle.lingua.specs.Answers.{file_meaning}
 use Rattle.lingua.specs.Format.{all_zero}
 use Rattle.row_rules.proofs.Forms.{row_out, row_none, row_some}
-use borrow.Author.Rules.{rules}
 use Rattle.row_rules.proofs.form.row_fits.Goals as goal
 
 pub returns-then-not-section_belongs : goal.returns-then-not-section_belongs

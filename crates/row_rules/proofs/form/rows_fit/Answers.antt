@@ -1,11 +1,9 @@
-use mathlib.Core.Path.{◌≡◌, sym, ◌∙◌}
-use mathlib.Core.Bool.{true}
-use Prim.Native.Nat.{ℕ, ◌-◌, ◌/◌, ◌≤◌}
+use mathlib.Core.Path.{sym, ◌∙◌}
+use Prim.Native.Nat.{ℕ, ◌/◌}
 use native.Mathlib.Omega.{arith}
 use lib.ListN.{length}
 use Rattle.lingua.specs.Answers.{file_meaning}
 use Rattle.lingua.specs.Rows.{row_count}
-use Rattle.lingua.specs.Format.{every_below}
 use Rattle.lingua.specs.Rules.{row_fits}
 use Rattle.row_rules.proofs.Every.{every_none, every_more, every_fails, every_all}
 use Rattle.row_rules.proofs.form.rows_fit.Goals as goal

@@ -1,15 +1,10 @@
 -- `rows_fit` meets its contract: every row that was passed fits. Assumes nothing.
-use mathlib.Core.Path.{◌≡◌, sym, ◌∙◌}
+use mathlib.Core.Path.{◌≡◌}
 use mathlib.Core.Bool.{true}
-use Prim.Native.Nat.{ℕ, ◌-◌, ◌/◌, ◌≤◌}
-use native.Mathlib.Omega.{arith}
-use lib.ListN.{length}
-use borrow.Author.Tests.{not-true, not-false}
+use Prim.Native.Nat.{◌-◌, ◌≤◌}
 use Rattle.lingua.specs.Answers.{file_meaning}
-use Rattle.lingua.specs.Rows.{row_count}
 use Rattle.lingua.specs.Format.{every_below}
 use Rattle.lingua.specs.Rules.{row_fits}
-use Rattle.row_rules.proofs.Every.{every_none, every_more, every_fails, every_all}
 use Rattle.row_rules.proofs.form.rows_fit.Given as goal
 
 abbrev pub invariant-loop-i : goal.invariant-loop-i

@@ -2,7 +2,6 @@
 use mathlib.Core.Path.{sym, ◌∙◌}
 use Rattle.lingua.specs.Answers.{file_meaning}
 use Rattle.lingua.specs.Rules.{section_belongs}
-use borrow.Author.Rules.{rules}
 use Rattle.row_rules.proofs.form.section_belongs.Goals as goal
 
 pub returns-then-in_between : goal.returns-then-in_between

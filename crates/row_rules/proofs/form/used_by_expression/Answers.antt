@@ -2,7 +2,6 @@
 use native.Mathlib.Numerals.{add-one}
 use Rattle.row_rules.specs.Form.{used_number}
 use Rattle.decoder.specs.Decoded.{expression_uses}
-use borrow.Author.Rules.{rules}
 use Rattle.row_rules.proofs.form.used_by_expression.Goals as goal
 
 pub returns-in-Unknown : goal.returns-in-Unknown

@@ -2,7 +2,6 @@
 use native.Mathlib.Numerals.{add-one}
 use Rattle.row_rules.specs.Form.{used_number}
 use Rattle.decoder.specs.Decoded.{instruction_uses}
-use borrow.Author.Rules.{rules}
 use Rattle.row_rules.proofs.form.used_by_instruction.Goals as goal
 
 pub returns-in-Unknown : goal.returns-in-Unknown

@@ -1,6 +1,5 @@
 -- `used_by_pair` meets its contract, kind by kind. Assumes nothing.
 use native.Mathlib.Omega.{arith}
-use borrow.Author.Rules.{rules}
 use Rattle.row_rules.proofs.Forms.{pair_first, pair_second, pair_other}
 use Rattle.row_rules.proofs.form.used_by_pair.Goals as goal
 

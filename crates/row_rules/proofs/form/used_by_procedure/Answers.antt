@@ -1,6 +1,5 @@
 -- `used_by_procedure` meets its contract, kind by kind. Assumes nothing.
 use native.Mathlib.Omega.{arith}
-use mathlib.Core.Path.{refl, ◌∙◌}
 use Rattle.row_rules.specs.Form.{used_number}
 use Rattle.row_rules.proofs.Forms.{procedure_kind_lem, procedure_other}
 use Rattle.row_rules.proofs.form.used_by_procedure.Goals as goal

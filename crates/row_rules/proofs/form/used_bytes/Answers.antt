@@ -7,7 +7,6 @@ use lib.ListN.{get_or}
 use Rattle.lingua.specs.Rows.{kind_at}
 use Rattle.row_rules.specs.Form.{used_number}
 use Rattle.row_rules.proofs.Forms.{used_declaration, used_type, used_expression, used_instruction, used_limit, used_procedure, used_none}
-use borrow.Author.Rules.{rules}
 use Rattle.row_rules.proofs.form.used_bytes.Goals as goal
 
 pub returns-then-section-eq-DECLARATION_SECTION : goal.returns-then-section-eq-DECLARATION_SECTION

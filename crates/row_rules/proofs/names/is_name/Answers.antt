@@ -3,7 +3,6 @@ use mathlib.Core.Path.{◌∙◌}
 use lib.ListN.{get_or}
 use borrow.Author.Tests.{eq-eqb, ne_eqb}
 use Rattle.lingua.specs.Rules.{is_name, is_capital}
-use borrow.Author.Rules.{rules}
 use Rattle.row_rules.proofs.names.is_name.Goals as goal
 
 pub returns-then-bytes-eq0 : goal.returns-then-bytes-eq0

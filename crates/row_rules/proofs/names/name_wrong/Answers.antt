@@ -6,7 +6,6 @@ use Rattle.lingua.specs.Answers.{file_meaning}
 use Rattle.lingua.specs.Rules.{names_fit, name_wrong}
 use Rattle.row_rules.specs.Form.{FewProcedures}
 use Rattle.row_rules.proofs.Forms.{own_section}
-use borrow.Author.Rules.{rules}
 use Rattle.row_rules.proofs.names.name_wrong.Goals as goal
 
 pub profile_name_wrong-requires-clause-are_tables : goal.profile_name_wrong-requires-clause-are_tables

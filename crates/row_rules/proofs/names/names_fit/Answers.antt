@@ -1,9 +1,8 @@
-use mathlib.Core.Path.{◌≡◌, sym, ap, ◌∙◌}
-use mathlib.Core.Bool.{true, ◌&&◌}
-use Prim.Native.Nat.{ℕ, ◌+◌, ◌*◌, ◌-◌, ◌/◌, ◌≤◌}
+use mathlib.Core.Path.{sym, ap, ◌∙◌}
+use mathlib.Core.Bool.{◌&&◌}
+use Prim.Native.Nat.{ℕ, ◌+◌, ◌*◌, ◌/◌}
 use native.Mathlib.Omega.{arith}
 use Rattle.lingua.specs.Rows.{bytes_at}
-use Rattle.lingua.specs.Format.{every_below}
 use Rattle.lingua.specs.Rules.{is_name, is_new}
 use Rattle.row_rules.proofs.Every.{every_none, every_more, every_fails, every_all, both_left, both_right}
 use Rattle.row_rules.proofs.Forms.{names_from}

@@ -1,14 +1,10 @@
 -- `names_fit` meets its contract: every name that was passed is a name and new. Assumes nothing.
-use mathlib.Core.Path.{◌≡◌, sym, ap, ◌∙◌}
+use mathlib.Core.Path.{◌≡◌}
 use mathlib.Core.Bool.{true, ◌&&◌}
-use Prim.Native.Nat.{ℕ, ◌+◌, ◌*◌, ◌-◌, ◌/◌, ◌≤◌}
-use native.Mathlib.Omega.{arith}
-use borrow.Author.Tests.{not-true, not-false}
+use Prim.Native.Nat.{◌+◌, ◌*◌, ◌-◌, ◌≤◌}
 use Rattle.lingua.specs.Rows.{bytes_at}
 use Rattle.lingua.specs.Format.{every_below}
 use Rattle.lingua.specs.Rules.{is_name, is_new}
-use Rattle.row_rules.proofs.Every.{every_none, every_more, every_fails, every_all, both_left, both_right}
-use Rattle.row_rules.proofs.Forms.{names_from}
 use Rattle.row_rules.proofs.names.names_fit.Given as goal
 
 abbrev pub invariant-loop-d : goal.invariant-loop-d

@@ -1,10 +1,9 @@
-use mathlib.Core.Path.{◌≡◌, sym, ap, ◌∙◌}
-use mathlib.Core.Bool.{true, not}
-use Prim.Native.Nat.{ℕ, suc, ◌-◌, ◌≤◌}
+use mathlib.Core.Path.{sym, ap, ◌∙◌}
+use mathlib.Core.Bool.{not}
+use Prim.Native.Nat.{ℕ, suc}
 use native.Mathlib.Omega.{arith}
 use Rattle.lingua.specs.Numbers.{scope_table}
 use Rattle.lingua.specs.Rows.{procedure_count}
-use Rattle.lingua.specs.Format.{every_below}
 use Rattle.lingua.specs.Rules.{names_fit, name_wrong}
 use Rattle.row_rules.proofs.Every.{every_none, every_more, every_fails, every_all}
 use Rattle.row_rules.proofs.Forms.{own_section, scope_names}

@@ -1,15 +1,10 @@
 -- `profile_name_wrong` meets its contract: the names of every scope that was passed fit. Assumes nothing.
-use mathlib.Core.Path.{◌≡◌, sym, ap, ◌∙◌}
-use mathlib.Core.Bool.{true, not}
-use Prim.Native.Nat.{ℕ, suc, ◌-◌, ◌≤◌}
-use native.Mathlib.Omega.{arith}
-use borrow.Author.Tests.{not-true, not-false}
+use mathlib.Core.Path.{◌≡◌}
+use mathlib.Core.Bool.{true}
+use Prim.Native.Nat.{suc, ◌-◌, ◌≤◌}
 use Rattle.lingua.specs.Numbers.{scope_table}
-use Rattle.lingua.specs.Rows.{procedure_count}
 use Rattle.lingua.specs.Format.{every_below}
-use Rattle.lingua.specs.Rules.{names_fit, name_wrong}
-use Rattle.row_rules.proofs.Every.{every_none, every_more, every_fails, every_all}
-use Rattle.row_rules.proofs.Forms.{own_section, scope_names}
+use Rattle.lingua.specs.Rules.{names_fit}
 use Rattle.row_rules.proofs.names.profile_name_wrong.Given as goal
 
 abbrev pub invariant-loop-s : goal.invariant-loop-s

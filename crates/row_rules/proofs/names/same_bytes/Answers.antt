@@ -1,8 +1,5 @@
-use mathlib.Core.Path.{◌≡◌, refl, sym, ◌∙◌}
-use Prim.Native.Nat.{◌-◌}
+use mathlib.Core.Path.{refl, sym, ◌∙◌}
 use native.Mathlib.Omega.{arith}
-use lib.ListN.{length, drop}
-use Rattle.lingua.specs.Compute.{same_text}
 use Rattle.decoder.proofs.Runs.{same_nil, same_step, same_fails}
 use Rattle.row_rules.proofs.names.same_bytes.Goals as goal
 

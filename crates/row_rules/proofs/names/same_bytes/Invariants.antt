@@ -1,10 +1,8 @@
 -- `same_bytes` meets its contract. The invariant: the bytes are equal where those from i on are. Assumes nothing.
-use mathlib.Core.Path.{◌≡◌, refl, sym, ◌∙◌}
+use mathlib.Core.Path.{◌≡◌}
 use Prim.Native.Nat.{◌-◌}
-use native.Mathlib.Omega.{arith}
 use lib.ListN.{length, drop}
 use Rattle.lingua.specs.Compute.{same_text}
-use Rattle.decoder.proofs.Runs.{same_nil, same_step, same_fails}
 use Rattle.row_rules.proofs.names.same_bytes.Given as goal
 
 abbrev pub invariant-loop-i : goal.invariant-loop-i

@@ -1,6 +1,5 @@
 -- `is_kind` meets its contract, test by test. Assumes nothing.
 use Rattle.row_rules.proofs.Pairing.{kind_elsewhere, kind_told}
-use borrow.Author.Rules.{rules}
 use Rattle.row_rules.proofs.pairs.is_kind.Goals as goal
 
 pub returns-then-section_at-ne-PROCEDURE_SECTION : goal.returns-then-section_at-ne-PROCEDURE_SECTION

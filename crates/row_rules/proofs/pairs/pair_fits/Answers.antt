@@ -2,7 +2,6 @@
 use native.Mathlib.Omega.{arith}
 use Rattle.lingua.specs.Rows.{row_count}
 use Rattle.row_rules.proofs.Pairing.{pair_last, pair_name, pair_other}
-use borrow.Author.Rules.{rules}
 use Rattle.row_rules.proofs.pairs.pair_fits.Goals as goal
 
 pub returns-then-i-rows : goal.returns-then-i-rows

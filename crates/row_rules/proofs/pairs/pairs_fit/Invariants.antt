@@ -1,13 +1,10 @@
 -- `pairs_fit` meets its contract: every row that was passed fits the one behind it. Assumes nothing.
-use mathlib.Core.Path.{◌≡◌, sym, ◌∙◌}
+use mathlib.Core.Path.{◌≡◌}
 use mathlib.Core.Bool.{true, ◌&&◌, beq}
-use Prim.Native.Nat.{ℕ, suc, ◌-◌, ◌≤◌}
-use native.Mathlib.Omega.{arith}
+use Prim.Native.Nat.{suc, ◌-◌, ◌≤◌}
 use lib.Dec.{ltb}
-use borrow.Author.Tests.{not-true, not-false}
 use Rattle.lingua.specs.Rows.{row_count, procedure_kind}
 use Rattle.lingua.specs.Format.{every_below}
-use Rattle.row_rules.proofs.Every.{every_none, every_more, every_fails, every_all}
 use Rattle.row_rules.proofs.pairs.pairs_fit.Given as goal
 
 abbrev pub invariant-loop-i : goal.invariant-loop-i

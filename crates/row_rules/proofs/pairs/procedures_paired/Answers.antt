@@ -1,7 +1,6 @@
 -- `procedures_paired` meets its contract: what stands between the limits and the first procedure is a row of neither. Assumes nothing.
 use mathlib.Core.Path.{◌∙◌}
 use Rattle.row_rules.proofs.Pairing.{paired_late, paired_rows}
-use borrow.Author.Rules.{rules}
 use Rattle.row_rules.proofs.pairs.procedures_paired.Goals as goal
 
 pub returns-then-heads-limits : goal.returns-then-heads-limits

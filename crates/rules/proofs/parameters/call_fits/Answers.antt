@@ -5,7 +5,6 @@ use lib.Dec.{eqb}
 use Rattle.lingua.specs.Rows.{value_count, reference_count}
 use Rattle.lingua.specs.References.{bits_above}
 use Rattle.rules.proofs.Calling.{call_at, no_call, called_at, bits_fail, bits_tell}
-use borrow.Author.Rules.{rules}
 use Rattle.rules.proofs.parameters.call_fits.Goals as goal
 
 pub procedure_at-procedure-requires-clause-are_tables : goal.procedure_at-procedure-requires-clause-are_tables

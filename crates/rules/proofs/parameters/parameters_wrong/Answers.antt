@@ -3,7 +3,6 @@ use mathlib.Core.Path.{sym, ap, ◌∙◌}
 use mathlib.Core.Bool.{not}
 use Rattle.lingua.specs.References.{parameters_wrong}
 use Rattle.row_rules.proofs.Every.{both_left, both_right}
-use borrow.Author.Rules.{rules}
 use Rattle.rules.proofs.parameters.parameters_wrong.Goals as goal
 
 pub procedures_fit-requires-clause-are_tables : goal.procedures_fit-requires-clause-are_tables

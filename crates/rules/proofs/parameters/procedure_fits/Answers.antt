@@ -1,7 +1,6 @@
 -- `procedure_fits` meets its contract, number by number. Assumes nothing.
 use native.Mathlib.Omega.{arith}
 use Rattle.rules.proofs.Calling.{values_many, references_many, variables_lack, variables_tell}
-use borrow.Author.Rules.{rules}
 use Rattle.rules.proofs.parameters.procedure_fits.Goals as goal
 
 pub procedure_at-procedure-requires-clause-are_tables : goal.procedure_at-procedure-requires-clause-are_tables

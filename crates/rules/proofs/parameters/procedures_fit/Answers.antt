@@ -1,9 +1,6 @@
-use mathlib.Core.Path.{◌≡◌, refl, sym, ap, ◌∙◌}
-use mathlib.Core.Bool.{true, false, not, ◌&&◌}
-use Prim.Native.Nat.{ℕ, suc, ◌+◌, ◌*◌, ◌-◌, ◌/◌, ◌≤◌, pred}
+use mathlib.Core.Path.{sym, ◌∙◌}
+use Prim.Native.Nat.{ℕ}
 use native.Mathlib.Omega.{arith}
-use borrow.Author.Rules.{rules}
-use Rattle.lingua.specs.Format.{every_below}
 use Rattle.row_rules.proofs.Every.{every_none, every_more, every_fails, every_all}
 use Rattle.lingua.specs.Rows.{procedure_count}
 use Rattle.lingua.specs.References.{parameters_fit}

@@ -1,13 +1,8 @@
 -- `procedures_fit` meets its contract: every procedure that was passed fits. Assumes nothing.
-use mathlib.Core.Path.{◌≡◌, refl, sym, ap, ◌∙◌}
-use mathlib.Core.Bool.{true, false, not, ◌&&◌}
-use Prim.Native.Nat.{ℕ, suc, ◌+◌, ◌*◌, ◌-◌, ◌/◌, ◌≤◌, pred}
-use native.Mathlib.Omega.{arith}
-use borrow.Author.Rules.{rules}
-use borrow.Author.Tests.{not-true, not-false}
+use mathlib.Core.Path.{◌≡◌}
+use mathlib.Core.Bool.{true}
+use Prim.Native.Nat.{◌-◌, ◌≤◌}
 use Rattle.lingua.specs.Format.{every_below}
-use Rattle.row_rules.proofs.Every.{every_none, every_more, every_fails, every_all}
-use Rattle.lingua.specs.Rows.{procedure_count}
 use Rattle.lingua.specs.References.{parameters_fit}
 use Rattle.rules.proofs.parameters.procedures_fit.Given as goal
 

@@ -1,20 +1,14 @@
 -- `declared_fit` meets its contract: every root that was passed fits. Assumes nothing.
-use mathlib.Core.Path.{◌≡◌, refl, sym, ap, ◌∙◌}
-use mathlib.Core.Bool.{true, false, not, ◌&&◌}
-use Prim.Native.Nat.{ℕ, suc, ◌+◌, ◌*◌, ◌-◌, ◌/◌, ◌≤◌, pred}
-use native.Mathlib.Omega.{arith}
-use borrow.Author.Rules.{rules}
-use borrow.Author.Tests.{not-true, not-false}
+use mathlib.Core.Path.{◌≡◌}
+use mathlib.Core.Bool.{true, not}
+use Prim.Native.Nat.{◌-◌, ◌≤◌}
 use Rattle.lingua.specs.Format.{every_below}
-use Rattle.row_rules.proofs.Every.{every_none, every_more, every_fails, every_all}
 use Rattle.lingua.specs.Numbers.{scope_table}
 use Rattle.lingua.specs.Value.{all_of}
 use Rattle.lingua.specs.Rows.{yoke_root}
 use Rattle.lingua.specs.Trees.{expression_tree}
 use Rattle.lingua.specs.References.{yoke_in}
 use Rattle.decoder.specs.Reads.{reads}
-use Rattle.rules.proofs.Refers.{yoke_in_lem}
-use Rattle.rules.proofs.Reading.{roots_to, declared_below, scope_roots}
 use Rattle.rules.proofs.places.declared_fit.Given as goal
 
 abbrev pub invariant-loop-d : goal.invariant-loop-d

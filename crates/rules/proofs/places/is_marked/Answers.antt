@@ -1,6 +1,5 @@
 -- `is_marked` meets its contract: only rows below are looked up. Assumes nothing.
 use borrow.Author.Tests.{lt-ltb, le-ltb}
-use borrow.Author.Rules.{rules}
 use Rattle.rules.proofs.places.is_marked.Goals as goal
 
 pub returns-then-a-r : goal.returns-then-a-r

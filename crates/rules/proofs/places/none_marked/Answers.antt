@@ -6,7 +6,6 @@ use lib.Dec.{ltb}
 use lib.ListN.{get_or}
 use Rattle.decoder.specs.Mentions.{listed}
 use Rattle.decoder.proofs.Short.{all_0, all_1, all_2, all_x, all_y, all_z}
-use borrow.Author.Rules.{rules}
 use Rattle.rules.proofs.places.none_marked.Goals as goal
 
 pub returns-then-count-eq0 : goal.returns-then-count-eq0

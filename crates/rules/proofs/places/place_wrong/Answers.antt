@@ -11,7 +11,6 @@ use Rattle.lingua.specs.References.{declared_roots}
 use Rattle.decoder.specs.Reads.{reads}
 use Rattle.row_rules.proofs.Every.{third_1, third_2, third_3}
 use Rattle.rules.proofs.Reading.{places_are}
-use borrow.Author.Rules.{rules}
 use Rattle.rules.proofs.places.place_wrong.Goals as goal
 
 pub scopes_fit-requires : goal.scopes_fit-requires

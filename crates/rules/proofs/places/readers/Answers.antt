@@ -1,8 +1,6 @@
-use mathlib.Core.Path.{◌≡◌, refl}
-use Prim.Native.Nat.{◌-◌, ◌≤◌}
+use mathlib.Core.Path.{refl}
 use native.Mathlib.Omega.{arith}
-use lib.ListN.{length, length-set}
-use Rattle.decoder.specs.Reads.{Marked}
+use lib.ListN.{length-set}
 use Rattle.rules.proofs.Reading.{marked_none, marked_more, marked_to}
 use Rattle.rules.proofs.places.readers.Goals as goal
 

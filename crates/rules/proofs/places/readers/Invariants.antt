@@ -1,10 +1,8 @@
 -- `readers` meets its contract: the marks of the rows that were passed are right. Assumes nothing.
-use mathlib.Core.Path.{◌≡◌, refl}
+use mathlib.Core.Path.{◌≡◌}
 use Prim.Native.Nat.{◌-◌, ◌≤◌}
-use native.Mathlib.Omega.{arith}
-use lib.ListN.{length, length-set}
+use lib.ListN.{length}
 use Rattle.decoder.specs.Reads.{Marked}
-use Rattle.rules.proofs.Reading.{marked_none, marked_more, marked_to}
 use Rattle.rules.proofs.places.readers.Given as goal
 
 abbrev pub invariant-loop-r : goal.invariant-loop-r

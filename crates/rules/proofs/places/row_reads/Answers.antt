@@ -1,13 +1,12 @@
 -- `row_reads` meets its contract, row by row. Assumes nothing.
 use mathlib.Core.Path.{◌≡◌, refl, sym}
 use mathlib.Core.Bool.{Bool, false}
-use mathlib.Core.List.{List, [], ◌∷◌}
+use mathlib.Core.List.{List}
 use Prim.Native.Nat.{ℕ}
 use Rattle.decoder.specs.Reads.{reads_row}
 use Rattle.decoder.specs.Decoded.{expression_meaning}
 use Rattle.decoder.specs.declared.decode.ExpressionRow.{ExpressionRow}
 use Rattle.decoder.specs.declared.decode.ExpressionRow.TheVariants as row
-use borrow.Author.Rules.{rules}
 use Rattle.rules.proofs.places.row_reads.Goals as goal
 
 others : (rows : List ℕ) (i : ℕ) (v : Bool) (r : ExpressionRow) → ((n : _) → r ≡ row.Variable n → ⊥) → (r ≡ row.Current → ⊥) → ((a : _) → r ≡ row.AllList a → ⊥) → reads_row v (expression_meaning rows i r) ≡ false

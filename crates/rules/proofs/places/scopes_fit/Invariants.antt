@@ -1,14 +1,9 @@
 -- `scopes_fit` meets its contract: the roots of every scope that was passed fit. Assumes nothing.
-use mathlib.Core.Path.{◌≡◌, refl, sym, ap, ◌∙◌}
-use mathlib.Core.Bool.{true, false, not, ◌&&◌}
-use Prim.Native.Nat.{ℕ, suc, ◌+◌, ◌*◌, ◌-◌, ◌/◌, ◌≤◌, pred}
-use native.Mathlib.Omega.{arith}
-use borrow.Author.Rules.{rules}
-use borrow.Author.Tests.{not-true, not-false}
+use mathlib.Core.Path.{◌≡◌}
+use mathlib.Core.Bool.{true, not}
+use Prim.Native.Nat.{suc, ◌-◌, ◌≤◌}
 use Rattle.lingua.specs.Format.{every_below}
-use Rattle.row_rules.proofs.Every.{every_none, every_more, every_fails, every_all}
 use Rattle.lingua.specs.Value.{all_of}
-use Rattle.lingua.specs.Rows.{procedure_count}
 use Rattle.lingua.specs.Trees.{expression_tree}
 use Rattle.lingua.specs.References.{declared_roots}
 use Rattle.decoder.specs.Reads.{reads}

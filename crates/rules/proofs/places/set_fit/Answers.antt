@@ -1,13 +1,11 @@
-use mathlib.Core.Path.{◌≡◌, sym, ◌∙◌}
+use mathlib.Core.Path.{sym, ◌∙◌}
 use mathlib.Core.Bool.{true, not}
-use Prim.Native.Nat.{ℕ, ◌-◌, ◌≤◌}
+use Prim.Native.Nat.{ℕ}
 use native.Mathlib.Omega.{arith}
-use borrow.Author.Rules.{rules}
 use Rattle.lingua.specs.Numbers.{instruction_section}
 use Rattle.lingua.specs.Value.{all_of}
 use Rattle.lingua.specs.Rows.{table_count, instruction_row, yoke_set}
 use Rattle.lingua.specs.Trees.{expression_tree}
-use Rattle.lingua.specs.Format.{every_below}
 use Rattle.decoder.specs.Reads.{reads}
 use Rattle.row_rules.proofs.Every.{every_none, every_more, every_fails, every_all}
 use Rattle.rules.proofs.Reading.{roots_to, set_below}

@@ -1,18 +1,12 @@
 -- `set_fit` meets its contract: every root that was passed fits. Assumes nothing.
-use mathlib.Core.Path.{◌≡◌, sym, ◌∙◌}
+use mathlib.Core.Path.{◌≡◌}
 use mathlib.Core.Bool.{true, not}
-use Prim.Native.Nat.{ℕ, ◌-◌, ◌≤◌}
-use native.Mathlib.Omega.{arith}
-use borrow.Author.Rules.{rules}
-use borrow.Author.Tests.{not-true, not-false}
-use Rattle.lingua.specs.Numbers.{instruction_section}
+use Prim.Native.Nat.{◌-◌, ◌≤◌}
 use Rattle.lingua.specs.Value.{all_of}
-use Rattle.lingua.specs.Rows.{table_count, instruction_row, yoke_set}
+use Rattle.lingua.specs.Rows.{instruction_row, yoke_set}
 use Rattle.lingua.specs.Trees.{expression_tree}
 use Rattle.lingua.specs.Format.{every_below}
 use Rattle.decoder.specs.Reads.{reads}
-use Rattle.row_rules.proofs.Every.{every_none, every_more, every_fails, every_all}
-use Rattle.rules.proofs.Reading.{roots_to, set_below}
 use Rattle.rules.proofs.places.set_fit.Given as goal
 
 abbrev pub invariant-loop-i : goal.invariant-loop-i

@@ -2,7 +2,6 @@
 use mathlib.Core.Path.{sym, ap, ◌∙◌}
 use mathlib.Core.Bool.{not}
 use Rattle.rules.proofs.Reading.{tree_itself, tree_below}
-use borrow.Author.Rules.{rules}
 use Rattle.rules.proofs.places.tree_reads.Goals as goal
 
 pub returns-then-row_reads : goal.returns-then-row_reads

@@ -1,17 +1,11 @@
 -- `bodies_refer` meets its contract: the body of every procedure that was passed is no last row. Assumes nothing.
-use mathlib.Core.Path.{◌≡◌, refl, sym, ap, ◌∙◌}
-use mathlib.Core.Bool.{true, false, not, ◌&&◌}
-use Prim.Native.Nat.{ℕ, suc, ◌+◌, ◌*◌, ◌-◌, ◌/◌, ◌≤◌, pred}
-use native.Mathlib.Omega.{arith}
-use borrow.Author.Rules.{rules}
-use borrow.Author.Tests.{not-true, not-false}
+use mathlib.Core.Path.{◌≡◌}
+use mathlib.Core.Bool.{true}
+use Prim.Native.Nat.{◌-◌, ◌≤◌, pred}
 use Rattle.lingua.specs.Format.{every_below}
-use Rattle.row_rules.proofs.Every.{every_none, every_more, every_fails, every_all}
 use lib.Dec.{ltb}
-use borrow.Author.Tests.{lt-ltb, le-ltb}
 use Rattle.lingua.specs.Numbers.{instruction_section}
-use Rattle.lingua.specs.Rows.{table_count, procedure_count, body_row}
-use Rattle.rules.proofs.Usage.{pred_is}
+use Rattle.lingua.specs.Rows.{table_count, body_row}
 use Rattle.rules.proofs.references.bodies_refer.Given as goal
 
 abbrev pub invariant-loop-k : goal.invariant-loop-k

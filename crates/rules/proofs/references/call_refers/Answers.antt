@@ -2,7 +2,6 @@
 use mathlib.Core.Path.{sym}
 use lib.Dec.{ltb}
 use Rattle.rules.proofs.Calling.{call_at, no_call}
-use borrow.Author.Rules.{rules}
 use Rattle.rules.proofs.references.call_refers.Goals as goal
 
 pub returns-in-Call : goal.returns-in-Call

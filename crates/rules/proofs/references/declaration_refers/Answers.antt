@@ -7,7 +7,6 @@ use Rattle.lingua.specs.Rows.{a_at, yoke_root}
 use Rattle.row_rules.proofs.Every.{both_left, both_right}
 use Rattle.decoder.proofs.Short.{within_below}
 use Rattle.rules.proofs.Refers.{declaration_is}
-use borrow.Author.Rules.{rules}
 use Rattle.rules.proofs.references.declaration_refers.Goals as goal
 
 pub returns-then-a_at-t : goal.returns-then-a_at-t

@@ -5,7 +5,6 @@ use Rattle.lingua.specs.Rows.{instruction_row, parts, evaluated, yoke_set}
 use Rattle.lingua.specs.References.{all_below, on_call}
 use Rattle.decoder.proofs.Short.{within_below}
 use Rattle.rules.proofs.Refers.{instruction_is, refers_1, refers_2, refers_3, refers_4}
-use borrow.Author.Rules.{rules}
 use Rattle.rules.proofs.references.instruction_refers.Goals as goal
 
 pub returns-then-not-all_within : goal.returns-then-not-all_within

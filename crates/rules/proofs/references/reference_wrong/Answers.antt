@@ -1,7 +1,6 @@
 -- `reference_wrong` meets its contract: variables are asked where all other references hold. Assumes nothing.
 use mathlib.Core.Path.{sym, ◌∙◌}
 use Rattle.rules.proofs.Refers.{rows_wrong, variables_decide}
-use borrow.Author.Rules.{rules}
 use Rattle.rules.proofs.references.reference_wrong.Goals as goal
 
 pub rows_refer-requires-clause-are_tables : goal.rows_refer-requires-clause-are_tables

@@ -7,7 +7,6 @@ use Rattle.lingua.specs.Rows.{table_count, procedure_count, body_row, type_row, 
 use Rattle.lingua.specs.Format.{every_below}
 use Rattle.lingua.specs.References.{all_below, type_parts, declarations_refer, instruction_refers, rows_refer}
 use Rattle.rules.proofs.Refers.{all_1, all_2, all_3, all_4, all_5}
-use borrow.Author.Rules.{rules}
 use Rattle.rules.proofs.references.rows_refer.Goals as goal
 
 pub scopes_refer-requires-clause-are_tables : goal.scopes_refer-requires-clause-are_tables

@@ -1,13 +1,8 @@
 -- The loop meets its contract: the declarations of every scope that was passed refer to what exists. Assumes nothing.
-use mathlib.Core.Path.{◌≡◌, refl, sym, ap, ◌∙◌}
-use mathlib.Core.Bool.{true, false, not, ◌&&◌}
-use Prim.Native.Nat.{ℕ, suc, ◌+◌, ◌*◌, ◌-◌, ◌/◌, ◌≤◌, pred}
-use native.Mathlib.Omega.{arith}
-use borrow.Author.Rules.{rules}
-use borrow.Author.Tests.{not-true, not-false}
+use mathlib.Core.Path.{◌≡◌}
+use mathlib.Core.Bool.{true}
+use Prim.Native.Nat.{suc, ◌-◌, ◌≤◌}
 use Rattle.lingua.specs.Format.{every_below}
-use Rattle.row_rules.proofs.Every.{every_none, every_more, every_fails, every_all}
-use Rattle.lingua.specs.Rows.{procedure_count}
 use Rattle.lingua.specs.References.{declarations_refer}
 use Rattle.rules.proofs.references.scopes_refer.Given as goal
 

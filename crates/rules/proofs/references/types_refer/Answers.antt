@@ -1,11 +1,8 @@
-use mathlib.Core.Path.{◌≡◌, sym, ◌∙◌}
-use mathlib.Core.Bool.{true}
-use Prim.Native.Nat.{ℕ, ◌-◌, ◌≤◌}
+use mathlib.Core.Path.{sym, ◌∙◌}
+use Prim.Native.Nat.{ℕ}
 use native.Mathlib.Omega.{arith}
-use borrow.Author.Rules.{rules}
 use Rattle.lingua.specs.Numbers.{type_section}
 use Rattle.lingua.specs.Rows.{table_count, type_row}
-use Rattle.lingua.specs.Format.{every_below}
 use Rattle.lingua.specs.References.{all_below, type_parts}
 use Rattle.row_rules.proofs.Every.{every_none, every_more, every_fails, every_all}
 use Rattle.decoder.proofs.Short.{within_below}

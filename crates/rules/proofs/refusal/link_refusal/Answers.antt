@@ -6,7 +6,6 @@ use Rattle.rules.specs.Accepted.{rows_right}
 use Rattle.rules.specs.Types.{types_ready}
 use Rattle.rules.specs.Refusals.{link_rules}
 use Rattle.rules.proofs.Lowest.{reference_applies, use_applies, place_applies, type_applies, parameters_apply, repeats_apply, links_pass, sized, refused_linked}
-use borrow.Author.Rules.{rules}
 use Rattle.rules.proofs.refusal.link_refusal.Goals as goal
 
 pub reference_wrong-requires-clause-are_tables : goal.reference_wrong-requires-clause-are_tables

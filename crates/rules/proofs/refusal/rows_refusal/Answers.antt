@@ -6,7 +6,6 @@ use native.Mathlib.Omega.{arith}
 use Rattle.lingua.specs.Answers.{file_meaning}
 use Rattle.lingua.specs.Format.{File, profile}
 use Rattle.lingua.specs.Rules.{count_wrong, constant_wrong}
-use borrow.Author.Rules.{rules}
 use Rattle.rules.proofs.refusal.rows_refusal.Goals as goal
 
 pub form_wrong-requires : goal.form_wrong-requires

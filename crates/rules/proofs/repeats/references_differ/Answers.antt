@@ -3,7 +3,6 @@ use mathlib.Core.Path.{refl, sym, ◌∙◌}
 use Rattle.lingua.specs.Trees.{given_references}
 use Rattle.lingua.specs.References.{all_different}
 use Rattle.rules.proofs.Calling.{call_at, no_call, called_at, differ_are}
-use borrow.Author.Rules.{rules}
 use Rattle.rules.proofs.repeats.references_differ.Goals as goal
 
 pub procedure_at-procedure-requires-clause-are_tables : goal.procedure_at-procedure-requires-clause-are_tables

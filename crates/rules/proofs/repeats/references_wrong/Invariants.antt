@@ -1,17 +1,11 @@
 -- `references_wrong` meets its contract: every row that was passed gives no variable twice. Assumes nothing.
-use mathlib.Core.Path.{◌≡◌, refl, sym, ap, ◌∙◌}
-use mathlib.Core.Bool.{true, false, not, ◌&&◌}
-use Prim.Native.Nat.{ℕ, suc, ◌+◌, ◌*◌, ◌-◌, ◌/◌, ◌≤◌, pred}
-use native.Mathlib.Omega.{arith}
-use borrow.Author.Rules.{rules}
-use borrow.Author.Tests.{not-true, not-false}
+use mathlib.Core.Path.{◌≡◌}
+use mathlib.Core.Bool.{true}
+use Prim.Native.Nat.{◌-◌, ◌≤◌}
 use Rattle.lingua.specs.Format.{every_below}
-use Rattle.row_rules.proofs.Every.{every_none, every_more, every_fails, every_all}
-use Rattle.lingua.specs.Numbers.{instruction_section}
-use Rattle.lingua.specs.Rows.{table_count, instruction_row}
+use Rattle.lingua.specs.Rows.{instruction_row}
 use Rattle.lingua.specs.Trees.{given_references}
-use Rattle.lingua.specs.References.{on_call, all_different, references_wrong}
-use Rattle.rules.proofs.Calling.{calls_of}
+use Rattle.lingua.specs.References.{on_call, all_different}
 use Rattle.rules.proofs.repeats.references_wrong.Given as goal
 
 abbrev pub invariant-loop-r : goal.invariant-loop-r

@@ -1,12 +1,8 @@
 -- `keep_body` meets its contract: a turn stores one byte. Assumes nothing.
-use mathlib.Core.Path.{◌≡◌, ap, ◌∙◌, refl}
-use mathlib.Core.List.{List}
-use Prim.Native.Nat.{ℕ, ◌+◌, ◌-◌, ◌*◌, ◌≤◌}
-use native.Mathlib.Omega.{arith}
-use borrow.Author.Rules.{rules}
-use lib.ListN.{length, get_or, set, length-set}
-use lib.Seq.{paste, paste-zero}
-use Rattle.rules.proofs.TypePlaces.{store_more}
+use mathlib.Core.Path.{◌≡◌}
+use Prim.Native.Nat.{◌-◌, ◌≤◌}
+use lib.ListN.{length}
+use lib.Seq.{paste}
 use Rattle.rules.proofs.types.keep_body.Given as goal
 
 abbrev pub invariant-loop-i : goal.invariant-loop-i

@@ -5,7 +5,6 @@ use Rattle.lingua.specs.Operation.{expand}
 use Rattle.body.specs.Typed.{binary_offset}
 use Rattle.decoder.specs.Decoded.{type_meaning}
 use Rattle.rules.proofs.TypeRows.{part_list, part_record, parts_expand, attribute_record, attribute_expand, held_is, answers_simple, answers_list, answers_record, answers_expand}
-use borrow.Author.Rules.{rules}
 use Rattle.rules.proofs.types.made_body.Goals as goal
 
 pub type_body-requires : goal.type_body-requires

@@ -3,7 +3,7 @@ use mathlib.Core.Path.{sym, ap, ◌∙◌}
 use native.Mathlib.Omega.{arith}
 use Rattle.lingua.specs.Encode.{bytes}
 use Rattle.body.specs.Typed.{simple_of}
-use Rattle.decoder.specs.Decoded.{type_meaning, type_decoded}
+use Rattle.decoder.specs.Decoded.{type_decoded}
 use Rattle.decoder.proofs.Decoding.{type_decoded_lem}
 use Rattle.rules.proofs.TypeRows.{row_attributes, row_parts, row_answers, unknown_answers}
 use borrow.Author.Rules.{rules}

@@ -1,9 +1,8 @@
 use mathlib.Core.Path.{◌≡◌, ap, ◌∙◌, refl}
 use mathlib.Core.List.{List}
-use Prim.Native.Nat.{ℕ, ◌+◌, ◌-◌, ◌*◌, ◌≤◌}
+use Prim.Native.Nat.{ℕ, ◌+◌, ◌*◌}
 use native.Mathlib.Omega.{arith}
-use borrow.Author.Rules.{rules}
-use lib.ListN.{length, get_or, set, drop, replicate, length-set}
+use lib.ListN.{get_or, set, drop, replicate, length-set}
 use lib.Seq.{paste, paste-zero}
 use Rattle.rules.specs.Types.{body_at}
 use Rattle.rules.proofs.TypePlaces.{copy_more, copied}

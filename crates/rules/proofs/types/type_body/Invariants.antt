@@ -1,13 +1,8 @@
 -- `type_body` meets its contract: a turn copies one byte. Assumes nothing.
-use mathlib.Core.Path.{◌≡◌, ap, ◌∙◌, refl}
-use mathlib.Core.List.{List}
-use Prim.Native.Nat.{ℕ, ◌+◌, ◌-◌, ◌*◌, ◌≤◌}
-use native.Mathlib.Omega.{arith}
-use borrow.Author.Rules.{rules}
-use lib.ListN.{length, get_or, set, drop, replicate, length-set}
-use lib.Seq.{paste, paste-zero}
-use Rattle.rules.specs.Types.{body_at}
-use Rattle.rules.proofs.TypePlaces.{copy_more, copied}
+use mathlib.Core.Path.{◌≡◌}
+use Prim.Native.Nat.{◌-◌, ◌≤◌}
+use lib.ListN.{length, drop}
+use lib.Seq.{paste}
 use Rattle.rules.proofs.types.type_body.Given as goal
 
 abbrev pub invariant-loop-i : goal.invariant-loop-i

@@ -1,8 +1,6 @@
-use mathlib.Core.Path.{◌≡◌, sym, ◌∙◌}
-use Prim.Native.Nat.{◌-◌, ◌≤◌}
+use mathlib.Core.Path.{sym, ◌∙◌}
 use native.Mathlib.Omega.{arith}
 use Rattle.laws.specs.Outcomes.{false_is_true}
-use Rattle.rules.specs.Types.{BodiesBelow}
 use Rattle.rules.proofs.TypeRows.{none_yet, one_more, row_wrong, none_wrong, all_held}
 use Rattle.rules.proofs.types.type_wrong.Goals as goal
 

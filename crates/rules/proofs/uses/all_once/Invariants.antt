@@ -1,14 +1,10 @@
 -- `all_once` meets its contract: each count that was passed is 1. Assumes nothing.
-use mathlib.Core.Path.{◌≡◌, sym, ◌∙◌}
+use mathlib.Core.Path.{◌≡◌}
 use mathlib.Core.Bool.{true}
-use Prim.Native.Nat.{ℕ, ◌-◌, ◌≤◌}
-use native.Mathlib.Omega.{arith}
-use borrow.Author.Tests.{eq-eqb, ne_eqb}
+use Prim.Native.Nat.{◌-◌, ◌≤◌}
 use lib.Dec.{eqb}
 use lib.ListN.{get_or}
 use Rattle.lingua.specs.Format.{every_below}
-use Rattle.row_rules.proofs.Every.{every_none, every_more, every_fails, every_all}
-use Rattle.rules.proofs.Usage.{once_is}
 use Rattle.rules.proofs.uses.all_once.Given as goal
 
 abbrev pub invariant-loop-r : goal.invariant-loop-r

@@ -2,7 +2,6 @@
 use mathlib.Core.List.{[]}
 use Rattle.decoder.specs.Mentions.{mentioned_by}
 use Rattle.rules.proofs.Usage.{uses_order, counted_zeros, once_to}
-use borrow.Author.Rules.{rules}
 use Rattle.rules.proofs.uses.expressions_once.Goals as goal
 
 pub note_scopes-requires-clause-are_tables : goal.note_scopes-requires-clause-are_tables

@@ -5,7 +5,6 @@ use Prim.Native.Nat.{pred}
 use Rattle.lingua.specs.References.{instruction_uses}
 use Rattle.decoder.specs.Mentions.{mentioned_by}
 use Rattle.rules.proofs.Usage.{counted_zeros, once_to, pred_is}
-use borrow.Author.Rules.{rules}
 use Rattle.rules.proofs.uses.instructions_once.Goals as goal
 
 pub note_mentioned-requires : goal.note_mentioned-requires

@@ -1,6 +1,5 @@
 -- `note` meets its contract: a first use is counted 1, each further one 2. Assumes nothing.
 use Rattle.rules.proofs.Usage.{counted_out, counted_first, counted_next}
-use borrow.Author.Rules.{rules}
 use Rattle.rules.proofs.uses.note.Goals as goal
 
 pub returns-then-used-eq0 : goal.returns-then-used-eq0

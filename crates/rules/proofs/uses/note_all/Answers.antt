@@ -2,7 +2,6 @@
 use mathlib.Core.List.{[], ◌∷◌, ◌++◌}
 use Rattle.decoder.specs.Mentions.{listed}
 use Rattle.rules.proofs.Usage.{counted_to, short_0, short_1, short_2, short_3}
-use borrow.Author.Rules.{rules}
 use Rattle.rules.proofs.uses.note_all.Goals as goal
 
 pub returns-then-count-eq0 : goal.returns-then-count-eq0

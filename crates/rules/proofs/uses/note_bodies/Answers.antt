@@ -1,10 +1,8 @@
-use mathlib.Core.List.{List, ◌++◌}
-use Prim.Native.Nat.{ℕ, ◌-◌, ◌≤◌}
+use mathlib.Core.List.{◌++◌}
+use Prim.Native.Nat.{ℕ}
 use native.Mathlib.Omega.{arith}
-use borrow.Author.Rules.{rules}
 use Rattle.lingua.specs.Rows.{procedure_count, body_row}
 use Rattle.lingua.specs.Trees.{tabulate}
-use Rattle.rules.specs.Uses.{Counted}
 use Rattle.rules.proofs.Usage.{rows_none, rows_more, rows_all}
 use Rattle.rules.proofs.uses.note_bodies.Goals as goal
 

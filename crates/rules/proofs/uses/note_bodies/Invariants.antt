@@ -1,12 +1,9 @@
 -- `note_bodies` meets its contract: the bodies of the procedures that were passed are noted. Assumes nothing.
 use mathlib.Core.List.{List, ◌++◌}
 use Prim.Native.Nat.{ℕ, ◌-◌, ◌≤◌}
-use native.Mathlib.Omega.{arith}
-use borrow.Author.Rules.{rules}
-use Rattle.lingua.specs.Rows.{procedure_count, body_row}
+use Rattle.lingua.specs.Rows.{body_row}
 use Rattle.lingua.specs.Trees.{tabulate}
 use Rattle.rules.specs.Uses.{Counted}
-use Rattle.rules.proofs.Usage.{rows_none, rows_more, rows_all}
 use Rattle.rules.proofs.uses.note_bodies.Given as goal
 
 abbrev pub invariant-loop-k : goal.invariant-loop-k

@@ -1,13 +1,11 @@
 use mathlib.Core.Path.{sym, ap, ◌∙◌}
-use mathlib.Core.List.{List, ◌++◌}
-use Prim.Native.Nat.{ℕ, ◌-◌, ◌≤◌}
+use mathlib.Core.List.{◌++◌}
+use Prim.Native.Nat.{ℕ}
 use native.Mathlib.Omega.{arith}
-use borrow.Author.Rules.{rules}
 use Rattle.lingua.specs.Rows.{pair_count, yoke_root}
 use Rattle.lingua.specs.Trees.{tabulate}
 use Rattle.lingua.specs.Typing.{joined}
 use Rattle.lingua.specs.References.{yoke_in}
-use Rattle.rules.specs.Uses.{Counted}
 use Rattle.rules.proofs.Refers.{yoke_in_lem}
 use Rattle.rules.proofs.Usage.{turn_none, turn_more, turn_all}
 use Rattle.rules.proofs.uses.note_declared.Goals as goal

@@ -1,16 +1,11 @@
 -- `note_declared` meets its contract: the uses of the rows that were passed are noted. Assumes nothing.
-use mathlib.Core.Path.{sym, ap, ◌∙◌}
 use mathlib.Core.List.{List, ◌++◌}
 use Prim.Native.Nat.{ℕ, ◌-◌, ◌≤◌}
-use native.Mathlib.Omega.{arith}
-use borrow.Author.Rules.{rules}
-use Rattle.lingua.specs.Rows.{pair_count, yoke_root}
+use Rattle.lingua.specs.Rows.{yoke_root}
 use Rattle.lingua.specs.Trees.{tabulate}
 use Rattle.lingua.specs.Typing.{joined}
 use Rattle.lingua.specs.References.{yoke_in}
 use Rattle.rules.specs.Uses.{Counted}
-use Rattle.rules.proofs.Refers.{yoke_in_lem}
-use Rattle.rules.proofs.Usage.{turn_none, turn_more, turn_all}
 use Rattle.rules.proofs.uses.note_declared.Given as goal
 
 abbrev pub invariant-loop-d : goal.invariant-loop-d

@@ -1,16 +1,11 @@
 -- `note_mentioned` meets its contract: the uses of the rows that were passed are noted. Assumes nothing.
-use mathlib.Core.Path.{◌∙◌}
 use mathlib.Core.List.{List, ◌++◌}
 use Prim.Native.Nat.{ℕ, ◌-◌, ◌≤◌}
-use native.Mathlib.Omega.{arith}
-use borrow.Author.Rules.{rules}
-use Rattle.lingua.specs.Numbers.{instruction_section}
-use Rattle.lingua.specs.Rows.{table_count, instruction_row}
+use Rattle.lingua.specs.Rows.{instruction_row}
 use Rattle.lingua.specs.Trees.{tabulate}
 use Rattle.lingua.specs.Typing.{joined}
 use Rattle.decoder.specs.Mentions.{mentioned_by}
 use Rattle.rules.specs.Uses.{Counted}
-use Rattle.rules.proofs.Usage.{mentions_alike, turn_none, turn_more, turn_all}
 use Rattle.rules.proofs.uses.note_mentioned.Given as goal
 
 abbrev pub invariant-loop-r : goal.invariant-loop-r

@@ -1,13 +1,11 @@
 use mathlib.Core.Path.{◌∙◌}
-use mathlib.Core.List.{List, ◌++◌}
-use Prim.Native.Nat.{ℕ, ◌-◌, ◌≤◌}
+use mathlib.Core.List.{◌++◌}
+use Prim.Native.Nat.{ℕ}
 use native.Mathlib.Omega.{arith}
-use borrow.Author.Rules.{rules}
 use Rattle.lingua.specs.Numbers.{expression_section}
 use Rattle.lingua.specs.Rows.{table_count, expression_row, operands}
 use Rattle.lingua.specs.Trees.{tabulate}
 use Rattle.lingua.specs.Typing.{joined}
-use Rattle.rules.specs.Uses.{Counted}
 use Rattle.rules.proofs.Usage.{turn_none, turn_more, turn_all}
 use Rattle.rules.proofs.uses.note_operands.Goals as goal
 

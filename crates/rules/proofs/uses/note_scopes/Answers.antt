@@ -1,5 +1,5 @@
-use mathlib.Core.List.{List, ◌++◌}
-use Prim.Native.Nat.{ℕ, suc, ◌-◌, ◌≤◌}
+use mathlib.Core.List.{◌++◌}
+use Prim.Native.Nat.{ℕ, suc}
 use native.Mathlib.Omega.{arith}
 use Rattle.lingua.specs.Numbers.{scope_table}
 use Rattle.lingua.specs.Rows.{procedure_count}
@@ -7,7 +7,6 @@ use Rattle.lingua.specs.Trees.{tabulate}
 use Rattle.lingua.specs.Typing.{joined}
 use Rattle.lingua.specs.References.{declared_roots}
 use Rattle.row_rules.proofs.Forms.{own_section}
-use Rattle.rules.specs.Uses.{Counted}
 use Rattle.rules.proofs.Usage.{roots_from, turn_none, turn_more, turn_all}
 use Rattle.rules.proofs.uses.note_scopes.Goals as goal
 

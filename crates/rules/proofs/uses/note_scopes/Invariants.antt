@@ -1,15 +1,10 @@
 -- `note_scopes` meets its contract: the uses of the scopes that were passed are noted. Assumes nothing.
 use mathlib.Core.List.{List, ◌++◌}
 use Prim.Native.Nat.{ℕ, suc, ◌-◌, ◌≤◌}
-use native.Mathlib.Omega.{arith}
-use Rattle.lingua.specs.Numbers.{scope_table}
-use Rattle.lingua.specs.Rows.{procedure_count}
 use Rattle.lingua.specs.Trees.{tabulate}
 use Rattle.lingua.specs.Typing.{joined}
 use Rattle.lingua.specs.References.{declared_roots}
-use Rattle.row_rules.proofs.Forms.{own_section}
 use Rattle.rules.specs.Uses.{Counted}
-use Rattle.rules.proofs.Usage.{roots_from, turn_none, turn_more, turn_all}
 use Rattle.rules.proofs.uses.note_scopes.Given as goal
 
 abbrev pub invariant-loop-s : goal.invariant-loop-s

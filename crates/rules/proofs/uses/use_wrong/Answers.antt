@@ -3,7 +3,6 @@ use mathlib.Core.Path.{sym, ap, ◌∙◌}
 use mathlib.Core.Bool.{not}
 use Rattle.lingua.specs.References.{use_wrong}
 use Rattle.row_rules.proofs.Every.{both_left, both_right}
-use borrow.Author.Rules.{rules}
 use Rattle.rules.proofs.uses.use_wrong.Goals as goal
 
 pub expressions_once-requires-clause-are_tables : goal.expressions_once-requires-clause-are_tables

@@ -1,11 +1,7 @@
-use mathlib.Core.Path.{◌≡◌, refl, sym, ap, ◌∙◌}
-use mathlib.Core.Bool.{true, false, not, ◌&&◌}
-use Prim.Native.Nat.{ℕ, suc, ◌+◌, ◌*◌, ◌-◌, ◌/◌, ◌≤◌, pred}
+use mathlib.Core.Path.{sym, ◌∙◌}
+use Prim.Native.Nat.{ℕ}
 use native.Mathlib.Omega.{arith}
-use borrow.Author.Rules.{rules}
-use Rattle.lingua.specs.Format.{every_below}
 use Rattle.row_rules.proofs.Every.{every_none, every_more, every_fails, every_all}
-use lib.ListN.{get_or}
 use Rattle.lingua.specs.Numbers.{expression_section}
 use Rattle.lingua.specs.Rows.{table_count, expression_row}
 use Rattle.lingua.specs.Trees.{expression_scope}

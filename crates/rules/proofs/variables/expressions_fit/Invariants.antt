@@ -1,19 +1,11 @@
 -- `expressions_fit` meets its contract: every row that was passed names variables of its scope. Assumes nothing.
-use mathlib.Core.Path.{◌≡◌, refl, sym, ap, ◌∙◌}
-use mathlib.Core.Bool.{true, false, not, ◌&&◌}
-use Prim.Native.Nat.{ℕ, suc, ◌+◌, ◌*◌, ◌-◌, ◌/◌, ◌≤◌, pred}
-use native.Mathlib.Omega.{arith}
-use borrow.Author.Rules.{rules}
-use borrow.Author.Tests.{not-true, not-false}
+use mathlib.Core.Path.{◌≡◌}
+use mathlib.Core.Bool.{true}
+use Prim.Native.Nat.{◌-◌, ◌≤◌}
 use Rattle.lingua.specs.Format.{every_below}
-use Rattle.row_rules.proofs.Every.{every_none, every_more, every_fails, every_all}
-use lib.ListN.{get_or}
-use Rattle.lingua.specs.Numbers.{expression_section}
-use Rattle.lingua.specs.Rows.{table_count, expression_row}
+use Rattle.lingua.specs.Rows.{expression_row}
 use Rattle.lingua.specs.Trees.{expression_scope}
 use Rattle.lingua.specs.References.{all_below, expression_variables, variables_seen}
-use Rattle.decoder.proofs.Short.{within_below}
-use Rattle.rules.proofs.Refers.{seen_to}
 use Rattle.rules.proofs.variables.expressions_fit.Given as goal
 
 abbrev pub invariant-loop-r : goal.invariant-loop-r

@@ -4,7 +4,6 @@ use mathlib.Core.List.{◌++◌}
 use Rattle.lingua.specs.Trees.{given_values, given_references}
 use Rattle.lingua.specs.References.{all_below}
 use Rattle.rules.proofs.Calling.{call_at, no_call, called_at, given_values_fail, given_references_tell}
-use borrow.Author.Rules.{rules}
 use Rattle.rules.proofs.variables.given_fit.Goals as goal
 
 pub procedure_at-procedure-requires-clause-are_tables : goal.procedure_at-procedure-requires-clause-are_tables

@@ -1,11 +1,10 @@
 -- `instruction_fits` meets its contract: the row's own variable is asked, then those that it gives. Assumes nothing.
-use mathlib.Core.Path.{sym, ap, ◌∙◌}
+use mathlib.Core.Path.{ap, ◌∙◌}
 use mathlib.Core.List.{◌++◌}
 use Rattle.lingua.specs.Trees.{given_values, given_references}
 use Rattle.lingua.specs.References.{all_below, variables_seen}
 use Rattle.decoder.proofs.Short.{within_below}
 use Rattle.rules.proofs.Calling.{calls_of, own_fails, given_tells}
-use borrow.Author.Rules.{rules}
 use Rattle.rules.proofs.variables.instruction_fits.Goals as goal
 
 pub instruction_in-row-requires-clause-table : goal.instruction_in-row-requires-clause-table

@@ -1,6 +1,5 @@
 -- `seen` meets its contract: a scope's variables stand in pairs. Assumes nothing.
 use Rattle.rules.proofs.Refers.{seen_from}
-use borrow.Author.Rules.{rules}
 use Rattle.rules.proofs.variables.seen.Goals as goal
 
 pub returns : goal.returns

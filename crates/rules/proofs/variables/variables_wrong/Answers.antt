@@ -3,7 +3,6 @@ use mathlib.Core.Path.{sym, ap, ◌∙◌}
 use mathlib.Core.Bool.{not}
 use Rattle.lingua.specs.References.{variables_wrong}
 use Rattle.row_rules.proofs.Every.{both_left, both_right}
-use borrow.Author.Rules.{rules}
 use Rattle.rules.proofs.variables.variables_wrong.Goals as goal
 
 pub instruction_scopes-owners-requires-clause-are_tables : goal.instruction_scopes-owners-requires-clause-are_tables

@@ -1,10 +1,8 @@
 -- `clear_bodies` meets its contract: the loop fills from the front. Assumes nothing.
-use mathlib.Core.Path.{◌≡◌, refl, ap, ◌∙◌}
-use mathlib.Core.List.{List, ◌++◌}
-use Prim.Native.Nat.{ℕ, ◌-◌, ◌≤◌}
-use native.Mathlib.Omega.{arith}
-use lib.ListN.{length, set, replicate, drop, length-set}
-use Rattle.run.proofs.Filling.{fill_more, filled}
+use mathlib.Core.Path.{◌≡◌}
+use mathlib.Core.List.{◌++◌}
+use Prim.Native.Nat.{◌-◌, ◌≤◌}
+use lib.ListN.{length, replicate, drop}
 use Rattle.run.proofs.bodies.clear_bodies.Given as goal
 
 abbrev pub invariant-loop-i : goal.invariant-loop-i

@@ -1,10 +1,9 @@
-use mathlib.Core.Path.{◌≡◌, sym, ap, ◌∙◌}
+use mathlib.Core.Path.{sym, ap, ◌∙◌}
 use mathlib.Core.List.{List}
-use Prim.Native.Nat.{ℕ, ◌-◌, ◌≤◌}
+use Prim.Native.Nat.{ℕ}
 use native.Mathlib.Omega.{arith}
 use lib.ListN.{length, length-replicate}
 use Rattle.lingua.specs.Numbers.{variable_bodies_length}
-use Rattle.run.specs.Kept.{BodiesKept}
 use Rattle.run.proofs.Unfilled.{few_counted}
 use Rattle.run.proofs.Keeping.{bodies_none, bodies_more, all_bodies}
 use Rattle.run.proofs.bodies.keep_bodies.Goals as goal

@@ -1,8 +1,8 @@
 use mathlib.Core.Path.{◌≡◌, refl, ap, ◌∙◌}
 use mathlib.Core.List.{List}
-use Prim.Native.Nat.{ℕ, ◌+◌, ◌-◌, ◌≤◌}
+use Prim.Native.Nat.{ℕ, ◌+◌}
 use native.Mathlib.Omega.{arith}
-use lib.ListN.{length, drop, get_or, set, length-set}
+use lib.ListN.{drop, get_or, set, length-set}
 use lib.Seq.{paste, paste-zero}
 use lib.IntN.{ℤ, pos}
 use Rattle.cells.proofs.Moves.{cell_back}

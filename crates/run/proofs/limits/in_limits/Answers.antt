@@ -6,7 +6,6 @@ use lib.ListN.{get_or}
 use mir.ValLaws.{to_z-of_z}
 use Rattle.cells.proofs.Moves.{cell_back}
 use Rattle.run.proofs.Limiting.{no_limit, limit_is, between_as}
-use borrow.Author.Rules.{rules}
 use Rattle.run.proofs.limits.in_limits.Goals as goal
 
 pub returns-then-kept-n-eq0 : goal.returns-then-kept-n-eq0

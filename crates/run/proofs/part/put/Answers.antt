@@ -1,6 +1,5 @@
 -- `put` meets its contract, by `put_is`. Assumes nothing.
 use Rattle.run.proofs.Copying.{put_is}
-use borrow.Author.Rules.{rules}
 use Rattle.run.proofs.part.put.Goals as goal
 
 pub returns-clause-cells_after : goal.returns-clause-cells_after

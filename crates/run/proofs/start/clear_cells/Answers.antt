@@ -1,11 +1,9 @@
-use mathlib.Core.Path.{◌≡◌, refl, ap, ◌∙◌}
-use mathlib.Core.List.{List, ◌++◌}
-use Prim.Native.Nat.{◌-◌, ◌≤◌}
+use mathlib.Core.Path.{refl, ap, ◌∙◌}
+use mathlib.Core.List.{List}
 use native.Mathlib.Omega.{arith}
 use lib.IntN.{ℤ, pos}
-use lib.ListN.{length, set, replicate, drop, length-set}
+use lib.ListN.{length, set, length-set}
 use Rattle.run.proofs.Filling.{fill_more, filled}
-use borrow.Author.Rules.{rules}
 use Rattle.run.proofs.start.clear_cells.Goals as goal
 
 pub loop-i-init : goal.loop-i-init

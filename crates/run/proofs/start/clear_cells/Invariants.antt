@@ -1,12 +1,9 @@
 -- `clear_cells` meets its contract: the loop fills from the front. Assumes nothing.
-use mathlib.Core.Path.{◌≡◌, refl, ap, ◌∙◌}
-use mathlib.Core.List.{List, ◌++◌}
+use mathlib.Core.Path.{◌≡◌}
+use mathlib.Core.List.{◌++◌}
 use Prim.Native.Nat.{◌-◌, ◌≤◌}
-use native.Mathlib.Omega.{arith}
-use lib.IntN.{ℤ, pos}
-use lib.ListN.{length, set, replicate, drop, length-set}
-use Rattle.run.proofs.Filling.{fill_more, filled}
-use borrow.Author.Rules.{rules}
+use lib.IntN.{pos}
+use lib.ListN.{length, replicate, drop}
 use Rattle.run.proofs.start.clear_cells.Given as goal
 
 abbrev pub invariant-loop-i : goal.invariant-loop-i

@@ -3,7 +3,6 @@ use native.Mathlib.Omega.{arith}
 use lib.ListN.{length-set}
 use Rattle.safety.specs.Accepted.{few_variables}
 use Rattle.run.proofs.Keeping.{limit_there, limit_below, owner_named, owner_room, limit_kept}
-use borrow.Author.Rules.{rules}
 use Rattle.run.proofs.start.keep_limit.Goals as goal
 
 pub bounds-owners-l : goal.bounds-owners-l

@@ -1,13 +1,10 @@
 use mathlib.Core.Path.{◌≡◌, sym, subst, ◌∙◌}
-use mathlib.Core.List.{List}
-use Prim.Native.Nat.{ℕ, ◌+◌, ◌-◌, ◌/◌, ◌≤◌}
+use Prim.Native.Nat.{ℕ}
 use native.Mathlib.Omega.{arith}
-use lib.ListN.{length}
-use Rattle.lingua.specs.Numbers.{limit_section, limit_cells_length}
+use Rattle.lingua.specs.Numbers.{limit_section}
 use Rattle.profile.proofs.Declaring.{pairs}
-use Rattle.run.specs.Kept.{LimitsFrom, Limited}
+use Rattle.run.specs.Kept.{LimitsFrom}
 use Rattle.run.proofs.Keeping.{limits_none, later_kept}
-use borrow.Author.Rules.{rules}
 use Rattle.run.proofs.start.keep_limits.Goals as goal
 
 pub loop-l-init : goal.loop-l-init

@@ -1,14 +1,10 @@
 -- `keep_limits` meets its contract: from the last row to the first, a turn is `keep_limit`. Assumes nothing.
-use mathlib.Core.Path.{◌≡◌, sym, subst, ◌∙◌}
+use mathlib.Core.Path.{◌≡◌}
 use mathlib.Core.List.{List}
-use Prim.Native.Nat.{ℕ, ◌+◌, ◌-◌, ◌/◌, ◌≤◌}
-use native.Mathlib.Omega.{arith}
+use Prim.Native.Nat.{ℕ, ◌/◌, ◌≤◌}
 use lib.ListN.{length}
-use Rattle.lingua.specs.Numbers.{limit_section, limit_cells_length}
-use Rattle.profile.proofs.Declaring.{pairs}
+use Rattle.lingua.specs.Numbers.{limit_cells_length}
 use Rattle.run.specs.Kept.{LimitsFrom, Limited}
-use Rattle.run.proofs.Keeping.{limits_none, later_kept}
-use borrow.Author.Rules.{rules}
 use Rattle.run.proofs.start.keep_limits.Given as goal
 
 abbrev pub invariant-loop-l : goal.invariant-loop-l

@@ -1,11 +1,9 @@
-use mathlib.Core.Path.{◌≡◌, sym, ap, ◌∙◌}
+use mathlib.Core.Path.{sym, ap, ◌∙◌}
 use mathlib.Core.List.{List}
-use Prim.Native.Nat.{ℕ, ◌-◌, ◌≤◌}
+use Prim.Native.Nat.{ℕ}
 use native.Mathlib.Omega.{arith}
 use lib.ListN.{length}
-use Rattle.lingua.specs.Numbers.{states_length}
 use Rattle.laws.specs.Stores.{yoke_room, yoke_length}
-use Rattle.run.specs.Kept.{YokesKept}
 use Rattle.run.proofs.Unfilled.{few_counted, states_long, yokes_none, yokes_more, all_yokes}
 use Rattle.run.proofs.start.keep_yokes.Goals as goal
 

@@ -5,7 +5,6 @@ use lib.IntN.{pos}
 use lib.ListN.{replicate}
 use Rattle.profile.specs.Variables.{own_scope}
 use Rattle.run.proofs.Keeping.{begun}
-use borrow.Author.Rules.{rules}
 use Rattle.run.proofs.start.start.Goals as goal
 
 pub keep_yokes-requires-clause-accepted_rows : goal.keep_yokes-requires-clause-accepted_rows

@@ -1,6 +1,5 @@
 -- `steps::ended` answers as the definition ends. Assumes nothing.
 use Rattle.run.proofs.Ending.{ended_out, ended_failed, ended_finished}
-use borrow.Author.Rules.{rules}
 use Rattle.run.proofs.steps.ended.Goals as goal
 
 pub returns-then-m : goal.returns-then-m

@@ -1,6 +1,5 @@
 -- `steps::settled` records an error with its place. Assumes nothing.
 use Rattle.run.proofs.Ending.{records}
-use borrow.Author.Rules.{rules}
 use Rattle.run.proofs.steps.settled.Goals as goal
 
 pub returns : goal.returns

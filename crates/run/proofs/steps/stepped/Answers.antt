@@ -1,7 +1,6 @@
 -- `steps::stepped` takes a step, or is out. Assumes nothing.
 use mathlib.Core.Path.{refl}
 use mathlib.Core.Bool.{true≢false}
-use borrow.Author.Rules.{rules}
 use Rattle.run.proofs.Ending.{steps_none, steps_one, one_more}
 use Rattle.run.proofs.steps.stepped.Goals as goal
 

@@ -1,7 +1,6 @@
 -- `set_filled` meets its contract, by what `fill_at` says. Assumes nothing.
 use mathlib.Core.Path.{refl}
 use Rattle.lingua.specs.Store.{fill_at}
-use borrow.Author.Rules.{rules}
 use Rattle.run.proofs.words.set_filled.Goals as goal
 
 pub returns : goal.returns

@@ -2,7 +2,6 @@
 use mathlib.Core.Path.{refl}
 use native.Mathlib.Omega.{arith}
 use Rattle.lingua.specs.Store.{yoke_place, yoke_at}
-use borrow.Author.Rules.{rules}
 use Rattle.run.proofs.words.yoke_of.Goals as goal
 
 pub overflow_cast-result : goal.overflow_cast-result

@@ -1,6 +1,5 @@
 -- `expression_scopes` meets its contract: roots first, then the rows' operands. Assumes nothing.
 use native.Mathlib.Omega.{arith}
-use borrow.Author.Rules.{rules}
 use Rattle.lingua.specs.Numbers.{expression_section}
 use Rattle.lingua.specs.Rows.{table_count}
 use Rattle.laws.specs.Refers.{refers}

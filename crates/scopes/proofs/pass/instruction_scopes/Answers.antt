@@ -1,6 +1,5 @@
 -- `instruction_scopes` meets its contract: bodies first, then the rows' parts. Assumes nothing.
 use native.Mathlib.Omega.{arith}
-use borrow.Author.Rules.{rules}
 use Rattle.lingua.specs.Numbers.{instruction_section}
 use Rattle.lingua.specs.Rows.{table_count}
 use Rattle.laws.specs.Refers.{refers}

@@ -1,5 +1,4 @@
 -- `mark` meets its contract: one row is no further than before, and no further than the scope. Assumes nothing.
-use borrow.Author.Rules.{rules}
 use Rattle.scopes.proofs.Marking.{marked_one}
 use Rattle.scopes.proofs.pass.mark.Goals as goal
 

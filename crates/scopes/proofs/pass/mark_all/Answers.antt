@@ -1,6 +1,5 @@
 -- `mark_all` meets its contract: the list's rows are marked in turn. Assumes nothing.
 use native.Mathlib.Omega.{arith}
-use borrow.Author.Rules.{rules}
 use Rattle.decoder.specs.Mentions.{listed}
 use Rattle.scopes.proofs.Marking.{marked_none, marked_more, marked_to, short_0, short_1, short_2, short_3, first_in, second_in, third_in}
 use Rattle.scopes.proofs.pass.mark_all.Goals as goal

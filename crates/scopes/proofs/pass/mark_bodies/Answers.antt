@@ -1,12 +1,9 @@
 use mathlib.Core.Path.{refl}
-use Prim.Native.Nat.{◌-◌, ◌≤◌}
 use native.Mathlib.Numerals.{add-one}
 use native.Mathlib.Omega.{arith}
-use borrow.Author.Rules.{rules}
 use Rattle.lingua.specs.Numbers.{instruction_section}
 use Rattle.lingua.specs.Rows.{table_count}
 use Rattle.laws.specs.Reached.{body_below}
-use Rattle.scopes.specs.Marks.{Owned}
 use Rattle.scopes.proofs.Marking.{owned_body, owned_to}
 use Rattle.scopes.proofs.pass.mark_bodies.Goals as goal
 

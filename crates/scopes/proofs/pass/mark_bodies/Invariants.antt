@@ -1,14 +1,8 @@
 -- `mark_bodies` meets its contract: the bodies of the procedures that were passed are marked. Assumes nothing.
-use mathlib.Core.Path.{refl}
 use Prim.Native.Nat.{◌-◌, ◌≤◌}
-use native.Mathlib.Numerals.{add-one}
-use native.Mathlib.Omega.{arith}
-use borrow.Author.Rules.{rules}
 use Rattle.lingua.specs.Numbers.{instruction_section}
 use Rattle.lingua.specs.Rows.{table_count}
-use Rattle.laws.specs.Reached.{body_below}
 use Rattle.scopes.specs.Marks.{Owned}
-use Rattle.scopes.proofs.Marking.{owned_body, owned_to}
 use Rattle.scopes.proofs.pass.mark_bodies.Given as goal
 
 abbrev pub invariant-loop-k : goal.invariant-loop-k

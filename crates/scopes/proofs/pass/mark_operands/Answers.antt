@@ -1,13 +1,11 @@
 use mathlib.Core.Path.{◌≡◌, refl, sym, ◌∙◌}
-use Prim.Native.Nat.{suc, ◌+◌, ◌-◌, ◌≤◌}
+use Prim.Native.Nat.{suc, ◌+◌, ◌-◌}
 use native.Mathlib.Omega.{arith}
-use borrow.Author.Rules.{rules}
 use lib.ListN.{length}
-use Rattle.lingua.specs.Numbers.{expression_section, instruction_section}
+use Rattle.lingua.specs.Numbers.{instruction_section}
 use Rattle.lingua.specs.Rows.{table_count}
 use Rattle.laws.specs.Refers.{operands_of}
 use Rattle.decoder.specs.Mentions.{listed}
-use Rattle.scopes.specs.Marks.{Used}
 use Rattle.scopes.proofs.Marking.{used_operands, used_to, within_to}
 use Rattle.scopes.proofs.pass.mark_operands.Goals as goal
 

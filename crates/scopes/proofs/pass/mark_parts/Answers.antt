@@ -1,13 +1,10 @@
 use mathlib.Core.Path.{◌≡◌, refl, sym, ◌∙◌}
-use Prim.Native.Nat.{suc, ◌-◌, ◌≤◌}
+use Prim.Native.Nat.{suc, ◌-◌}
 use native.Mathlib.Omega.{arith}
-use borrow.Author.Rules.{rules}
 use lib.ListN.{length}
-use Rattle.lingua.specs.Numbers.{instruction_section}
-use Rattle.lingua.specs.Rows.{table_count, procedure_count}
+use Rattle.lingua.specs.Rows.{procedure_count}
 use Rattle.laws.specs.Refers.{parts_of}
 use Rattle.decoder.specs.Mentions.{listed}
-use Rattle.scopes.specs.Marks.{Owned}
 use Rattle.scopes.proofs.Marking.{owned_part, owned_to, within_to}
 use Rattle.scopes.proofs.pass.mark_parts.Goals as goal
 
