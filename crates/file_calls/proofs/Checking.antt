@@ -11,7 +11,7 @@ use Rattle.lingua.specs.Numbers.{layout_length}
 use Rattle.lingua.specs.Errors.{bad_buffer}
 use Rattle.lingua.specs.Value.{all_of}
 use Rattle.lingua.specs.Format.{rows_of}
-use Rattle.lingua.specs.Refusal.{place_in, rank, lowest, file_rules, row_rules, whole_file_rules, pair_rules, type_check_refusal}
+use Rattle.lingua.specs.Refusal.{place_in, rank, file_rules, row_rules, whole_file_rules, pair_rules, type_check_refusal}
 use Rattle.lingua.specs.Trees.{profile_of}
 use Rattle.lingua.specs.Typing.{check_profile}
 use Rattle.lingua.specs.Answers.{type_check_meaning}

@@ -9,8 +9,8 @@ use lib.ListN.{take}
 use Rattle.lingua.specs.Numbers.{most_variables, declaration_section}
 use Rattle.lingua.specs.Rows.{pair_count}
 use Rattle.lingua.specs.Lookup.{Lookup, lookup, look_up}
-use Rattle.lingua.specs.Format.{profile, rows_of}
-use Rattle.lingua.specs.Refusal.{lowest, whole_file_rules, find_refusal}
+use Rattle.lingua.specs.Format.{profile}
+use Rattle.lingua.specs.Refusal.{find_refusal}
 use Rattle.lingua.specs.Answers.{answered, find_meaning}
 use Rattle.lingua.specs.declared.FindAnswer.TheVariants as find_answer
 use Rattle.lingua.specs.Calls.{find_unless, find_call}

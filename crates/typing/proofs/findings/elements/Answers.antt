@@ -2,8 +2,6 @@
 use mathlib.Core.Path.{refl, sym, subst}
 use mathlib.Core.List.{List}
 use Prim.Native.Nat.{ℕ}
-use borrow.Author.Rules.{rules}
-use borrow.Author.Tests.{not-true, not-false}
 use Rattle.lingua.specs.Operations.{unary_meaning}
 use Rattle.body.specs.Encode.{Holds}
 use Rattle.typing.proofs.Found.{current_missing, no_list, list_there}

@@ -1,6 +1,5 @@
 -- `typing::findings::together` meets its contract: each way out is one of the ways to the lower of two faults. Assumes nothing.
 use mathlib.Core.Path.{ap₂, ◌∙◌}
-use borrow.Author.Rules.{rules}
 use Rattle.typing.specs.Check.{fault_at}
 use Rattle.typing.proofs.Found.{second_alone, first_alone, second_lower, first_lower}
 use Rattle.typing.proofs.findings.together.Goals as goal

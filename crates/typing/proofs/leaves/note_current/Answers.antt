@@ -1,6 +1,4 @@
 -- `typing::leaves::note_current` meets its contract: without a body the row is not at fault, with one it is noted. Assumes nothing.
-use borrow.Author.Rules.{rules}
-use borrow.Author.Tests.{not-true, not-false}
 use Rattle.typing.proofs.Returns.{current_passes, no_current_gives}
 use Rattle.typing.proofs.leaves.note_current.Goals as goal
 

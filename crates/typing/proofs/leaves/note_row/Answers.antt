@@ -3,7 +3,6 @@ use mathlib.Core.Path.{refl, ap}
 use Prim.Native.Nat.{ℕ, ◌+◌, ◌*◌}
 use native.Mathlib.Omega.{arith}
 use lib.ListN.{set}
-use borrow.Author.Rules.{rules}
 use Rattle.typing.proofs.leaves.note_row.Goals as goal
 
 pub overflow_cast-layout : goal.overflow_cast-layout

@@ -1,14 +1,11 @@
-use borrow.Author.Rules.{rules}
-use Prim.Native.Nat.{◌+◌, ◌*◌}
 use native.Mathlib.Omega.{arith}
-use mathlib.Core.Path.{◌≡◌, refl, sym, ◌∙◌}
+use mathlib.Core.Path.{refl, sym, ◌∙◌}
 use borrow.Author.Tests.{not-true, not-false}
 use Rattle.profile.specs.Known.{row_known}
 use Rattle.profile.specs.Facts.{row_tree}
 use Rattle.typing.proofs.Rows.{RowAsks, asks_at, tree_at, asked_below, asked_variables, asked_room, asked_small}
 use Rattle.typing.proofs.Found.{passed}
 use Rattle.typing.proofs.Returns.{result_held, half_held, half_small, constant_passes, variable_passes, unary_operand, unary_own, unary_passes, two, left, right, left_held, right_held, binary_operands, binary_own, binary_passes, lazy_operands, lazy_first_own, lazy_second_own, lazy_passes, three, test, branches, choice_operands, choice_test_own, choice_own, choice_passes, listed_by, elements_held, inner, inner_held, all_list_operands, all_list_own, all_list_passes}
-use Prim.Native.Nat.{ℕ, ◌<◌}
 use Rattle.typing.proofs.walk.+all_list_binary_check_choice_lazy_unary.Goals as goal
 
 pub all_list-elements-list-requires : goal.all_list-elements-list-requires
