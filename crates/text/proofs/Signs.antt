@@ -1,25 +1,17 @@
 -- What signed numbers are put as, by their sign. Assumes nothing.
 use mathlib.Core.Path.{◌≡◌, refl, ap, subst, ◌∙◌}
 use mathlib.Core.Bool.{true, false}
-use Prim.Native.Nat.{ℕ, zero, suc, ◌<◌, ◌^◌}
+use Prim.Native.Nat.{ℕ}
 use native.Mathlib.Omega.{arith}
 use borrow.Author.Tests.{ltb-true}
 use mathlib.Core.List.{List, [], ◌∷◌, ◌++◌}
 use lib.ListN.{length}
-use lib.IntN.{ℤ, pos, negsuc, nat_abs, ◌-ℤ◌}
+use lib.IntN.{ℤ, pos, negsuc, nat_abs}
 use lib.Signed.{lt_z}
-use mir.Syntax.{w64}
-use mir.Val.{SFits}
 use Rattle.lingua.specs.Report.{decimal, signed_decimal}
 use Rattle.text.specs.Appended.{Appended}
 use Rattle.text.proofs.Texts.{append_both}
 
--- -1 less a number from 0 on
-pub minus_fits : (n : ℕ) → n < 2 ^ 63 → SFits w64 (negsuc 0 -ℤ pos n)
-minus_fits zero h = record { sfits = omega arith }
-minus_fits (suc n) h = record { sfits = omega arith }
-
--- ---- the texts
 pub text_above : (z : ℤ) → lt_z z (pos 0) ≡ false → decimal (nat_abs z) ≡ signed_decimal z
 unfolding signed_decimal
 text_above (pos n) h = refl
