@@ -34,7 +34,7 @@ pub record IsList (current : List ℤ) (body : List ℕ) (x : Composite) : Type 
 
 pub current_list : {current : List ℤ} {body : List ℕ} {x : Composite} → Current current body x → get_or body 0 0 ≡ 4 → IsList current body x
 current_list {current} {body} {x} h e =
-    let v = tags.is-list body x.body h.holds e in
+    let v = tags.is_list body x.body h.holds e in
     record { element = v.element; has = v.is; holds = v.holds; lies = subst (λ (b : Body). Lies current 0 b x.value) (is_list x.body v.element v.is) h.lies }
 
 module _ {current : List ℤ} {body inner : List ℕ} (h : HasCurrent current body) (e : get_or body 0 0 ≡ 4) (taken : (b : Body) → Holds body (list_of b) → Holds inner b) where

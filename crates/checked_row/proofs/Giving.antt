@@ -59,10 +59,10 @@ puts_truth {r} s t z h q e b n = gives_answer e (record {
 -- ---- a Boolean read from the stack
 -- of a value whose body is a Boolean's
 pub truth_zero : {s : List ℤ} {b : Body} {v : Value} → is_boolean b ≡ true → Lies s 0 b v → of_z w64 (get_or s 0 (pos 0)) ≡ 0 → as_truth v ≡ false
-truth_zero {b = b} e h z = Singles.truth-zero (lies_as (is_boolean_lem b e) h) z
+truth_zero {b = b} e h z = Singles.truth_zero (lies_as (is_boolean_lem b e) h) z
 
 pub truth_other : {s : List ℤ} {b : Body} {v : Value} → is_boolean b ≡ true → Lies s 0 b v → (of_z w64 (get_or s 0 (pos 0)) ≡ 0 → ⊥) → as_truth v ≡ true
-truth_other {b = b} e h f = Singles.truth-other (lies_as (is_boolean_lem b e) h) f
+truth_other {b = b} e h f = Singles.truth_other (lies_as (is_boolean_lem b e) h) f
 
 truth_no : (n : ℕ) (x : Composite) → is_boolean x.body ≡ false → truth_or n x ≡ fail n
 unfolding truth_or

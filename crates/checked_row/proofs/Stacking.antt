@@ -1,7 +1,7 @@
 -- The second operand is evaluated in the stack's part from cell 64 on: the first stays where it lies, and the second lies behind it.
 -- Assumes nothing.
 use mathlib.Core.List.{List, ◌++◌}
-use Prim.Native.Nat.{◌+◌, ◌≤◌}
+use Prim.Native.Nat.{◌≤◌}
 use lib.ListN.{length, take, drop}
 use lib.IntN.{ℤ}
 use Rattle.lingua.specs.Numbers.{body_cells}

@@ -1,6 +1,6 @@
 -- What a store makes of the caller's memory: a record's cells with zeros behind them and its bytes, or another value's cells alone, whose body
 -- is the one that the variable had. Assumes nothing.
-use mathlib.Core.Path.{◌≡◌, refl, sym, ap, ◌∙◌}
+use mathlib.Core.Path.{◌≡◌, sym, ap, ◌∙◌}
 use mathlib.Core.Bool.{true}
 use mathlib.Core.List.{List, ◌++◌, append_assoc}
 use mathlib.Core.Option.{none}

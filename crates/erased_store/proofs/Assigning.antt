@@ -13,7 +13,7 @@ use Rattle.lingua.specs.Numbers.{body_cells}
 use Rattle.lingua.specs.Errors.{yoke_not_satisfied}
 use Rattle.lingua.specs.Outcome.{ok, fail, Result, require, ◌>>=◌, ◌>>◌}
 use Rattle.lingua.specs.Value.{Value, as_truth, as_whole, Composite}
-use Rattle.lingua.specs.Expression.{Yoke, always}
+use Rattle.lingua.specs.Expression.{Yoke}
 use Rattle.lingua.specs.Store.{Limit, Variable, variable_at, contents, with_content, within, assigned, yoke_at, fill_at}
 use Rattle.lingua.specs.Trees.{yoke_tree}
 use Rattle.lingua.specs.Typing.{scope_bodies}

@@ -1,0 +1,93 @@
+-- `assign` meets its contract: one law of Assigning.antt for each way that it ends. Assumes nothing.
+use native.Mathlib.Omega.{arith}
+use mathlib.Core.Path.{refl}
+use Rattle.cells.proofs.Operands.{lies_long}
+use Rattle.run.proofs.Parts.{word_room, states_room, cells_room}
+use Rattle.run.proofs.Settling.{keeps}
+use Rattle.checked_store.proofs.Admitting.{no_yoke}
+use Rattle.checked_row.proofs.Storing.{memory_of, body_room, present_held}
+use Rattle.checked_store.proofs.Assigning.{here_current, copied_current, bounds_of, operand_error, not_admitted, stores}
+use Rattle.checked_store.proofs.assign.assign.Goals as goal
+
+pub returns-then-x-ne-NO_ERROR : goal.returns-then-x-ne-NO_ERROR
+returns-then-x-ne-NO_ERROR c = λ vs o w l h. keeps _ c.if-x-ne-NO_ERROR.true (operand_error vs _ h c.if-x-ne-NO_ERROR.true)
+
+pub yoke_of-requires : goal.yoke_of-requires
+yoke_of-requires c = let r = c.requires.assignable in word_room (memory_of r.running.world.stored) _ r.there
+
+pub unyoked-wrong-requires : goal.unyoked-wrong-requires
+unyoked-wrong-requires c =
+    let r = c.requires.assignable in
+    let s = r.running.world.stored in
+    record {
+      own_room = body_room s _ r.there;
+      held = record { body = _; holds = present_held s _ r.there _ refl };
+      limit_room = omega (arith, r.running.room, r.there);
+      has = record { value = _; is = here_current (r.given.gives.answer c.if-x-ne-NO_ERROR.false) };
+    }
+
+pub returns-then-wrong-ne-NO_ERROR : goal.returns-then-wrong-ne-NO_ERROR
+returns-then-wrong-ne-NO_ERROR c = λ vs o w l h.
+    let a = h.answer c.if-x-ne-NO_ERROR.false in
+    keeps _ c.if-wrong-ne-NO_ERROR.true (not_admitted vs _ a _ (c.unyoked-wrong.ensures vs _ _ (bounds_of w _ l) (no_yoke w _ l c.yoke_of.ensures c.if-yoke_of-eq0.true) (here_current a)) c.if-wrong-ne-NO_ERROR.true)
+
+pub keep-requires : goal.keep-requires
+keep-requires c =
+    let r = c.requires.assignable in
+    let s = r.running.world.stored in
+    let a = r.given.gives.answer c.if-x-ne-NO_ERROR.false in
+    record {
+      cells_room = cells_room (memory_of s) _ r.there;
+      states_room = states_room (memory_of s) _ r.there;
+      bodies_room = body_room s _ r.there;
+      narrow = omega (arith, a.cells, a.holds.few_cells);
+      long = omega (arith, a.cells, lies_long a.lies);
+    }
+
+pub returns-then-yoke_of-eq0 : goal.returns-then-yoke_of-eq0
+returns-then-yoke_of-eq0 c = λ vs o w l h.
+    let a = h.answer c.if-x-ne-NO_ERROR.false in
+    stores vs _ a _ (c.unyoked-wrong.ensures vs _ _ (bounds_of w _ l) (no_yoke w _ l c.yoke_of.ensures c.if-yoke_of-eq0.true) (here_current a)) w l c.if-wrong-ne-NO_ERROR.false _ (here_current a) c.keep.ensures
+
+pub copy-requires-clause-n_in_bounds : goal.copy-requires-clause-n_in_bounds
+copy-requires-clause-n_in_bounds c =
+    let a = c.requires.assignable.given.gives.answer c.if-x-ne-NO_ERROR.false in
+    (omega (arith, a.cells, lies_long a.lies))
+
+pub copy-requires-clause-n_in_bounds_2 : goal.copy-requires-clause-n_in_bounds_2
+copy-requires-clause-n_in_bounds_2 c =
+    let a = c.requires.assignable.given.gives.answer c.if-x-ne-NO_ERROR.false in
+    (omega (arith, a.cells, a.holds.few_cells))
+
+pub admitted-error-requires-clause-checkable : goal.admitted-error-requires-clause-checkable
+admitted-error-requires-clause-checkable c =
+    let r = c.requires.assignable in
+    (record { store = r.store; running = r.running; there = r.there; has = record { value = _; is = copied_current (r.given.gives.answer c.if-x-ne-NO_ERROR.false) _ _ c.copy.ensures } })
+
+pub admitted-error-requires-clause-count_in_bounds : goal.admitted-error-requires-clause-count_in_bounds
+admitted-error-requires-clause-count_in_bounds c =
+    let r = c.requires.assignable in
+    c.requires.count_in_bounds
+
+pub returns-then-error-ne-NO_ERROR : goal.returns-then-error-ne-NO_ERROR
+returns-then-error-ne-NO_ERROR c = λ vs o w l h.
+    let a = h.answer c.if-x-ne-NO_ERROR.false in
+    keeps _ c.if-error-ne-NO_ERROR.true (not_admitted vs _ a _ (c.admitted-error.ensures vs _ w l (copied_current a _ _ c.copy.ensures)) c.if-error-ne-NO_ERROR.true)
+
+pub keep-requires-2 : goal.keep-requires-2
+keep-requires-2 c =
+    let r = c.requires.assignable in
+    let s = r.running.world.stored in
+    let a = r.given.gives.answer c.if-x-ne-NO_ERROR.false in
+    record {
+      cells_room = cells_room (memory_of s) _ r.there;
+      states_room = states_room (memory_of s) _ r.there;
+      bodies_room = body_room s _ r.there;
+      narrow = omega (arith, a.cells, a.holds.few_cells);
+      long = omega (arith, a.cells, lies_long (copied_current a _ _ c.copy.ensures).lies);
+    }
+
+pub returns : goal.returns
+returns c = λ vs o w l h.
+    let a = h.answer c.if-x-ne-NO_ERROR.false in
+    stores vs _ a _ (c.admitted-error.ensures vs _ w l (copied_current a _ _ c.copy.ensures)) w l c.if-error-ne-NO_ERROR.false _ (copied_current a _ _ c.copy.ensures) c.keep-2.ensures

@@ -1,0 +1,62 @@
+-- `copy` meets its contract: by that of `store_within` on the variable's own cells, or with the yoke's error, or that there is no value. Assumes
+-- nothing.
+use mathlib.Core.Path.{sym, ◌∙◌}
+use native.Mathlib.Omega.{arith}
+use Rattle.run.proofs.Parts.{states_room, word_room, cells_room}
+use Rattle.run.proofs.Settling.{keeps, settles_as}
+use Rattle.erased_row.proofs.Cycle.{memory_of}
+use Rattle.erased_store.proofs.Assigning.{yoke_there, value_ready, own_admits, yoke_fails, room}
+use Rattle.erased_store.proofs.Copying.{not_copied, copied_is, given_part}
+use borrow.Author.Rules.{rules}
+use Rattle.erased_store.proofs.copy.copy.Goals as goal
+
+pub is_filled-requires : goal.is_filled-requires
+is_filled-requires c = let r = c.requires.has_copy in states_room (memory_of r.giving.world) _ r.there
+
+pub returns-then-not-is_filled : goal.returns-then-not-is_filled
+returns-then-not-is_filled c = λ p a b limits bodies vs ws v l w k q. keeps _ (λ z. omega arith) (not_copied v _ l (sym c.is_filled.ensures ∙ c.if-not-is_filled.true) ws c.args.m)
+
+pub slice_bounds-value-end : goal.slice_bounds-value-end
+slice_bounds-value-end c = let r = c.requires.has_copy in cells_room (memory_of r.giving.world) _ r.there
+
+pub yoke_of-yoke-requires : goal.yoke_of-yoke-requires
+yoke_of-yoke-requires c = let r = c.requires.has_copy in word_room (memory_of r.running.world) _ r.taking
+
+pub satisfies-error-requires-clause-ready_yoke : goal.satisfies-error-requires-clause-ready_yoke
+satisfies-error-requires-clause-ready_yoke c =
+    let r = c.requires.has_copy in
+    let y = yoke_there r.running c.args.m r.taking c.yoke_of-yoke.ensures in
+    let f = given_part r.giving c.args.n r.there (sym c.is_filled.ensures ∙ c.if-not-is_filled.false) r.same in
+    (value_ready r.running c.args.m r.taking f c.yoke_of-yoke.ensures)
+
+pub satisfies-error-requires-clause-y_le_count : goal.satisfies-error-requires-clause-y_le_count
+satisfies-error-requires-clause-y_le_count c =
+    let r = c.requires.has_copy in
+    let y = yoke_there r.running c.args.m r.taking c.yoke_of-yoke.ensures in
+    let f = given_part r.giving c.args.n r.there (sym c.is_filled.ensures ∙ c.if-not-is_filled.false) r.same in
+    y
+
+pub satisfies-error-requires-clause-y_in_bounds : goal.satisfies-error-requires-clause-y_in_bounds
+satisfies-error-requires-clause-y_in_bounds c =
+    let r = c.requires.has_copy in
+    let y = yoke_there r.running c.args.m r.taking c.yoke_of-yoke.ensures in
+    let f = given_part r.giving c.args.n r.there (sym c.is_filled.ensures ∙ c.if-not-is_filled.false) r.same in
+    (omega (arith, y, c.requires.count_in_bounds))
+
+pub returns-then-error-ne-NO_ERROR : goal.returns-then-error-ne-NO_ERROR
+returns-then-error-ne-NO_ERROR c = λ p a b limits bodies vs ws v l w k q.
+    let e = sym c.is_filled.ensures ∙ c.if-not-is_filled.false in
+    let f = given_part v c.args.n l e q in
+    keeps _ c.if-error-ne-NO_ERROR.true (sym (copied_is v c.args.n l e ws c.args.m) ∙ yoke_fails w c.args.m _ f.declared_body_lem (own_admits w c.args.m k f c.yoke_of-yoke.ensures c.satisfies-error.ensures) c.if-error-ne-NO_ERROR.true)
+
+pub store_within-requires : goal.store_within-requires
+store_within-requires c =
+    let r = c.requires.has_copy in
+    let f = given_part r.giving c.args.n r.there (sym c.is_filled.ensures ∙ c.if-not-is_filled.false) r.same in
+    room r.running c.args.m r.taking f (search rules)
+
+pub returns : goal.returns
+returns c = λ p a b limits bodies vs ws v l w k q.
+    let e = sym c.is_filled.ensures ∙ c.if-not-is_filled.false in
+    let f = given_part v c.args.n l e q in
+    settles_as (copied_is v c.args.n l e ws c.args.m) (c.store_within.ensures p b _ _ _ ws _ w k f (record { holds = (own_admits w c.args.m k f c.yoke_of-yoke.ensures c.satisfies-error.ensures).answer c.if-error-ne-NO_ERROR.false }))
