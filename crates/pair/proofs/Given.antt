@@ -1,7 +1,7 @@
 -- What a pair of files that is taken gives whoever goes on with its rows. Assumes nothing.
 use mathlib.Core.Path.{◌≡◌, sym, subst}
 use mathlib.Core.List.{List}
-use Prim.Native.Nat.{ℕ, ◌≤◌}
+use Prim.Native.Nat.{ℕ}
 use native.Mathlib.Omega.{arith}
 use lib.ListN.{length, take}
 use Rattle.lingua.specs.Numbers.{type_section, areas_length, area_bytes, type_bodies_length}

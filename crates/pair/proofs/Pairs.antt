@@ -1,6 +1,6 @@
 -- The first rule of both files: the earlier of the two files' own, then the rules of both together. Assumes nothing.
 use mathlib.Core.Path.{◌≡◌, refl, sym, ap, ap₂, ◌∙◌, subst}
-use mathlib.Core.Bool.{Bool, true, false, not, ◌&&◌}
+use mathlib.Core.Bool.{Bool, true, false, not}
 use mathlib.Core.List.{List, [], ◌∷◌, ◌++◌, append_assoc, append-nil}
 use Prim.Native.Nat.{ℕ, zero, suc, ◌<◌, ◌≤◌}
 use native.Mathlib.Omega.{arith}
@@ -12,7 +12,7 @@ use Rattle.lingua.specs.Errors.{models_differ, bad_limit}
 use Rattle.std.specs.Prelude.{if◌then◌else◌}
 use Rattle.lingua.specs.Value.{all_of}
 use Rattle.lingua.specs.Rows.{table_count, pair_count}
-use Rattle.lingua.specs.Format.{File, profile, limits, model_of, rows_of}
+use Rattle.lingua.specs.Format.{profile, limits, model_of, rows_of}
 use Rattle.lingua.specs.Refusal.{Rule, rule, rank, place_in, lowest, file_rules, row_rules, whole_file_rules, limit_wrong, pair_rules}
 use Rattle.laws.specs.Refusals.{before, lowest_nil, lowest_skip, lowest_first, Decides, first, second, decides}
 use Rattle.laws.specs.Lowest.{lesser, lowest_append}

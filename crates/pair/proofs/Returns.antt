@@ -1,7 +1,7 @@
 -- The ways in which the reader and the writer end, each by the rules that were asked. Assumes nothing.
 use mathlib.Core.Path.{◌≡◌, refl, sym, ap, ap₂, ◌∙◌, subst}
 use mathlib.Core.Bool.{Bool, true, false, not, ◌&&◌}
-use mathlib.Core.List.{List, [], ◌∷◌, ◌++◌}
+use mathlib.Core.List.{List, ◌++◌}
 use Prim.Native.Nat.{ℕ, suc, ◌*◌, ◌%◌, ◌≤◌}
 use native.Mathlib.Nat.{suc-pred-eq_of_ne-zero}
 use native.Mathlib.Omega.{arith}

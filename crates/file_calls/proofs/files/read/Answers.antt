@@ -22,8 +22,7 @@ returns-then-refusal-ne-NO_ERROR c =
     read_refused (file_meaning c.args.kind) _ _ _ c.if-rows-ne-ROWS_LENGTH.false c.take-taken.ensures.refusal c.if-refusal-ne-NO_ERROR.true
 
 pub slice_bounds-areas-end : goal.slice_bounds-areas-end
-slice_bounds-areas-end c =
-    (c.take-taken.ensures.taken c.if-refusal-ne-NO_ERROR.false).within
+slice_bounds-areas-end c = (c.take-taken.ensures.taken c.if-refusal-ne-NO_ERROR.false).within
 
 pub slice_bounds-copy_rows-end : goal.slice_bounds-copy_rows-end
 slice_bounds-copy_rows-end c =

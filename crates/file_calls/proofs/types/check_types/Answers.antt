@@ -17,8 +17,7 @@ returns-then-refusal-ne-NO_ERROR c =
     check_refused _ _ _ _ _ _ _ c.if-layout-ne-LAYOUT_LENGTH.false c.take_pair-pair.ensures c.if-refusal-ne-NO_ERROR.true
 
 pub slice_bounds-areas-end : goal.slice_bounds-areas-end
-slice_bounds-areas-end c =
-    (c.take_pair-pair.ensures.taken c.if-refusal-ne-NO_ERROR.false).within
+slice_bounds-areas-end c = (c.take_pair-pair.ensures.taken c.if-refusal-ne-NO_ERROR.false).within
 
 pub slice_bounds-check_profile-end : goal.slice_bounds-check_profile-end
 slice_bounds-check_profile-end c =
