@@ -1,5 +1,5 @@
--- Memory at a scope's start holds the variables that the definition begins with, in each way to run: `checked-begins`, `erased-begins` for any
--- scope, the profile's with its limits (`own-starts`) or a procedure's without (`procedure-starts`); and `frame-begins` for a call. Assumes
+-- Memory at a scope's start holds the variables that the definition begins with, in each way to run: `checked_begins`, `erased_begins` for any
+-- scope, the profile's with its limits (`own_starts`) or a procedure's without (`procedure_starts`); and `frame_begins` for a call. Assumes
 -- nothing.
 use Rattle.std.specs.Prelude.{◌≡◌, refl, ℕ, zero, suc, ◌*◌, ◌/◌, ◌≤◌, ◌<◌, ℤ, replicate, true}
 use Rattle.std.proofs.Common.{sym, ◌∙◌, arith}

@@ -1,5 +1,5 @@
--- An open call's variables in the area: they lie at its front, before those of the calls that it opened (`area-kept`), and each part is as long
--- as the area gives it (`holds-fills`). Assumes nothing.
+-- An open call's variables in the area: they lie at its front, before those of the calls that it opened (`area_kept`), and each part is as long
+-- as the area gives it (`holds_fills`). Assumes nothing.
 use Rattle.std.specs.Prelude.{◌≡◌, List, [], ◌∷◌, ◌++◌, ℕ, ◌+◌, ◌*◌, ◌≤◌, ℤ, pos, length, take, drop}
 use Rattle.std.proofs.Common.{sym, ap, ◌∙◌, append_assoc, arith, length-append, take-append-drop, take_all, drop_at, length-take-le}
 use Rattle.std.proofs.Math.Seq.{take-append-add, drop-append-add, take-nil, drop-nil}

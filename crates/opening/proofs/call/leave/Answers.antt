@@ -1,0 +1,44 @@
+-- `opening::call::leave` meets its contract: out of budget the variables stay open, else the references come back. Assumes nothing.
+use borrow.Author.Rules.{rules}
+use Rattle.opening.proofs.Given.{counted, few_values, few_references}
+use Rattle.opening.proofs.Leaving.{cells_fit, states_fit, present_fit, left_there, left_narrow, still_goes, back_has_facing, leaves_open, leaves_back}
+use Rattle.opening.proofs.call.leave.Goals as goal
+
+pub keep_open-requires-clause-bodies_in_bounds : goal.keep_open-requires-clause-bodies_in_bounds
+keep_open-requires-clause-bodies_in_bounds c = (present_fit c.requires.left)
+
+pub keep_open-requires-clause-cells_in_bounds : goal.keep_open-requires-clause-cells_in_bounds
+keep_open-requires-clause-cells_in_bounds c = (cells_fit c.requires.left)
+
+pub keep_open-requires-clause-states_in_bounds : goal.keep_open-requires-clause-states_in_bounds
+keep_open-requires-clause-states_in_bounds c = (states_fit c.requires.left)
+
+pub returns-then-ended : goal.returns-then-ended
+returns-then-ended c = leaves_open c.if-ended.true c.keep_open.ensures.open_cells_after c.keep_open.ensures.open_states_after c.keep_open.ensures.open_bodies_after
+
+pub procedure_in-procedure-requires-clause-heads_of : goal.procedure_in-procedure-requires-clause-heads_of
+procedure_in-procedure-requires-clause-heads_of c = c.requires.left.heads_are
+
+pub procedure_in-procedure-requires-clause-k_bound : goal.procedure_in-procedure-requires-clause-k_bound
+procedure_in-procedure-requires-clause-k_bound c = (left_there c.requires.left)
+
+pub overflow_cast-row : goal.overflow_cast-row
+overflow_cast-row c = record { fits = left_narrow c.requires.left }
+
+pub copies_out-requires-clause-has_facing : goal.copies_out-requires-clause-has_facing
+copies_out-requires-clause-has_facing c =
+    let count = counted c.procedure_in-procedure.ensures c.given-values.ensures c.given-references.ensures in
+    (back_has_facing c.requires count)
+
+pub copies_out-requires-clause-count_le_most_parameters : goal.copies_out-requires-clause-count_le_most_parameters
+copies_out-requires-clause-count_le_most_parameters c =
+    let count = counted c.procedure_in-procedure.ensures c.given-values.ensures c.given-references.ensures in
+    ((few_references count, few_values count))
+
+pub copies_out-requires-clause-going : goal.copies_out-requires-clause-going
+copies_out-requires-clause-going c =
+    let count = counted c.procedure_in-procedure.ensures c.given-values.ensures c.given-references.ensures in
+    (still_goes c.requires.left c.if-ended.false)
+
+pub returns : goal.returns
+returns c = leaves_back (counted c.procedure_in-procedure.ensures c.given-values.ensures c.given-references.ensures) c.if-ended.false c.copies_out.ensures

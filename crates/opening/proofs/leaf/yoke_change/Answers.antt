@@ -1,0 +1,31 @@
+-- `opening::leaf::yoke_change` meets its contract: passed over, out, or settled. Assumes nothing.
+use native.Mathlib.Omega.{arith}
+use Rattle.profile.specs.Facts.{instruction_row_tree}
+use Rattle.run.specs.Instructing.{change_passed, change_out, change_settled}
+use Rattle.opening.proofs.Rows.{leaf_narrow, leaf_executes, yoke_there, yoke_row, few_yokes}
+use borrow.Author.Rules.{rules}
+use Rattle.opening.proofs.leaf.yoke_change.Goals as goal
+
+pub returns-then-m-ne-NO_ERROR : goal.returns-then-m-ne-NO_ERROR
+unfolding instruction_row_tree
+returns-then-m-ne-NO_ERROR c = leaf_executes c.requires.asked_leaf c.requires.set_yoke_at (λ p b vs h k calls o. change_passed calls vs h c.requires.asked_leaf.going _ _ _ c.if-m-ne-NO_ERROR.true)
+
+pub returns-then-taken : goal.returns-then-taken
+unfolding instruction_row_tree
+returns-then-taken c = leaf_executes c.requires.asked_leaf c.requires.set_yoke_at (λ p b vs h k calls o. change_out calls vs h c.requires.asked_leaf.going _ _ _ c.stepped-taken.ensures c.if-m-ne-NO_ERROR.false c.if-taken.true)
+
+pub overflow_cast-y : goal.overflow_cast-y
+overflow_cast-y c = record { fits = few_yokes c.requires.asked_leaf c.requires.set_yoke_at }
+
+pub change_yoke-error-requires-clause-standing : goal.change_yoke-error-requires-clause-standing
+change_yoke-error-requires-clause-standing c = (record { profile = c.requires.asked_leaf.profile; scope = c.requires.asked_leaf.scope; store = c.requires.asked_leaf.store; holds = c.requires.asked_leaf.holds; of_scope = yoke_row c.requires.asked_leaf c.requires.set_yoke_at c.requires.asked_leaf.scope c.requires.asked_leaf.holds.here c.requires.asked_leaf.under; enough = c.requires.asked_leaf.enough })
+
+pub change_yoke-error-requires-clause-y_le_count : goal.change_yoke-error-requires-clause-y_le_count
+change_yoke-error-requires-clause-y_le_count c = (yoke_there c.requires.asked_leaf c.requires.set_yoke_at)
+
+pub overflow_cast-row : goal.overflow_cast-row
+overflow_cast-row c = record { fits = leaf_narrow c.requires.asked_leaf }
+
+pub returns : goal.returns
+unfolding instruction_row_tree
+returns c = leaf_executes c.requires.asked_leaf c.requires.set_yoke_at (λ p b vs h k calls o. change_settled calls vs h c.requires.asked_leaf.going _ _ _ c.stepped-taken.ensures c.if-m-ne-NO_ERROR.false _ _ c.if-taken.false (c.change_yoke-error.ensures.settles p b vs (yoke_row c.requires.asked_leaf c.requires.set_yoke_at b h.here k) h) c.settled.ensures)

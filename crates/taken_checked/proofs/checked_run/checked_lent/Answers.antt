@@ -1,0 +1,35 @@
+-- `taken_checked::checked_run::checked_lent` meets its contract: the run on what is lent behind the profile's bodies, which then come to the front.
+-- Assumes nothing.
+use mathlib.Core.Path.{refl, ap, ◌∙◌}
+use Prim.Native.Nat.{◌-◌}
+use native.Mathlib.Omega.{arith}
+use lib.ListN.{length}
+use borrow.Rule.Slice.PartMut.{same_len_mid}
+use Rattle.lingua.specs.Calls.{checked_result}
+use Rattle.taken.proofs.Calling.{lent_length, front_back}
+use borrow.Author.Rules.{rules}
+use Rattle.taken_checked.proofs.checked_run.checked_lent.Goals as goal
+
+pub slice_bounds-checked_rows-count : goal.slice_bounds-checked_rows-count
+slice_bounds-checked_rows-count c = omega (arith, c.requires.bodies_below.1)
+
+pub slice_bounds-checked_rows-start : goal.slice_bounds-checked_rows-start
+slice_bounds-checked_rows-start c = omega (arith, c.requires.bodies_below.1)
+
+pub slice_bounds-checked_rows-end-2 : goal.slice_bounds-checked_rows-end-2
+slice_bounds-checked_rows-end-2 c = omega (arith, c.requires.bodies_below.1)
+
+pub checked_rows-answer-requires-clause-startable : goal.checked_rows-answer-requires-clause-startable
+checked_rows-answer-requires-clause-startable c = c.requires.startable
+
+pub checked_rows-answer-requires-clause-are_tables : goal.checked_rows-answer-requires-clause-are_tables
+checked_rows-answer-requires-clause-are_tables c = c.requires.are_tables
+
+pub checked_rows-answer-requires-clause-bodies_below : goal.checked_rows-answer-requires-clause-bodies_below
+checked_rows-answer-requires-clause-bodies_below c = ((c.requires.bodies_below.0, (refl, omega (arith, lent_length c.args.present.now 1536, c.requires.bodies_below.1))))
+
+pub copy_front-requires : goal.copy_front-requires
+copy_front-requires c = omega (arith, c.checked_rows-answer.auto.own, same_len_mid 1536 (length c.args.present.now - 1536) c.args.present.now c.checked_rows-answer.new.area c.checked_rows-answer.auto.area, c.requires.bodies_below.1)
+
+pub returns : goal.returns
+returns c = ap (checked_result _ _) (c.copy_front.ensures ∙ front_back c.checked_rows-answer.new.own c.checked_rows-answer.new.area c.args.present.now 1536 (omega (arith, c.requires.bodies_below.1)) (omega (arith, c.checked_rows-answer.auto.own))) ∙ c.checked_rows-answer.ensures

@@ -1,0 +1,14 @@
+-- `taken_erased::erased_run::copy_table` meets its contract: the loop copies from the front. Assumes nothing.
+use mathlib.Core.Path.{◌≡◌, refl, ◌∙◌}
+use Prim.Native.Nat.{◌-◌, ◌≤◌}
+use native.Mathlib.Omega.{arith}
+use lib.ListN.{length, take, set, length-set}
+use Rattle.taken.proofs.Copying.{copy_more, copied}
+use borrow.Author.Rules.{rules}
+use Rattle.taken_erased.proofs.erased_run.copy_table.Given as goal
+
+abbrev pub invariant-loop-i : goal.invariant-loop-i
+invariant-loop-i l = (l.i ≤ 1024) × (take l.i l.layout ≡ take l.i l.table) × (length l.layout ≡ length l.initial.layout)
+
+abbrev pub decreases-loop-i : goal.decreases-loop-i
+decreases-loop-i l = 1024 - l.i
