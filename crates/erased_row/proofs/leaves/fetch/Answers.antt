@@ -1,4 +1,8 @@
+<<<<<<< HEAD
+-- `fetch` meets its contract, by `leaves_empty` and `leaves-filled`. Assumes nothing.
+=======
 -- `fetch` meets its contract, by `leaves_empty` and `leaves_filled`. Assumes nothing.
+>>>>>>> origin/main
 use mathlib.Core.Path.{sym, ◌∙◌}
 use native.Mathlib.Omega.{arith}
 use Rattle.run.proofs.Parts.{cells_room}
