@@ -5,8 +5,7 @@ use Prim.Native.Nat.{ℕ}
 use lib.ListN.{length, length-set}
 use Rattle.lingua.specs.Errors.{overflow, not_filled}
 use Rattle.lingua.specs.Outcome.{ok, ◌>>=◌}
-use Rattle.lingua.specs.Body.{number}
-use Rattle.lingua.specs.Value.{whole, in_range, Composite, composite, in_range_of}
+use Rattle.lingua.specs.Value.{Composite, in_range_of}
 use Rattle.lingua.specs.Expression.{Expression, Yoke}
 use Rattle.lingua.specs.Evaluation.{eval, no_current}
 use Rattle.lingua.specs.Store.{Variable, variable_at, contents, admitted, assigned, copied, yoke_holds, yoke_changed, with_content, with_yoke, Reading, counts_hundredths, reading_value, reading_taken}

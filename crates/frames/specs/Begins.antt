@@ -9,7 +9,7 @@ use Rattle.std.proofs.Math.Option.{Option, some, none}
 use Rattle.std.proofs.Math.IntN.{pos}
 use Rattle.std.proofs.Math.ListN.{length, get_or, length-replicate}
 use Rattle.lingua.specs.Numbers.{expression_section, instruction_section, variable_table, scope_table, cells_length, layout_length, limit_cells, limit_cells_length, most_variables}
-use Rattle.lingua.specs.Body.{number, is_quantity}
+use Rattle.lingua.specs.Body.{is_quantity}
 use Rattle.lingua.specs.Rows.{table_count, pair_count, procedure_count}
 use Rattle.lingua.specs.Store.{Limit, Variable, variable_at, present_body, cells_in, states_in, bodies_in}
 use Rattle.lingua.specs.Run.{Profile, procedure_at, begun, scope_declarations}

@@ -1,6 +1,6 @@
 -- What is done to the variables of the profile or of an open call, in each of the two ways to run: what is asked of their memory, and what it
 -- holds afterwards. Assumes nothing: these are definitions.
-use Rattle.std.specs.Prelude.{◌≡◌, List, [], ℕ, suc, ◌+◌, ◌*◌, ◌/◌, ◌≤◌, ◌<◌, ℤ, length, get_or, replicate}
+use Rattle.std.specs.Prelude.{◌≡◌, List, [], ℕ, ◌+◌, ◌*◌, ◌/◌, ◌≤◌, ◌<◌, ℤ, length, get_or, replicate}
 use Rattle.lingua.specs.Numbers.{body_cells, most_procedures, variable_bodies_length, type_section, header_table, scope_table}
 use Rattle.lingua.specs.Errors.{no_error}
 use Rattle.lingua.specs.Outcome.{Result, fail}

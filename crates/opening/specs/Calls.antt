@@ -1,8 +1,8 @@
 -- What a call asks before its body and behind it, and what it gives. Assumes nothing: these are definitions.
-use Rattle.std.specs.Prelude.{◌≡◌, List, [], ◌++◌, ℕ, suc, ◌+◌, ◌*◌, ◌≤◌, ◌<◌, ℤ, pos, length, take, drop, replicate}
+use Rattle.std.specs.Prelude.{◌≡◌, List, [], ◌++◌, ℕ, suc, ◌+◌, ◌*◌, ◌≤◌, ◌<◌, pos, length, take, drop, replicate}
 use Rattle.lingua.specs.Numbers.{body_cells, cells_length, states_length, variable_bodies_length, limit_cells_length, instruction_section}
 use Rattle.lingua.specs.Errors.{no_error}
-use Rattle.lingua.specs.Outcome.{fail, Result}
+use Rattle.lingua.specs.Outcome.{fail}
 use Rattle.lingua.specs.Rows.{table_count}
 use Rattle.lingua.specs.Store.{Variable, assigned, copied_in}
 use Rattle.lingua.specs.Run.{Progress, Profile, procedure_at, begun, returned}

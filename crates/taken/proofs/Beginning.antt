@@ -9,7 +9,7 @@ use lib.IntN.{ℤ, pos}
 use lib.ListN.{length, replicate}
 use Rattle.lingua.specs.Numbers.{declaration_section, type_section, expression_section, layout_length, open_cells_length, open_states_length, open_bodies_length}
 use Rattle.lingua.specs.Outcome.{ok}
-use Rattle.lingua.specs.Body.{number, is_quantity}
+use Rattle.lingua.specs.Body.{is_quantity}
 use Rattle.lingua.specs.Rows.{table_count, pair_count}
 use Rattle.lingua.specs.Store.{Limit, Variable, variable_at, present_body}
 use Rattle.lingua.specs.Typing.{Entry, bodies_of, check_profile, layout_of}

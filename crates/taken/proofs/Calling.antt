@@ -17,7 +17,7 @@ use Rattle.lingua.specs.Trees.{profile_of}
 use Rattle.lingua.specs.Format.{rows_of}
 use Rattle.lingua.specs.Inputs.{Inputs, Buffers, buffers}
 use Rattle.lingua.specs.Refusal.{checked_refusal, erased_refusal}
-use Rattle.lingua.specs.Answers.{refused, run_meaning}
+use Rattle.lingua.specs.Answers.{run_meaning}
 use Rattle.lingua.specs.declared.RunAnswer.{RunAnswer}
 use Rattle.lingua.specs.declared.RunAnswer.TheVariants as run_answer
 use Rattle.lingua.specs.Calls.{RunCall, readings_of, ran, run_of, with_bodies, checked_unless, checked_call, with_layout, erased_unless, erased_call, run_result, checked_result, erased_result}

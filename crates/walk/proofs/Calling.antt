@@ -1,30 +1,30 @@
 -- A call by the ways in which its code ends: passed over, out, too deep, a copy in that failed, or as its body and what comes behind it leave the
 -- run. Assumes nothing.
-use mathlib.Core.Path.{◌≡◌, refl, sym, ap, ◌∙◌, subst}
+use mathlib.Core.Path.{◌≡◌, refl, ap, ◌∙◌}
 use mathlib.Core.Bool.{true, false}
-use mathlib.Core.List.{List, [], ◌∷◌, ◌++◌}
-use Prim.Native.Nat.{ℕ, zero, suc, ◌+◌, ◌-◌, ◌*◌, ◌≤◌, ◌<◌}
+use mathlib.Core.List.{List}
+use Prim.Native.Nat.{ℕ, suc, ◌-◌, ◌*◌, ◌<◌}
 use native.Mathlib.Omega.{arith}
-use lib.ListN.{length, get_or, drop, length-drop}
+use lib.ListN.{length, drop, length-drop}
 use Rattle.lingua.specs.Numbers.{cells_length, states_length, variable_bodies_length}
 use Rattle.lingua.specs.Errors.{too_deep}
 use Rattle.lingua.specs.Outcome.{ok, fail, Result}
 use Rattle.lingua.specs.Rows.{procedure_count, body_row}
 use Rattle.lingua.specs.Expression.{call, Instruction}
 use Rattle.lingua.specs.Store.{Variable, assigned, copied_in}
-use Rattle.lingua.specs.Run.{State, Progress, going, with_store, with_error, Calling, exec, Procedure, procedure_at, no_procedure, returned, opened, called, Profile}
-use Rattle.lingua.specs.Trees.{instruction_tree, body_tree, procedure_of, given_values, given_references}
+use Rattle.lingua.specs.Run.{Progress, going, with_error, Calling, exec, Procedure, procedure_at, no_procedure, returned, opened, called, Profile}
+use Rattle.lingua.specs.Trees.{instruction_tree, procedure_of, given_values, given_references}
 use Rattle.safety.specs.Every.{tabulate_at}
 use Rattle.run.specs.declared.steps.Status.{Status}
-use Rattle.run.specs.Statuses.{state_of, progress_of, StepOf, recorded}
-use Rattle.run.specs.Reached.{Lent, lent, Holding, Going, StoredAs, Settles, Reached}
-use Rattle.run.specs.Acting.{still_going, clean_after, passed_over, act_out, act_on, stays, reaches_as, settles}
+use Rattle.run.specs.Statuses.{state_of, StepOf, recorded}
+use Rattle.run.specs.Reached.{Lent, Holding, Going, Reached}
+use Rattle.run.specs.Acting.{clean_after, passed_over, act_out, act_on, stays, reaches_as, settles}
 use Rattle.frames.specs.declared.way.Way.{Way}
 use Rattle.frames.specs.declared.way.Way.TheVariants as way
-use Rattle.frames.specs.Meaning.{Context, Holds, procedures_in, CallableBy, Callable, TypesKept, WhollyPassed}
-use Rattle.opening.specs.Meaning.{Setting, AreaBodies, AreaOf}
-use Rattle.opening.specs.Calls.{unlimited, fresh_of, given_all, Calls, Enters, rest, bodies_of_call}
-use Rattle.walk.specs.Meaning.{calling, Stands}
+use Rattle.frames.specs.Meaning.{Context, procedures_in, CallableBy, Callable}
+use Rattle.opening.specs.Meaning.{AreaBodies, AreaOf}
+use Rattle.opening.specs.Calls.{unlimited, fresh_of, given_all, rest, bodies_of_call}
+use Rattle.walk.specs.Meaning.{calling}
 
 -- ---- the instruction
 module _ (calls : Calling) {M : Holding} {o l : Lent} (vs : List Variable) (w : M l vs) {m : Status} (g : Going m) (row k : ℕ) (ns rs : List ℕ) where

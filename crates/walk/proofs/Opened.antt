@@ -1,9 +1,9 @@
 -- A call for which there is room, by what its parts ask and give: its variables before the body, the body on them with a shorter area, and what
 -- comes behind it. Assumes nothing.
-use mathlib.Core.Path.{◌≡◌, refl, sym, ap, ◌∙◌, subst}
+use mathlib.Core.Path.{◌≡◌, sym, ap, ◌∙◌, subst}
 use mathlib.Core.Bool.{false}
 use mathlib.Core.List.{List, [], ◌++◌, append-nil}
-use Prim.Native.Nat.{ℕ, zero, suc, ◌+◌, ◌-◌, ◌*◌, ◌≤◌, ◌<◌}
+use Prim.Native.Nat.{ℕ, zero, suc, ◌+◌, ◌-◌, ◌≤◌, ◌<◌}
 use native.Mathlib.Omega.{arith}
 use lib.IntN.{ℤ}
 use lib.ListN.{length, take, drop, replicate, length-replicate, length-append, length-drop, take-append-drop}
@@ -13,7 +13,7 @@ use Rattle.lingua.specs.Numbers.{cells_length, states_length, variable_bodies_le
 use Rattle.lingua.specs.Errors.{no_error, too_deep}
 use Rattle.lingua.specs.Rows.{table_count, procedure_count, body_row}
 use Rattle.lingua.specs.Store.{Variable, assigned, copied_in}
-use Rattle.lingua.specs.Run.{Progress, Profile, exec}
+use Rattle.lingua.specs.Run.{Profile, exec}
 use Rattle.lingua.specs.Trees.{instruction_tree, given_values, given_references}
 use Rattle.rules.specs.Accepted.{counts}
 use Rattle.profile.specs.Facts.{InstructionFacts}
@@ -24,9 +24,9 @@ use Rattle.run.specs.Reached.{Lent, lent, Holding, Going, StoredAs, Reached}
 use Rattle.run.specs.Acting.{reaches_as}
 use Rattle.frames.specs.declared.way.Way.{Way}
 use Rattle.frames.specs.declared.way.Way.TheVariants as way
-use Rattle.frames.specs.Meaning.{Context, Holds, HeadsOf}
+use Rattle.frames.specs.Meaning.{Holds, HeadsOf}
 use Rattle.frames.specs.Kept.{BodiesAre, holds_fills}
-use Rattle.opening.specs.Meaning.{Setting, AreaBodies, AreaOf, Under}
+use Rattle.opening.specs.Meaning.{Setting, AreaBodies, AreaOf}
 use Rattle.opening.specs.Calls.{unlimited, fresh_of, given_all, Calls, Calling, ZeroBodies, ZerosBy, Enters, rest, with_rest, bodies_of_call, Left, Leaving, Leaves}
 use Rattle.opening.proofs.Rows.{holds_accepted, scope_row_lem, root_under}
 use Rattle.walk.specs.Meaning.{calling, Stands, Asked, Executes, Opening, Zeros, Opens}

@@ -7,7 +7,7 @@ use native.Mathlib.Omega.{arith}
 use Rattle.lingua.specs.Numbers.{instruction_section}
 use Rattle.lingua.specs.Rows.{table_count}
 use Rattle.lingua.specs.Store.{Variable, Reading, cells_in, states_in}
-use Rattle.lingua.specs.Run.{State, Progress, going, last_state, open_calls, exec, begun, started, take_readings, run}
+use Rattle.lingua.specs.Run.{State, Progress, last_state, open_calls, exec, begun, started, take_readings, run}
 use Rattle.lingua.specs.Trees.{instruction_tree, profile_of}
 use Rattle.lingua.specs.Inputs.{buffers}
 use Rattle.lingua.specs.Answers.{answered, run_meaning}

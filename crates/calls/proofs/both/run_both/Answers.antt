@@ -2,7 +2,6 @@
 use mathlib.Core.Path.{refl}
 use Rattle.pair.proofs.Given.{room_there}
 use Rattle.calls.proofs.Agreeing.{both_run}
-use borrow.Author.Rules.{rules}
 use Rattle.calls.proofs.both.run_both.Goals as goal
 
 pub take_pair-pair-requires : goal.take_pair-pair-requires

@@ -2,7 +2,6 @@
 use mathlib.Core.Path.{refl}
 use Rattle.safety.specs.TwoRuns.{checked_holds}
 use Rattle.pair.proofs.Given.{room_there}
-use borrow.Author.Rules.{rules}
 use Rattle.calls.proofs.checked_run.run_checked.Goals as goal
 
 pub take_pair-pair-requires : goal.take_pair-pair-requires

@@ -1,7 +1,6 @@
 -- `calls::erased_run::run_erased` meets its contract: both files taken, and the run of what was taken. Assumes nothing.
 use mathlib.Core.Path.{refl}
 use Rattle.pair.proofs.Given.{room_there}
-use borrow.Author.Rules.{rules}
 use Rattle.calls.proofs.erased_run.run_erased.Goals as goal
 
 pub take_pair-pair-requires : goal.take_pair-pair-requires

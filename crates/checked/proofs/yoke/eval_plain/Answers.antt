@@ -1,5 +1,5 @@
 <<<<<<< HEAD
--- `eval_plain` meets its contract: a Boolean stands for the current value, by `none-current`. Assumes nothing.
+-- `eval_plain` meets its contract: a Boolean stands for the current value, by `none_current`. Assumes nothing.
 =======
 -- `eval_plain` meets its contract: a Boolean stands for the current value, by `none_current`. Assumes nothing.
 >>>>>>> origin/main

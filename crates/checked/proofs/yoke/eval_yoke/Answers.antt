@@ -1,5 +1,5 @@
 <<<<<<< HEAD
--- `eval_yoke` meets its contract, by `always-true` and `yoke-row`. Assumes nothing.
+-- `eval_yoke` meets its contract, by `always_true` and `yoke_row`. Assumes nothing.
 =======
 -- `eval_yoke` meets its contract, by `always_true` and `yoke_row`. Assumes nothing.
 >>>>>>> origin/main

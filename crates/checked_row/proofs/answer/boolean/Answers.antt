@@ -1,5 +1,5 @@
 <<<<<<< HEAD
--- `boolean` meets its contract, by `puts-truth`. Assumes nothing.
+-- `boolean` meets its contract, by `puts_truth`. Assumes nothing.
 =======
 -- `boolean` meets its contract, by `puts_truth`. Assumes nothing.
 >>>>>>> origin/main

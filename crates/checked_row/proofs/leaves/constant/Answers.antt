@@ -1,5 +1,5 @@
 <<<<<<< HEAD
--- `constant` meets its contract, by `gives-constant`. Assumes nothing.
+-- `constant` meets its contract, by `gives_constant`. Assumes nothing.
 =======
 -- `constant` meets its contract, by `gives_constant`. Assumes nothing.
 >>>>>>> origin/main

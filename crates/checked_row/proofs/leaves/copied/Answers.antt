@@ -1,5 +1,5 @@
 <<<<<<< HEAD
--- `copied` meets its contract, by `gives-current`. Assumes nothing.
+-- `copied` meets its contract, by `gives_current`. Assumes nothing.
 =======
 -- `copied` meets its contract, by `gives_current`. Assumes nothing.
 >>>>>>> origin/main

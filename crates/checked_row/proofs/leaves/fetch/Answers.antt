@@ -1,5 +1,5 @@
 <<<<<<< HEAD
--- `fetch` meets its contract, by `gives-variable`. Assumes nothing.
+-- `fetch` meets its contract, by `gives_variable`. Assumes nothing.
 =======
 -- `fetch` meets its contract, by `gives_variable`. Assumes nothing.
 >>>>>>> origin/main

@@ -1,5 +1,5 @@
 <<<<<<< HEAD
--- `present` meets its contract: a turn of the loop is `bytes-turn`. Assumes nothing.
+-- `present` meets its contract: a turn of the loop is `bytes_turn`. Assumes nothing.
 =======
 -- `present` meets its contract: a turn of the loop is `bytes_turn`. Assumes nothing.
 >>>>>>> origin/main

@@ -1,5 +1,5 @@
 <<<<<<< HEAD
--- `simple_tag` meets its contract, by `simple-is`. Assumes nothing.
+-- `simple_tag` meets its contract, by `simple_is`. Assumes nothing.
 =======
 -- `simple_tag` meets its contract, by `simple_is`. Assumes nothing.
 >>>>>>> origin/main

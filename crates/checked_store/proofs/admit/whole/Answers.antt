@@ -1,5 +1,5 @@
 <<<<<<< HEAD
--- `whole` meets its contract, by `whole_is` and `other-whole`. Assumes nothing.
+-- `whole` meets its contract, by `whole_is` and `other_whole`. Assumes nothing.
 =======
 -- `whole` meets its contract, by `whole_is` and `other_whole`. Assumes nothing.
 >>>>>>> origin/main

@@ -1,5 +1,5 @@
 <<<<<<< HEAD
--- `change_yoke` meets its contract, by `not-changed` and `changed`. Assumes nothing.
+-- `change_yoke` meets its contract, by `not_changed` and `changed`. Assumes nothing.
 =======
 -- `change_yoke` meets its contract, by `not_changed` and `changed`. Assumes nothing.
 >>>>>>> origin/main

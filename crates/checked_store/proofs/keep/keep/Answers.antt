@@ -1,5 +1,5 @@
 <<<<<<< HEAD
--- `keep` meets its contract: a record by `record-stored`, any other value by `other-stored`. Assumes nothing.
+-- `keep` meets its contract: a record by `record_stored`, any other value by `other_stored`. Assumes nothing.
 =======
 -- `keep` meets its contract: a record by `record_stored`, any other value by `other_stored`. Assumes nothing.
 >>>>>>> origin/main

@@ -1,5 +1,5 @@
 <<<<<<< HEAD
--- `eval_plain` meets its contract: a Boolean stands for the current value, by `plain-evaluates`. Assumes nothing.
+-- `eval_plain` meets its contract: a Boolean stands for the current value, by `plain_evaluates`. Assumes nothing.
 =======
 -- `eval_plain` meets its contract: a Boolean stands for the current value, by `plain_evaluates`. Assumes nothing.
 >>>>>>> origin/main

@@ -1,5 +1,5 @@
 <<<<<<< HEAD
--- `eval_yoke` meets its contract, by `always-evaluates` and `yoke-evaluates`. Assumes nothing.
+-- `eval_yoke` meets its contract, by `always_evaluates` and `yoke_evaluates`. Assumes nothing.
 =======
 -- `eval_yoke` meets its contract, by `always_evaluates` and `yoke_evaluates`. Assumes nothing.
 >>>>>>> origin/main

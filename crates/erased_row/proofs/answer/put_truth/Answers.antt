@@ -1,5 +1,5 @@
 <<<<<<< HEAD
--- `put_truth` meets its contract, by `put-truth`. Assumes nothing.
+-- `put_truth` meets its contract, by `put_truth`. Assumes nothing.
 =======
 -- `put_truth` meets its contract, by `put_truth`. Assumes nothing.
 >>>>>>> origin/main

@@ -1,5 +1,5 @@
 <<<<<<< HEAD
--- `constant` meets its contract, by `leaves-constant`. Assumes nothing.
+-- `constant` meets its contract, by `leaves_constant`. Assumes nothing.
 =======
 -- `constant` meets its contract, by `leaves_constant`. Assumes nothing.
 >>>>>>> origin/main

@@ -1,5 +1,5 @@
 <<<<<<< HEAD
--- `copied` meets its contract, by `leaves-current`. Assumes nothing.
+-- `copied` meets its contract, by `leaves_current`. Assumes nothing.
 =======
 -- `copied` meets its contract, by `leaves_current`. Assumes nothing.
 >>>>>>> origin/main

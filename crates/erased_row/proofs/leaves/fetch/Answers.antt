@@ -1,5 +1,5 @@
 <<<<<<< HEAD
--- `fetch` meets its contract, by `leaves_empty` and `leaves-filled`. Assumes nothing.
+-- `fetch` meets its contract, by `leaves_empty` and `leaves_filled`. Assumes nothing.
 =======
 -- `fetch` meets its contract, by `leaves_empty` and `leaves_filled`. Assumes nothing.
 >>>>>>> origin/main

@@ -1,5 +1,5 @@
 <<<<<<< HEAD
--- `binary` meets its contract, by `handed-on`, `second-error` and `binary-leaves`. Assumes nothing.
+-- `binary` meets its contract, by `handed_on`, `second_error` and `binary_leaves`. Assumes nothing.
 =======
 -- `binary` meets its contract, by `handed_on`, `second_error` and `binary_leaves`. Assumes nothing.
 >>>>>>> origin/main

@@ -1,5 +1,5 @@
 <<<<<<< HEAD
--- `unary` meets its contract, by `handed-on` and `unary-leaves`. Assumes nothing.
+-- `unary` meets its contract, by `handed_on` and `unary_leaves`. Assumes nothing.
 =======
 -- `unary` meets its contract, by `handed_on` and `unary_leaves`. Assumes nothing.
 >>>>>>> origin/main

@@ -1,5 +1,5 @@
 <<<<<<< HEAD
--- `concluded` meets its contract, by `seen-error` and `seen_all`. Assumes nothing.
+-- `concluded` meets its contract, by `seen_error` and `seen_all`. Assumes nothing.
 =======
 -- `concluded` meets its contract, by `seen_error` and `seen_all`. Assumes nothing.
 >>>>>>> origin/main

@@ -1,9 +1,9 @@
-use mathlib.Core.Path.{◌≡◌, refl, ap, ◌∙◌}
+use mathlib.Core.Path.{refl, ap, ◌∙◌}
 use mathlib.Core.List.{List}
-use Prim.Native.Nat.{ℕ, ◌-◌, ◌≤◌}
+use Prim.Native.Nat.{ℕ}
 use native.Mathlib.Omega.{arith}
-use lib.ListN.{length, get_or, set, length-set}
-use lib.Seq.{paste, paste-zero}
+use lib.ListN.{get_or, set, length-set}
+use lib.Seq.{paste-zero}
 use Rattle.frames.proofs.Fronts.{front_more, front_whole}
 use Rattle.frames.proofs.area.keep_bytes.Goals as goal
 

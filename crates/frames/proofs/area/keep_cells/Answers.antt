@@ -1,6 +1,5 @@
 -- `keep_cells` meets its contract: the whole list is copied to the front. Assumes nothing.
 use mathlib.Core.Path.{refl, ◌∙◌}
-use borrow.Author.Rules.{rules}
 use Rattle.frames.proofs.Fronts.{front_whole}
 use Rattle.frames.proofs.area.keep_cells.Goals as goal
 

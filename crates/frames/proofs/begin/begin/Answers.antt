@@ -1,6 +1,5 @@
 -- `begin` meets its contract: each way asks its own of the bodies. Assumes nothing.
 use Rattle.frames.proofs.Fresh.{types_known, checked_fresh, erased_fresh}
-use borrow.Author.Rules.{rules}
 use Rattle.frames.proofs.begin.begin.Goals as goal
 
 pub keep_bodies-requires : goal.keep_bodies-requires

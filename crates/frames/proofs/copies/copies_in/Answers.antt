@@ -1,11 +1,6 @@
-use mathlib.Core.Path.{◌≡◌, refl}
-use Prim.Native.Nat.{◌≤◌, ◌-◌}
+use mathlib.Core.Path.{refl}
 use native.Mathlib.Omega.{arith}
-use borrow.Author.Rules.{rules}
-use lib.ListN.{length}
-use Rattle.run.specs.Reached.{lent}
-use Rattle.frames.specs.Meaning.{context}
-use Rattle.frames.proofs.Copying.{GoingIn, in_first, in_facing, in_stops, in_more, in_ends}
+use Rattle.frames.proofs.Copying.{in_first, in_facing, in_stops, in_more, in_ends}
 use Rattle.frames.proofs.copies.copies_in.Goals as goal
 
 pub loop-i-init : goal.loop-i-init

@@ -1,13 +1,11 @@
 -- `frames::copies::copies_in` meets its contract. The loop's invariant: the definition from the start equals the definition from here, and the
 -- measure is what is left of the groups. Assumes nothing.
-use mathlib.Core.Path.{◌≡◌, refl}
+use mathlib.Core.Path.{◌≡◌}
 use Prim.Native.Nat.{◌≤◌, ◌-◌}
-use native.Mathlib.Omega.{arith}
-use borrow.Author.Rules.{rules}
 use lib.ListN.{length}
 use Rattle.run.specs.Reached.{lent}
 use Rattle.frames.specs.Meaning.{context}
-use Rattle.frames.proofs.Copying.{GoingIn, in_first, in_facing, in_stops, in_more, in_ends}
+use Rattle.frames.proofs.Copying.{GoingIn}
 use Rattle.frames.proofs.copies.copies_in.Given as goal
 
 abbrev pub invariant-loop-i : goal.invariant-loop-i

@@ -1,11 +1,6 @@
-use mathlib.Core.Path.{◌≡◌, refl}
-use Prim.Native.Nat.{◌≤◌, ◌-◌}
+use mathlib.Core.Path.{refl}
 use native.Mathlib.Omega.{arith}
-use borrow.Author.Rules.{rules}
-use lib.ListN.{length}
-use Rattle.run.specs.Reached.{lent}
-use Rattle.frames.specs.Meaning.{context}
-use Rattle.frames.proofs.Copying.{GoingOut, out_none, out_first, out_facing, out_stops, out_more, out_ends}
+use Rattle.frames.proofs.Copying.{out_none, out_first, out_facing, out_stops, out_more, out_ends}
 use Rattle.frames.proofs.copies.copies_out.Goals as goal
 
 pub returns-then-m-ne-NO_ERROR : goal.returns-then-m-ne-NO_ERROR

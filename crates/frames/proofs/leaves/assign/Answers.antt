@@ -2,7 +2,6 @@
 use native.Mathlib.Omega.{arith}
 use Rattle.frames.proofs.Lengths.{evaluated_long}
 use Rattle.frames.proofs.Ways.{checked_running, checked_stores, erased_standing, erased_stores}
-use borrow.Author.Rules.{rules}
 use Rattle.frames.proofs.leaves.assign.Goals as goal
 
 pub eval_plain-x-requires-clause-has_world : goal.eval_plain-x-requires-clause-has_world

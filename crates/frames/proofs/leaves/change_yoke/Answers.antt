@@ -2,7 +2,6 @@
 use native.Mathlib.Omega.{arith}
 use Rattle.frames.proofs.Lengths.{changed_long}
 use Rattle.frames.proofs.Ways.{checked_running, checked_stores, erased_standing, erased_stores}
-use borrow.Author.Rules.{rules}
 use Rattle.frames.proofs.leaves.change_yoke.Goals as goal
 
 pub change_yoke-requires-clause-has_running : goal.change_yoke-requires-clause-has_running

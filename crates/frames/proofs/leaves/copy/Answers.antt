@@ -1,6 +1,5 @@
 -- `frames::leaves::copy` meets its contract: each way's own function does. Assumes nothing.
 use Rattle.frames.proofs.Ways.{checked_gives, checked_takes, checked_copies, erased_facing, erased_copies}
-use borrow.Author.Rules.{rules}
 use Rattle.frames.proofs.leaves.copy.Goals as goal
 
 pub copy-requires-clause-has_stored : goal.copy-requires-clause-has_stored

@@ -2,7 +2,6 @@
 use Rattle.frames.proofs.Lengths.{taken_long}
 use Rattle.frames.proofs.Ways.{read, checked_running, checked_stores, erased_standing, erased_reads, stores_number}
 use mir.ValLaws.{to_z-of_z}
-use borrow.Author.Rules.{rules}
 use Rattle.frames.proofs.leaves.take_reading.Goals as goal
 
 pub take_reading-requires-clause-has_running : goal.take_reading-requires-clause-has_running

@@ -1,7 +1,6 @@
 -- `frames::leaves::test` meets its contract: each way's own function does. Assumes nothing.
 use native.Mathlib.Omega.{arith}
 use Rattle.frames.proofs.Ways.{checked_running, checked_tells, under_standing, erased_tells}
-use borrow.Author.Rules.{rules}
 use Rattle.frames.proofs.leaves.test.Goals as goal
 
 pub eval_test-requires-clause-has_world : goal.eval_test-requires-clause-has_world

@@ -1,6 +1,5 @@
 -- `procedure_in` meets its contract: the row that begins the procedure lies in the rows. Assumes nothing.
 use Rattle.frames.proofs.Heads.{head_place, is_procedure}
-use borrow.Author.Rules.{rules}
 use Rattle.frames.proofs.procedure.procedure_in.Goals as goal
 
 pub a_at-requires : goal.a_at-requires

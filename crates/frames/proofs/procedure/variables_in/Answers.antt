@@ -1,7 +1,6 @@
 -- `variables_in` meets its contract: between a procedure's first row and the next procedure stand its variables. Assumes nothing.
 use native.Mathlib.Omega.{arith}
 use Rattle.frames.proofs.Heads.{head_before, are_variables}
-use borrow.Author.Rules.{rules}
 use Rattle.frames.proofs.procedure.variables_in.Goals as goal
 
 pub overflow_sub-count : goal.overflow_sub-count

@@ -1,7 +1,6 @@
 -- `opening::call::enter` meets its contract: the variables that begin, then the two copies in, each from the memory that the one before left.
 -- Assumes nothing.
 use native.Mathlib.Omega.{arith}
-use borrow.Author.Rules.{rules}
 use Rattle.opening.proofs.Given.{counted, few_values, few_references}
 use Rattle.opening.proofs.Entering.{callee_heads, callee_there, callee_accepted, callee_scope, callee_begins, values_facing, values_fail, references_facing, entered}
 use Rattle.opening.proofs.call.enter.Goals as goal

@@ -1,5 +1,4 @@
 -- `opening::call::leave` meets its contract: out of budget the variables stay open, else the references come back. Assumes nothing.
-use borrow.Author.Rules.{rules}
 use Rattle.opening.proofs.Given.{counted, few_values, few_references}
 use Rattle.opening.proofs.Leaving.{cells_fit, states_fit, present_fit, left_there, left_narrow, still_goes, back_has_facing, leaves_open, leaves_back}
 use Rattle.opening.proofs.call.leave.Goals as goal

@@ -2,7 +2,6 @@
 use Rattle.profile.specs.Facts.{instruction_row_tree}
 use Rattle.run.specs.Instructing.{assign_passed, assign_out, assign_settled}
 use Rattle.opening.proofs.Rows.{leaf_narrow, leaf_executes, assign_there, assign_row}
-use borrow.Author.Rules.{rules}
 use Rattle.opening.proofs.leaf.assignment.Goals as goal
 
 pub returns-then-m-ne-NO_ERROR : goal.returns-then-m-ne-NO_ERROR

@@ -1,6 +1,5 @@
 -- `opening::leaf::skip` takes its step, unless an error is recorded. Assumes nothing.
 use Rattle.run.specs.Acting.{skip_passed, skip_stepped}
-use borrow.Author.Rules.{rules}
 use Rattle.opening.proofs.leaf.skip.Goals as goal
 
 pub returns-then-m-ne-NO_ERROR : goal.returns-then-m-ne-NO_ERROR

@@ -1,9 +1,7 @@
 -- `opening::leaf::yoke_change` meets its contract: passed over, out, or settled. Assumes nothing.
-use native.Mathlib.Omega.{arith}
 use Rattle.profile.specs.Facts.{instruction_row_tree}
 use Rattle.run.specs.Instructing.{change_passed, change_out, change_settled}
 use Rattle.opening.proofs.Rows.{leaf_narrow, leaf_executes, yoke_there, yoke_row, few_yokes}
-use borrow.Author.Rules.{rules}
 use Rattle.opening.proofs.leaf.yoke_change.Goals as goal
 
 pub returns-then-m-ne-NO_ERROR : goal.returns-then-m-ne-NO_ERROR

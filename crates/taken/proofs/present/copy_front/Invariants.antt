@@ -1,11 +1,8 @@
 -- `taken::present::copy_front` meets its contract: the loop copies to the front, and what lies behind stays. Assumes nothing.
-use mathlib.Core.Path.{◌≡◌, refl, ap, ◌∙◌}
-use mathlib.Core.List.{List}
-use Prim.Native.Nat.{ℕ, ◌-◌, ◌≤◌}
-use native.Mathlib.Omega.{arith}
-use lib.ListN.{length, get_or, set, length-set}
-use lib.Seq.{paste, paste-zero}
-use Rattle.taken.proofs.Copying.{front_more, front_whole}
+use mathlib.Core.Path.{◌≡◌}
+use Prim.Native.Nat.{◌-◌, ◌≤◌}
+use lib.ListN.{length}
+use lib.Seq.{paste}
 use Rattle.taken.proofs.present.copy_front.Given as goal
 
 abbrev pub invariant-loop-i : goal.invariant-loop-i

@@ -3,7 +3,6 @@ use mathlib.Core.Path.{sym, ◌∙◌}
 use lib.Seq.{length-take-le}
 use Rattle.pair.proofs.Given.{rows_accepted, tables_there, bodies_held}
 use Rattle.taken.proofs.Taking.{uneven, few_cells, few_states, few_open_cells, few_open_states, files_wrong, readings_wrong, none_wrong}
-use borrow.Author.Rules.{rules}
 use Rattle.taken.proofs.refusal.run_refusal.Goals as goal
 
 pub returns-then-who-numbers : goal.returns-then-who-numbers

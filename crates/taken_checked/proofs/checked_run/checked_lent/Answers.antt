@@ -7,7 +7,6 @@ use lib.ListN.{length}
 use borrow.Rule.Slice.PartMut.{same_len_mid}
 use Rattle.lingua.specs.Calls.{checked_result}
 use Rattle.taken.proofs.Calling.{lent_length, front_back}
-use borrow.Author.Rules.{rules}
 use Rattle.taken_checked.proofs.checked_run.checked_lent.Goals as goal
 
 pub slice_bounds-checked_rows-count : goal.slice_bounds-checked_rows-count

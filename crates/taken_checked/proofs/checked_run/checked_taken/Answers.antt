@@ -3,7 +3,6 @@ use mathlib.Core.Path.{sym}
 use lib.Seq.{length-take-le}
 use Rattle.lingua.specs.Inputs.{buffers}
 use Rattle.taken.proofs.Calling.{checked_asks, present_wrong, run_refused, run_done}
-use borrow.Author.Rules.{rules}
 use Rattle.taken_checked.proofs.checked_run.checked_taken.Goals as goal
 
 pub returns-then-present-ne-PRESENT_BODIES_LENGTH : goal.returns-then-present-ne-PRESENT_BODIES_LENGTH

@@ -1,9 +1,7 @@
-use mathlib.Core.Path.{◌≡◌, refl, ◌∙◌}
-use Prim.Native.Nat.{◌-◌, ◌≤◌}
+use mathlib.Core.Path.{refl, ◌∙◌}
 use native.Mathlib.Omega.{arith}
-use lib.ListN.{length, take, set, length-set}
+use lib.ListN.{length-set}
 use Rattle.taken.proofs.Copying.{copy_more, copied}
-use borrow.Author.Rules.{rules}
 use Rattle.taken_erased.proofs.erased_run.copy_table.Goals as goal
 
 pub loop-i-init : goal.loop-i-init

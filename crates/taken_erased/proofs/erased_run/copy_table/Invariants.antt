@@ -1,10 +1,7 @@
 -- `taken_erased::erased_run::copy_table` meets its contract: the loop copies from the front. Assumes nothing.
-use mathlib.Core.Path.{◌≡◌, refl, ◌∙◌}
+use mathlib.Core.Path.{◌≡◌}
 use Prim.Native.Nat.{◌-◌, ◌≤◌}
-use native.Mathlib.Omega.{arith}
-use lib.ListN.{length, take, set, length-set}
-use Rattle.taken.proofs.Copying.{copy_more, copied}
-use borrow.Author.Rules.{rules}
+use lib.ListN.{length, take}
 use Rattle.taken_erased.proofs.erased_run.copy_table.Given as goal
 
 abbrev pub invariant-loop-i : goal.invariant-loop-i

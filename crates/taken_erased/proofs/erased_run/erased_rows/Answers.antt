@@ -2,7 +2,6 @@
 use native.Mathlib.Omega.{arith}
 use Rattle.lingua.specs.Inputs.{buffers}
 use Rattle.taken.proofs.Calling.{faulted, passed_rows, passed_done}
-use borrow.Author.Rules.{rules}
 use Rattle.taken_erased.proofs.erased_run.erased_rows.Goals as goal
 
 pub check_profile-verdict-requires-clause-ready : goal.check_profile-verdict-requires-clause-ready

@@ -3,7 +3,6 @@ use mathlib.Core.Path.{sym}
 use lib.Seq.{length-take-le}
 use Rattle.lingua.specs.Inputs.{buffers}
 use Rattle.taken.proofs.Calling.{erased_asks, layout_wrong, erased_run_refused, erased_done}
-use borrow.Author.Rules.{rules}
 use Rattle.taken_erased.proofs.erased_run.erased_taken.Goals as goal
 
 pub returns-then-layout-ne-LAYOUT_LENGTH : goal.returns-then-layout-ne-LAYOUT_LENGTH

@@ -1,29 +1,19 @@
-use mathlib.Core.Path.{◌≡◌, refl, sym, ◌∙◌}
-use mathlib.Core.List.{List, ◌++◌}
-use Prim.Native.Nat.{◌+◌, ◌-◌, ◌*◌, ◌≤◌}
+use mathlib.Core.Path.{◌≡◌, refl, ◌∙◌}
+use mathlib.Core.List.{◌++◌}
+use Prim.Native.Nat.{◌≤◌}
 use native.Mathlib.Omega.{arith}
 use lib.ListN.{length, drop}
-use borrow.Author.Rules.{rules}
 use borrow.Author.Tests.{not-true, not-false}
-use borrow.Rule.Slice.PartMut.{same_len_mid}
-use Rattle.lingua.specs.Store.{Variable}
-use Rattle.lingua.specs.Expression.{loop}
-use Rattle.lingua.specs.Trees.{expression_tree, instruction_tree}
-use Rattle.lingua.specs.Run.{Profile, exec as meaning}
 use Rattle.safety.specs.Steps.{exec_left}
 use Rattle.profile.specs.Facts.{InstructionFacts, instruction_row_tree}
-use Rattle.run.specs.Statuses.{state_of}
 use Rattle.run.specs.Reached.{lent}
 use Rattle.run.specs.Acting.{going_after, clean_after, area_stays, stays, reaches_as, reaches_from}
-use Rattle.run.specs.Instructing.{sequence_out, sequence_on, branch_passed, branch_out, branch_failed, branch_yes, branch_no, handle_out, handle_other, handle_own, cleared_going, Turning, first_turn, turns_over, turn_out, turn_failed, turn_last, body_out, fewer_left, next_turn}
-use Rattle.frames.specs.Meaning.{context, Holds}
-use Rattle.opening.specs.Meaning.{setting}
-use Rattle.walk.specs.Meaning.{calling, Stands}
+use Rattle.run.specs.Instructing.{sequence_out, sequence_on, branch_passed, branch_out, branch_failed, branch_yes, branch_no, handle_out, handle_other, handle_own, cleared_going, first_turn, turns_over, turn_out, turn_failed, turn_last, body_out, fewer_left, next_turn}
+use Rattle.walk.specs.Meaning.{calling}
 use Rattle.opening.proofs.Rows.{meant_as}
 use Rattle.walk.proofs.Rows.{kind_known, narrow, facts, executes, asked_leaf, leaf_answers, branch_there, branch_test, loop_there, loop_test, part, part_stands, onward_asked, first_of_two, second_of_two, branch_first, branch_second, loop_body, handle_body}
 use Rattle.walk.proofs.Calling.{call_passed, call_out, call_on}
-use Rattle.walk.proofs.Opened.{length_part, back_long, front_again, area_before, area_behind, body_less, front_fits, front_long, stepped_asked, too_deep_at, alone, ran_as, enter_asked, procedure_there, heads_there, own_bodies, zeros_by, states_left, bodies_left, body_asked, leave_asked, opens, opens_failed}
-use Prim.Native.Nat.{ℕ, ◌<◌}
+use Rattle.walk.proofs.Opened.{length_part, back_long, front_again, area_before, area_behind, body_less, front_fits, front_long, stepped_asked, too_deep_at, ran_as, enter_asked, procedure_there, heads_there, own_bodies, zeros_by, states_left, bodies_left, body_asked, leave_asked, opens, opens_failed}
 use Rattle.walk.proofs.exec.+branch_call_exec_handle_opened_turns.Goals as goal
 
 pub branch-returns-then-m-ne-NO_ERROR : goal.branch-returns-then-m-ne-NO_ERROR

@@ -2,7 +2,6 @@
 use mir.ValLaws.{to_z-of_z}
 use Rattle.frames.proofs.Ways.{stores_number}
 use Rattle.whole_run.proofs.Taking.{takes}
-use borrow.Author.Rules.{rules}
 use Rattle.whole_run.proofs.inputs.take_one.Goals as goal
 
 pub take_reading-error-requires-clause-standing : goal.take_reading-error-requires-clause-standing

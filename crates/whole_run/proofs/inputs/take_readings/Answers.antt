@@ -1,12 +1,7 @@
-use mathlib.Core.Path.{◌≡◌, refl, ◌∙◌}
-use Prim.Native.Nat.{◌≤◌, ◌-◌}
+use mathlib.Core.Path.{refl}
 use native.Mathlib.Omega.{arith}
-use borrow.Author.Rules.{rules}
-use lib.ListN.{length}
 use Rattle.cells.proofs.Moves.{cell_back}
-use Rattle.run.specs.Reached.{lent}
-use Rattle.frames.specs.Meaning.{context}
-use Rattle.whole_run.proofs.Taking.{few_readings, reads_variable_lem, Taking, taking_first, taking_standing, taking_stops, taking_ends, taking_more}
+use Rattle.whole_run.proofs.Taking.{few_readings, reads_variable_lem, taking_first, taking_standing, taking_stops, taking_ends, taking_more}
 use Rattle.whole_run.proofs.inputs.take_readings.Goals as goal
 
 pub loop-i-init : goal.loop-i-init

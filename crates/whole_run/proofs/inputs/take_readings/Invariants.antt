@@ -1,14 +1,11 @@
 -- `whole_run::inputs::take_readings` meets its contract. The loop's invariant: the definition from the start equals the definition from
 -- here, and the measure is what is left of the readings. Assumes nothing.
-use mathlib.Core.Path.{◌≡◌, refl, ◌∙◌}
+use mathlib.Core.Path.{◌≡◌}
 use Prim.Native.Nat.{◌≤◌, ◌-◌}
-use native.Mathlib.Omega.{arith}
-use borrow.Author.Rules.{rules}
 use lib.ListN.{length}
-use Rattle.cells.proofs.Moves.{cell_back}
 use Rattle.run.specs.Reached.{lent}
 use Rattle.frames.specs.Meaning.{context}
-use Rattle.whole_run.proofs.Taking.{few_readings, reads_variable_lem, Taking, taking_first, taking_standing, taking_stops, taking_ends, taking_more}
+use Rattle.whole_run.proofs.Taking.{Taking}
 use Rattle.whole_run.proofs.inputs.take_readings.Given as goal
 
 abbrev pub invariant-loop-i : goal.invariant-loop-i

@@ -1,7 +1,6 @@
 -- `whole_run::whole::run` meets its contract: the readings, then the program from the last row. Assumes nothing.
 use native.Mathlib.Omega.{arith}
 use Rattle.whole_run.proofs.Ending.{fresh_going, begins_standing, some_row, program_asked, left_within, end_clean, run_answered}
-use borrow.Author.Rules.{rules}
 use Rattle.whole_run.proofs.whole.run.Goals as goal
 
 pub take_readings-taken-requires-clause-standing : goal.take_readings-taken-requires-clause-standing
