@@ -4,14 +4,14 @@ use mathlib.Core.Bool.{Bool, true, false}
 use mathlib.Core.List.{List, [], ◌∷◌, ◌++◌}
 use Prim.Native.Nat.{ℕ, zero, suc, ◌+◌, ◌*◌, ◌/◌, ◌%◌, ◌≤◌, ◌<◌}
 use native.Mathlib.Omega.{arith}
-use lib.Dec.{eqb, ltb}
+use lib.Dec.{ltb}
 use lib.ListN.{length, drop, length-append, length-take}
 use lib.IntN.{ℤ, pos, negsuc}
 use Rattle.lingua.specs.Numbers.{body_cells, declaration_section}
 use Rattle.std.specs.Prelude.{if◌then◌else◌}
 use Rattle.lingua.specs.Body.{size}
 use Rattle.lingua.specs.Store.{Variable, variable_at, present_body, filled_at}
-use Rattle.lingua.specs.Rows.{bytes_at, until_zero, pair_count, name_row}
+use Rattle.lingua.specs.Rows.{bytes_at, pair_count, name_row}
 use Rattle.lingua.specs.Trees.{name_at}
 use Rattle.lingua.specs.Format.{rows_of}
 use Rattle.lingua.specs.Refusal.{lowest, pair_rules}

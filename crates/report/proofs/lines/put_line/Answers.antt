@@ -1,7 +1,5 @@
 -- `report::lines::put_line` meets its contract: the line of a name, a flag and a part of the cells. Assumes nothing.
-use Prim.Native.Nat.{◌<◌}
 use native.Mathlib.Omega.{arith}
-use lib.ListN.{length}
 use Rattle.run.proofs.Parts.{states_room, cells_room}
 use Rattle.checked_row.proofs.Storing.{memory_of}
 use Rattle.report.proofs.Putting.{there, line_put}

@@ -1,5 +1,4 @@
 use native.Mathlib.Omega.{arith}
-use borrow.Author.Rules.{rules}
 use Rattle.lingua.specs.Numbers.{declaration_section}
 use Rattle.profile.proofs.Declaring.{pairs}
 use Rattle.report.proofs.Putting.{lines_begin, lines_next, lines_all}
