@@ -1,8 +1,4 @@
-<<<<<<< HEAD
 -- `eval_plain` meets its contract: a Boolean stands for the current value, by `none_current`. Assumes nothing.
-=======
--- `eval_plain` meets its contract: a Boolean stands for the current value, by `none_current`. Assumes nothing.
->>>>>>> origin/main
 use native.Mathlib.Omega.{arith}
 use Rattle.lingua.specs.Evaluation.{no_current}
 use Rattle.checked.proofs.Yokes.{none_current}

@@ -1,8 +1,4 @@
-<<<<<<< HEAD
 -- `eval_yoke` meets its contract, by `always_true` and `yoke_row`. Assumes nothing.
-=======
--- `eval_yoke` meets its contract, by `always_true` and `yoke_row`. Assumes nothing.
->>>>>>> origin/main
 use native.Mathlib.Omega.{arith}
 use Rattle.lingua.specs.Store.{contents}
 use Rattle.checked_row.proofs.Giving.{gives_as}

@@ -1,8 +1,4 @@
-<<<<<<< HEAD
 -- `boolean` meets its contract, by `puts_truth`. Assumes nothing.
-=======
--- `boolean` meets its contract, by `puts_truth`. Assumes nothing.
->>>>>>> origin/main
 use mathlib.Core.Path.{refl, sym, ap}
 use lib.IntN.{pos}
 use Rattle.lingua.specs.Value.{bit}

@@ -1,8 +1,4 @@
-<<<<<<< HEAD
 -- `constant` meets its contract, by `gives_constant`. Assumes nothing.
-=======
--- `constant` meets its contract, by `gives_constant`. Assumes nothing.
->>>>>>> origin/main
 use mathlib.Core.Path.{refl, sym}
 use Rattle.profile.specs.Constants.{cell_as}
 use Rattle.checked_row.proofs.Storing.{gives_constant}

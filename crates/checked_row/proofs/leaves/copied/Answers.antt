@@ -1,8 +1,4 @@
-<<<<<<< HEAD
 -- `copied` meets its contract, by `gives_current`. Assumes nothing.
-=======
--- `copied` meets its contract, by `gives_current`. Assumes nothing.
->>>>>>> origin/main
 use mathlib.Core.Path.{refl}
 use native.Mathlib.Omega.{arith}
 use Rattle.checked_row.proofs.Storing.{current_room, gives_current}

@@ -1,8 +1,4 @@
-<<<<<<< HEAD
 -- `fetch` meets its contract, by `gives_variable`. Assumes nothing.
-=======
--- `fetch` meets its contract, by `gives_variable`. Assumes nothing.
->>>>>>> origin/main
 use mathlib.Core.Path.{refl, sym, ◌∙◌}
 use native.Mathlib.Omega.{arith}
 use Rattle.checked_row.proofs.Giving.{gives_error}

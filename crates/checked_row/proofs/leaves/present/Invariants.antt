@@ -1,8 +1,4 @@
-<<<<<<< HEAD
 -- `present` meets its contract: a turn of the loop is `bytes_turn`. Assumes nothing.
-=======
--- `present` meets its contract: a turn of the loop is `bytes_turn`. Assumes nothing.
->>>>>>> origin/main
 use mathlib.Core.Path.{◌≡◌}
 use Prim.Native.Nat.{◌-◌, ◌*◌, ◌≤◌}
 use lib.ListN.{length, take, drop}

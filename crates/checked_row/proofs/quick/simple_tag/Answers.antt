@@ -1,8 +1,4 @@
-<<<<<<< HEAD
 -- `simple_tag` meets its contract, by `simple_is`. Assumes nothing.
-=======
--- `simple_tag` meets its contract, by `simple_is`. Assumes nothing.
->>>>>>> origin/main
 use native.Mathlib.Omega.{arith}
 use Rattle.checked_row.proofs.Simple.{simple_is, no_simple}
 use Rattle.checked_row.proofs.quick.simple_tag.Goals as goal

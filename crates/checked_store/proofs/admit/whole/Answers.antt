@@ -1,8 +1,4 @@
-<<<<<<< HEAD
 -- `whole` meets its contract, by `whole_is` and `other_whole`. Assumes nothing.
-=======
--- `whole` meets its contract, by `whole_is` and `other_whole`. Assumes nothing.
->>>>>>> origin/main
 use mathlib.Core.Path.{◌∙◌}
 use Rattle.cells.proofs.Moves.{cell_back}
 use Rattle.checked_store.proofs.Admitting.{number_counts, hundredths_counts, other_counts, quantity_room, whole_is, other_whole}

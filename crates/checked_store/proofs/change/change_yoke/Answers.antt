@@ -1,8 +1,4 @@
-<<<<<<< HEAD
 -- `change_yoke` meets its contract, by `not_changed` and `changed`. Assumes nothing.
-=======
--- `change_yoke` meets its contract, by `not_changed` and `changed`. Assumes nothing.
->>>>>>> origin/main
 use native.Mathlib.Omega.{arith}
 use Rattle.run.proofs.Parts.{word_room}
 use Rattle.checked_row.proofs.Storing.{memory_of}

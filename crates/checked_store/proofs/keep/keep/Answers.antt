@@ -1,8 +1,4 @@
-<<<<<<< HEAD
 -- `keep` meets its contract: a record by `record_stored`, any other value by `other_stored`. Assumes nothing.
-=======
--- `keep` meets its contract: a record by `record_stored`, any other value by `other_stored`. Assumes nothing.
->>>>>>> origin/main
 use mathlib.Core.Path.{refl}
 use native.Mathlib.Omega.{arith}
 use Rattle.body.proofs.Tags.{not_record}

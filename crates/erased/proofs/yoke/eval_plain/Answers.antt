@@ -1,8 +1,4 @@
-<<<<<<< HEAD
 -- `eval_plain` meets its contract: a Boolean stands for the current value, by `plain_evaluates`. Assumes nothing.
-=======
--- `eval_plain` meets its contract: a Boolean stands for the current value, by `plain_evaluates`. Assumes nothing.
->>>>>>> origin/main
 use Rattle.erased.proofs.Yokes.{plain_ready, plain_evaluates}
 use Rattle.erased.proofs.yoke.eval_plain.Goals as goal
 

@@ -1,8 +1,4 @@
-<<<<<<< HEAD
 -- `eval_yoke` meets its contract, by `always_evaluates` and `yoke_evaluates`. Assumes nothing.
-=======
--- `eval_yoke` meets its contract, by `always_evaluates` and `yoke_evaluates`. Assumes nothing.
->>>>>>> origin/main
 use native.Mathlib.Omega.{arith}
 use Rattle.profile.specs.Yokes.{always_is, yoke_is}
 use Rattle.erased.proofs.Yokes.{always_evaluates, yoke_ready, yoke_evaluates}

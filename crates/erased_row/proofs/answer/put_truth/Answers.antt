@@ -1,8 +1,4 @@
-<<<<<<< HEAD
 -- `put_truth` meets its contract, by `put_truth`. Assumes nothing.
-=======
--- `put_truth` meets its contract, by `put_truth`. Assumes nothing.
->>>>>>> origin/main
 use mathlib.Core.Path.{sym, ap}
 use lib.IntN.{pos}
 use Rattle.lingua.specs.Value.{bit}

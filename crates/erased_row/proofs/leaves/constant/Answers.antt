@@ -1,8 +1,4 @@
-<<<<<<< HEAD
 -- `constant` meets its contract, by `leaves_constant`. Assumes nothing.
-=======
--- `constant` meets its contract, by `leaves_constant`. Assumes nothing.
->>>>>>> origin/main
 use mathlib.Core.Path.{sym}
 use Rattle.cells.proofs.Moves.{cell_back}
 use Rattle.profile.specs.Constants.{cell_as}

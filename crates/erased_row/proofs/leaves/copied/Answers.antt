@@ -1,8 +1,4 @@
-<<<<<<< HEAD
 -- `copied` meets its contract, by `leaves_current`. Assumes nothing.
-=======
--- `copied` meets its contract, by `leaves_current`. Assumes nothing.
->>>>>>> origin/main
 use mathlib.Core.Path.{◌∙◌}
 use native.Mathlib.Omega.{arith}
 use Rattle.erased_row.proofs.Storing.{current_room, leaves_current}

@@ -1,8 +1,4 @@
-<<<<<<< HEAD
 -- `fetch` meets its contract, by `leaves_empty` and `leaves_filled`. Assumes nothing.
-=======
--- `fetch` meets its contract, by `leaves_empty` and `leaves_filled`. Assumes nothing.
->>>>>>> origin/main
 use mathlib.Core.Path.{sym, ◌∙◌}
 use native.Mathlib.Omega.{arith}
 use Rattle.run.proofs.Parts.{cells_room}

@@ -1,8 +1,4 @@
-<<<<<<< HEAD
 -- `binary` meets its contract, by `handed_on`, `second_error` and `binary_leaves`. Assumes nothing.
-=======
--- `binary` meets its contract, by `handed_on`, `second_error` and `binary_leaves`. Assumes nothing.
->>>>>>> origin/main
 use Rattle.erased_row.proofs.Leaving.{handed_on}
 use Rattle.erased_row.proofs.Operating.{binary_has, binary_leaves, second_error}
 use Rattle.erased_row.proofs.operate.binary.Goals as goal

@@ -1,8 +1,4 @@
-<<<<<<< HEAD
 -- `unary` meets its contract, by `handed_on` and `unary_leaves`. Assumes nothing.
-=======
--- `unary` meets its contract, by `handed_on` and `unary_leaves`. Assumes nothing.
->>>>>>> origin/main
 use Rattle.erased_row.proofs.Leaving.{handed_on}
 use Rattle.erased_row.proofs.Operating.{unary_has, unary_leaves}
 use Rattle.erased_row.proofs.operate.unary.Goals as goal

@@ -1,8 +1,4 @@
-<<<<<<< HEAD
 -- `concluded` meets its contract, by `seen_error` and `seen_all`. Assumes nothing.
-=======
--- `concluded` meets its contract, by `seen_error` and `seen_all`. Assumes nothing.
->>>>>>> origin/main
 use Rattle.erased_row.proofs.Telling.{seen_error, seen_all}
 use Rattle.erased_row.proofs.tally.concluded.Goals as goal
 
