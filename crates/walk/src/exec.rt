@@ -163,7 +163,32 @@ pub fn exec(
                 stack,
             )
         }
+        // The call stands here twice, so that a compiler keeps it a function of its own, and its arrays out of each level's frame.
         InstructionRow::Call(k, b, c) => {
+            if m.out {
+                return call(
+                    row,
+                    k,
+                    b,
+                    c,
+                    way,
+                    rows,
+                    t,
+                    u,
+                    heads,
+                    types,
+                    bodies,
+                    layout,
+                    kept,
+                    cells,
+                    states,
+                    open_bodies,
+                    open_cells,
+                    open_states,
+                    m,
+                    stack,
+                );
+            }
             call(
                 row,
                 k,
@@ -462,6 +487,7 @@ fn call(
 
 // Its variables are copied in, its body runs on them, and what was given by reference comes back, or they stay open.
 #[cycle(branch_call_exec_handle_opened_turns)]
+#[inline(always)]
 fn opened(
     row: usize,
     k: usize,

@@ -146,9 +146,6 @@ exec-returns-in-Loop t c = c.turns.ensures
 pub exec-returns-in-Handle : goal.exec-returns-in-Handle
 exec-returns-in-Handle t c = c.handle.ensures
 
-pub exec-returns-in-Call : goal.exec-returns-in-Call
-exec-returns-in-Call t c = c.call.ensures
-
 pub handle-returns-then-taken : goal.handle-returns-then-taken
 unfolding instruction_row_tree
 handle-returns-then-taken t c = executes c.requires.asked c.requires.handle_at (λ p b n vs h. handle_out (calling _ n) vs h.holds c.requires.asked.going c.stepped-taken.ensures _ _ _ c.if-taken.true)
