@@ -3,7 +3,7 @@ use Rattle.std.specs.Prelude.{◌≡◌, refl, pos, negsuc}
 use Rattle.lingua.specs.Errors.{overflow, division_by_zero}
 use Rattle.lingua.specs.Outcome.{ok, fail}
 use Rattle.lingua.specs.Value.{count, whole}
-use Rattle.lingua.specs.Operation.{add, multiply, divide, to-hundredths, to_number}
+use Rattle.lingua.specs.Operation.{add, multiply, divide, to_hundredths, to_number}
 use Rattle.lingua.specs.Rounding.{nearest}
 use Rattle.lingua.specs.Compute.{unary_value, binary_value}
 use Rattle.lingua.specs.Computing.{computing}
@@ -109,6 +109,6 @@ cut : unary_value to_number (count (negsuc 198)) ≡ ok (whole (negsuc 0))
 unfolding computing
 cut = refl
 
-highest_number_counted : unary_value to-hundredths (whole (pos 1000000)) ≡ ok (count (pos 100000000))
+highest_number_counted : unary_value to_hundredths (whole (pos 1000000)) ≡ ok (count (pos 100000000))
 unfolding computing
 highest_number_counted = refl

@@ -5,7 +5,7 @@ use Rattle.std.proofs.Common.{sym, ◌∙◌}
 use Rattle.std.proofs.Math.Path.{ap}
 use Rattle.lingua.specs.Outcome.{ok, Result}
 use Rattle.lingua.specs.Value.{Value, whole, count, as_whole}
-use Rattle.lingua.specs.Operation.{to-hundredths, to_number, add, subtract, multiply, divide}
+use Rattle.lingua.specs.Operation.{to_hundredths, to_number, add, subtract, multiply, divide}
 use Rattle.lingua.specs.Compute.{counted, unary_value, binary_value}
 use Rattle.arith.specs.Distances.{sum_exact, difference_exact, multiply_near, multiply_far, divide_near, divide_far, whole_part_near, whole_part_short, counted_and_back}
 
@@ -41,11 +41,11 @@ module _ (x y : ℤ) (v : Value) where
 
 module _ (z : ℤ) (v : Value) where
   -- ---- 28: exact; with 29 after it, the number again
-  pub hundredths_exact : unary_value to-hundredths (whole z) ≡ ok v → as_whole v ≡ pos 100 *ℤ z
+  pub hundredths_exact : unary_value to_hundredths (whole z) ≡ ok v → as_whole v ≡ pos 100 *ℤ z
   unfolding unary_value as_whole counted
   hundredths_exact e = ap as_whole (sym (value_same e))
 
-  pub there_and_back : unary_value to-hundredths (whole z) ≡ ok v → unary_value to_number v ≡ ok (whole z)
+  pub there_and_back : unary_value to_hundredths (whole z) ≡ ok v → unary_value to_number v ≡ ok (whole z)
   unfolding unary_value as_whole
   there_and_back e = ap (λ (w : Value). unary_value to_number w) (sym (value_same e)) ∙ ap (λ (n : ℤ). ok (whole n)) (counted_and_back z)
 

@@ -6,7 +6,7 @@ use Prim.Native.Nat.{ℕ}
 use lib.Dec.{ltb}
 use Rattle.lingua.specs.Outcome.{ok, fail, is_some}
 use Rattle.lingua.specs.Body.{Body, list_of, record_of, Attributes, end, attribute, same_body, is_boolean, is_number, is_word, is_hundredths, is_quantity, is_simple, element_body, attributes_of, count_attributes, attribute_body, insert_attribute, remove_attribute, too_large}
-use Rattle.lingua.specs.Operation.{negation, make_record, select, make-list, top, pop, remove, to-hundredths, to_number, equal, glue, expand, change, push, bounded, present, quantities_to, unary_body, binary_body}
+use Rattle.lingua.specs.Operation.{negation, make_record, select, make_list, top, pop, remove, to_hundredths, to_number, equal, glue, expand, change, push, bounded, present, quantities_to, unary_body, binary_body}
 use Rattle.body.specs.Typed.{simple_of}
 
 -- ---- one operand
@@ -38,11 +38,11 @@ pub select_found : (n : ℕ) (b c : Body) (fs : Attributes) → attributes_of b 
 unfolding unary_body
 select_found n b c fs e0 e1 = rw (e0, e1) refl
 
-pub list_large : (b : Body) → too_large (list_of b) ≡ true → unary_body make-list b ≡ fail 18
+pub list_large : (b : Body) → too_large (list_of b) ≡ true → unary_body make_list b ≡ fail 18
 unfolding unary_body bounded
 list_large b e0 = rw (e0) refl
 
-pub list_bounded : (b : Body) → too_large (list_of b) ≡ false → unary_body make-list b ≡ ok (list_of b)
+pub list_bounded : (b : Body) → too_large (list_of b) ≡ false → unary_body make_list b ≡ ok (list_of b)
 unfolding unary_body bounded
 list_bounded b e0 = rw (e0) refl
 
@@ -78,11 +78,11 @@ pub remove_found : (n : ℕ) (b : Body) (fs : Attributes) → attributes_of b �
 unfolding unary_body present
 remove_found n b fs e0 e1 e2 = rw (e0, e1, e2) refl
 
-pub to_hundredths_other : (b : Body) → is_number b ≡ false → unary_body to-hundredths b ≡ fail 8
+pub to_hundredths_other : (b : Body) → is_number b ≡ false → unary_body to_hundredths b ≡ fail 8
 unfolding unary_body
 to_hundredths_other b e0 = rw (e0) refl
 
-pub to_hundredths_number : (b : Body) → is_number b ≡ true → unary_body to-hundredths b ≡ ok (simple_of 7)
+pub to_hundredths_number : (b : Body) → is_number b ≡ true → unary_body to_hundredths b ≡ ok (simple_of 7)
 unfolding unary_body simple_of
 to_hundredths_number b e0 = rw (e0) refl
 

@@ -11,7 +11,7 @@ use Rattle.lingua.specs.Errors.{attribute_present, no_such_attribute, no_coheren
 use Rattle.std.specs.Prelude.{if◌then◌else◌}
 use Rattle.lingua.specs.Outcome.{ok, fail, Result, require, ◌>>◌}
 use Rattle.lingua.specs.Body.{Body, boolean, number, word, hundredths, list_of, record_of, Attributes, end, attribute, size, sizes, is_hundredths, same_body, attributes_of, attribute_body, attribute_offset, insert_attribute, too_large}
-use Rattle.lingua.specs.Operation.{Unary, negation, make_record, select, make-list, top, pop, remove, to-hundredths, to_number, Binary, add, subtract, multiply, divide, less, equal, glue, expand, change, push, bounded, present, quantities_to, unary_body, binary_body}
+use Rattle.lingua.specs.Operation.{Unary, negation, make_record, select, make_list, top, pop, remove, to_hundredths, to_number, Binary, add, subtract, multiply, divide, less, equal, glue, expand, change, push, bounded, present, quantities_to, unary_body, binary_body}
 use Rattle.lingua.specs.Typing.{offset_in, hundredths_flag, unary_second, binary_second}
 use Rattle.laws.specs.Outcomes.{fail_is_ok, ok_same, required, asked}
 use Rattle.laws.specs.Halves.{quantities_body}
@@ -52,11 +52,11 @@ unfolding unary_second
 unary_small negation b h = omega arith
 unary_small (make_record n) b h = omega arith
 unary_small (select n) b h = omega (arith, offset_within n b)
-unary_small make-list b h = omega arith
+unary_small make_list b h = omega arith
 unary_small top b h = omega arith
 unary_small pop b h = omega arith
 unary_small (remove n) b h = omega (arith, offset_within n b)
-unary_small to-hundredths b h = omega arith
+unary_small to_hundredths b h = omega arith
 unary_small to_number b h = omega arith
 
 -- an expanded record is the record with the attribute in its place

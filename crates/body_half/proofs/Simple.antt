@@ -7,7 +7,7 @@ use lib.ListN.{get_or}
 use Rattle.lingua.specs.Outcome.{ok, Result}
 use Rattle.lingua.specs.Body.{Body, number, is_number, is_hundredths, is_quantity, same_body}
 use Rattle.lingua.specs.Encode.{bytes}
-use Rattle.lingua.specs.Operation.{Unary, negation, to-hundredths, to_number, Binary, add, subtract, multiply, divide, less, equal, glue, quantities_to, unary_body, binary_body}
+use Rattle.lingua.specs.Operation.{Unary, negation, to_hundredths, to_number, Binary, add, subtract, multiply, divide, less, equal, glue, quantities_to, unary_body, binary_body}
 use Rattle.lingua.specs.Typing.{hundredths_flag, unary_second, binary_second}
 use Rattle.laws.specs.Outcomes as outcomes
 use Rattle.body.specs.Encode.{Holds}
@@ -41,10 +41,10 @@ module _ (x : List ℕ) (b : Body) (h : Holds x b) (r : ℕ) where
   unfolding bytes simple_of unary_second
   negation_simple f = by_one negation 1 r x b h refl refl (λ p. let q = f p in (q.1, negation_boolean b (is_boolean_lem x b h q.0)))
 
-  pub to_hundredths_simple : (1 ≤ r → (get_or x 0 0 ≡ 2) × (r ≡ 7)) → SimpleHalf r (unary_body to-hundredths b) (λ d. unary_second to-hundredths b)
+  pub to_hundredths_simple : (1 ≤ r → (get_or x 0 0 ≡ 2) × (r ≡ 7)) → SimpleHalf r (unary_body to_hundredths b) (λ d. unary_second to_hundredths b)
   unfolding bytes simple_of unary_second
   to_hundredths_simple f =
-      by_one to-hundredths 7 r x b h refl refl (λ p. let q = f p in (q.1, to_hundredths_number b (is_number_lem x b h q.0)))
+      by_one to_hundredths 7 r x b h refl refl (λ p. let q = f p in (q.1, to_hundredths_number b (is_number_lem x b h q.0)))
 
   pub to_number_simple : (1 ≤ r → (get_or x 0 0 ≡ 7) × (r ≡ 2)) → SimpleHalf r (unary_body to_number b) (λ d. unary_second to_number b)
   unfolding bytes simple_of unary_second

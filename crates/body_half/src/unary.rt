@@ -1,7 +1,7 @@
 // The half on bodies of the operations of one operand.
 ghost use Rattle.std.specs.Prelude.{◌≡◌};
 ghost use Rattle.lingua.specs.Body.{Body, is_boolean};
-ghost use Rattle.lingua.specs.Operation.{negation, make_record, select, make-list, top, pop, remove, to-hundredths, to_number, unary_body};
+ghost use Rattle.lingua.specs.Operation.{negation, make_record, select, make_list, top, pop, remove, to_hundredths, to_number, unary_body};
 ghost use Rattle.lingua.specs.Typing.{unary_second};
 ghost use Rattle.body.specs.Encode.{Holds, Held};
 ghost use Rattle.body.specs.Typed.{Types};
@@ -79,7 +79,7 @@ pub fn select(n: u8, x: [u8; BODY_BYTES]) -> Typed
 // Kind 20.
 pub fn make_list(x: [u8; BODY_BYTES]) -> Typed
     requires { Held x }
-    ensures { (b : Body) → Holds x b → Types result (unary_body make-list b) 0 }
+    ensures { (b : Body) → Holds x b → Types result (unary_body make_list b) 0 }
 {
     let m = measure_body(x);
     let cells = 1 + LIST_PLACES * m.cells;
@@ -160,7 +160,7 @@ pub fn remove(n: u8, x: [u8; BODY_BYTES]) -> Typed
 
 // Kind 28.
 pub fn to_hundredths(x: [u8; BODY_BYTES]) -> Typed
-    ensures { (b : Body) → Holds x b → Types result (unary_body to-hundredths b) 0 }
+    ensures { (b : Body) → Holds x b → Types result (unary_body to_hundredths b) 0 }
 {
     if x[0] != NUMBER {
         return failed(NUMBER_EXPECTED);

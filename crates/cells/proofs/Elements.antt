@@ -17,7 +17,7 @@ use Rattle.lingua.specs.Errors.{list_empty}
 use Rattle.lingua.specs.Outcome.{fail, Result}
 use Rattle.lingua.specs.Body.{Body, list_of, size}
 use Rattle.lingua.specs.Value.{Value, items, Values, no_items, item, count_values, AllFit, fit_item, as_items, cells_of}
-use Rattle.lingua.specs.Operation.{make-list, top, pop, push}
+use Rattle.lingua.specs.Operation.{make_list, top, pop, push}
 use Rattle.lingua.specs.Compute.{with_last, last_from, without_last, pushed, top_of, pop_of, unary_value, binary_value}
 use Rattle.laws.specs.Lengths.{length_cells}
 use Rattle.laws.specs.Items.{place_room, push_cells, push_fits, fits_last_from, top_cells, pop_cells, pop_fits, single_cells, single_fits}
@@ -199,7 +199,7 @@ pop_law s cleared b x m w z h p f q =
 -- ---- a list of one
 pub single_law : (s moved cleared : List ℤ) (b : Body) (x : Value) (w : ℕ) → size b ≡ w → Lies s 0 b x → 1 + list_places * w ≤ length s
     → moved ≡ paste s 1 (drop 0 s) w → cleared ≡ paste moved (1 + w) (replicate ((list_places - 1) * w) (pos 0)) ((list_places - 1) * w)
-    → Holds (set cleared 0 (pos 1)) (list_of b) (unary_value make-list x)
+    → Holds (set cleared 0 (pos 1)) (list_of b) (unary_value make_list x)
 unfolding unary_value
 single_law [] moved cleared b x w z h room p q = absurd (let k : ⊥ = omega arith in k)
 single_law (y ∷ ys) moved cleared b x w z h room p q =

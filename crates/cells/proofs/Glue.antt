@@ -203,8 +203,8 @@ module _ (s : List ℤ) (x y : Value) (m n : ℕ) (r : Moved) (h : Lies s 0 word
       let ds = as_text y in
       let b = moved_to cs ds r j e behind in
       let t = glued_text cs ds (fit_word h.fit) (fit_word k.fit) b.0 in
-      let m-is : m ≡ packed_in word_length cs = pos_same (sym p ∙ word_cell h) in
-      let sum = together cs ds m j (fit_word h.fit) m-is b.1 in
+      let m_is : m ≡ packed_in word_length cs = pos_same (sym p ∙ word_cell h) in
+      let sum = together cs ds m j (fit_word h.fit) m_is b.1 in
       rw (le-leb (length cs + length ds) word_length b.0)
       (leaves_answer (record {
         value = text (cs ++ ds);

@@ -14,7 +14,7 @@ use mir.ValLaws.{to_z-of_z}
 use Rattle.lingua.specs.Outcome.{ok}
 use Rattle.lingua.specs.Body.{Body, boolean, number, word, hundredths, list_of, record_of, size, is_simple, is_boolean, is_number, is_word, is_hundredths, is_quantity}
 use Rattle.lingua.specs.Value.{Value, truth, whole, count, fit_truth, in_range, in_counts, in_range_of, quantity, quantity_body, as_truth, as_whole, as_text, packed, bit, cells_of}
-use Rattle.lingua.specs.Operation.{negation, to-hundredths, to_number, less, equal}
+use Rattle.lingua.specs.Operation.{negation, to_hundredths, to_number, less, equal}
 use Rattle.lingua.specs.Compute.{same_value, counted, whole_part, unary_value, binary_value}
 use Rattle.arith.specs.Ranges.{quantity_size, counted_in_range, whole_part_in_range}
 use Rattle.arith.proofs.Range.{fits_below}
@@ -179,7 +179,7 @@ converted h s z l e = record { value = quantity h z; is = refl; lies = put_quant
 
 -- what the code reads of a number and of a count, and what it puts in its place
 pub to_hundredths_law : (s : List ℤ) (x : Value) (z : ℤ) → 0 < length s → Lies s 0 number x → mag (get_or s 0 (pos 0)) < 2 ^ hbits w64
-    → z ≡ counted (to_z w64 (of_z w64 (get_or s 0 (pos 0)))) → Holds (set s 0 (to_z w64 (of_z w64 z))) hundredths (unary_value to-hundredths x)
+    → z ≡ counted (to_z w64 (of_z w64 (get_or s 0 (pos 0)))) → Holds (set s 0 (to_z w64 (of_z w64 z))) hundredths (unary_value to_hundredths x)
 unfolding unary_value is_quantity is_number in_range_of
 to_hundredths_law s x z l h m e =
     let q : z ≡ counted (as_whole x) = e ∙ ap counted (cell_back (get_or s 0 (pos 0)) m ∙ quantity_cell refl h) in

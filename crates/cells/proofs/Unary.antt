@@ -9,7 +9,7 @@ use lib.IntN.{ℤ, pos}
 use Rattle.lingua.specs.Numbers.{body_cells, list_places}
 use Rattle.lingua.specs.Body.{Body, boolean, number, hundredths, is_number, is_hundredths, is_quantity, list_of, record_of, Attributes, size, sizes, attributes_of, attribute_body, attribute_offset, remove_attribute}
 use Rattle.lingua.specs.Value.{Value, in_range, in_counts}
-use Rattle.lingua.specs.Operation.{Unary, negation, make_record, select, make-list, top, pop, remove, to-hundredths, to_number}
+use Rattle.lingua.specs.Operation.{Unary, negation, make_record, select, make_list, top, pop, remove, to_hundredths, to_number}
 use Rattle.lingua.specs.Compute.{unary_value}
 use Rattle.lingua.specs.Typing.{offset_in, unary_second}
 use Rattle.lingua.specs.Operations.{unary_meaning}
@@ -40,9 +40,9 @@ module _ {s : List ℤ} {cells result offset : ℕ} {b d : Body} {x : Value} whe
       let p = select_body {n = n} h.half in
       omega (arith, attribute_within n p.attributes d p.has, offset_of n p.is h.offset_is, h.result_is, h.cells_are, ap size p.is)
 
-  pub listed_room : Operand make-list s cells result offset b d x → 1 + list_places * cells ≤ body_cells
+  pub listed_room : Operand make_list s cells result offset b d x → 1 + list_places * cells ≤ body_cells
   listed_room h =
-      omega (arith, unary_small make-list b h.small h.half, ap size (make_list_body h.half), list_size b, h.cells_are)
+      omega (arith, unary_small make_list b h.small h.half, ap size (make_list_body h.half), list_size b, h.cells_are)
 
   pub top_counted : Operand top s cells result offset b d x → Counted s result
   top_counted h =
@@ -74,7 +74,7 @@ module _ {s : List ℤ} {cells result offset : ℕ} {b d : Body} {x : Value} whe
       let q = removed_cells n h in
       omega (arith, attribute_within n p.attributes p.removed p.has, offset_of n p.is h.offset_is, q.0, q.1)
 
-  pub to_hundredths_range : Operand to-hundredths s cells result offset b d x → in_range (get_or s 0 (pos 0)) ≡ true
+  pub to_hundredths_range : Operand to_hundredths s cells result offset b d x → in_range (get_or s 0 (pos 0)) ≡ true
   unfolding is_quantity is_number
   to_hundredths_range h =
       let k = lies_as (to_hundredths_body h.half).0 h.lies in ap in_range (quantity_cell refl k) ∙ fit_number k.fit
@@ -86,7 +86,7 @@ module _ {s : List ℤ} {cells result offset : ℕ} {b d : Body} {x : Value} whe
 
   -- ---- what is left
   module _ (last : List ℤ) where
-    pub to_hundredths_leaves : ((v : Value) → Lies s 0 number v → Holds last hundredths (unary_value to-hundredths v)) → Operand to-hundredths s cells result offset b d x → Leaves 0 last d (unary_value to-hundredths x)
+    pub to_hundredths_leaves : ((v : Value) → Lies s 0 number v → Holds last hundredths (unary_value to_hundredths v)) → Operand to_hundredths s cells result offset b d x → Leaves 0 last d (unary_value to_hundredths x)
     to_hundredths_leaves f h = let p = to_hundredths_body h.half in leaves_as p.1 (leaves_answer (f x (lies_as p.0 h.lies)))
 
     pub to_number_leaves : ((v : Value) → Lies s 0 hundredths v → Holds last number (unary_value to_number v)) → Operand to_number s cells result offset b d x → Leaves 0 last d (unary_value to_number x)
@@ -102,8 +102,8 @@ module _ {s : List ℤ} {cells result offset : ℕ} {b d : Body} {x : Value} whe
         let p = select_body {n = n} h.half in
         leaves_answer (f n p.attributes d x p.has (offset_of n p.is h.offset_is) h.result_is (lies_as p.is h.lies))
 
-    pub make_list_leaves : ((c : Body) (v : Value) → size c ≡ cells → Lies s 0 c v → Holds last (list_of c) (unary_value make-list v)) → Operand make-list s cells result offset b d x
-        → Leaves 0 last d (unary_value make-list x)
+    pub make_list_leaves : ((c : Body) (v : Value) → size c ≡ cells → Lies s 0 c v → Holds last (list_of c) (unary_value make_list v)) → Operand make_list s cells result offset b d x
+        → Leaves 0 last d (unary_value make_list x)
     make_list_leaves f h = leaves_as (make_list_body h.half) (leaves_answer (f b x h.cells_are h.lies))
 
     pub top_leaves : (r : ℕ) → ((c : Body) (v : Value) → size c ≡ result → Lies s 0 (list_of c) v → Leaves r last c (unary_value top v)) → Operand top s cells result offset b d x

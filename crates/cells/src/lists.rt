@@ -3,7 +3,7 @@ ghost use Rattle.std.specs.Prelude.{◌≡◌, ◌+◌, ◌*◌, ◌≤◌, leng
 ghost use Rattle.lingua.specs.Numbers.{list_places, body_cells};
 ghost use Rattle.lingua.specs.Body.{Body, list_of, size};
 ghost use Rattle.lingua.specs.Value.{Value};
-ghost use Rattle.lingua.specs.Operation.{make-list, top, pop, push};
+ghost use Rattle.lingua.specs.Operation.{make_list, top, pop, push};
 ghost use Rattle.lingua.specs.Compute.{unary_value, binary_value};
 ghost use Rattle.cells.specs.Stack.{first_place, second_place, Lies, Holds, Leaves, Counted};
 
@@ -15,7 +15,7 @@ use lingua::sizes::{BODY_CELLS, LIST_PLACES};
 pub fn make_list(stack: &mut [i64], width: usize)
     requires width_bound { 1 + list_places * width ≤ body_cells }
     requires body_cells_in_bounds { body_cells ≤ length stack.old }
-    ensures { (b : Body) (x : Value) → size b ≡ width → Lies stack.old first_place b x → Holds stack.new (list_of b) (unary_value make-list x) }
+    ensures { (b : Body) (x : Value) → size b ≡ width → Lies stack.old first_place b x → Holds stack.new (list_of b) (unary_value make_list x) }
 {
     parts::copy_up(stack, 0, 1, width);
     parts::clear(stack, 1 + width, (LIST_PLACES - 1) * width);

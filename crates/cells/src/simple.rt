@@ -3,7 +3,7 @@ ghost use Rattle.std.specs.Prelude.{◌≡◌, true, ◌<◌, length, get_or, po
 ghost use Rattle.lingua.specs.Numbers.{body_cells};
 ghost use Rattle.lingua.specs.Body.{Body, boolean, number, hundredths, is_quantity, is_simple};
 ghost use Rattle.lingua.specs.Value.{Value, in_range, in_counts};
-ghost use Rattle.lingua.specs.Operation.{negation, to-hundredths, to_number, less, equal};
+ghost use Rattle.lingua.specs.Operation.{negation, to_hundredths, to_number, less, equal};
 ghost use Rattle.lingua.specs.Compute.{unary_value, binary_value};
 ghost use Rattle.cells.specs.Stack.{first_place, second_place, Lies, Holds};
 
@@ -24,7 +24,7 @@ pub fn negate(stack: &mut [i64])
 pub fn to_hundredths(stack: &mut [i64])
     requires stack_nonzero { 0 < length stack.old }
     requires pos_value { in_range (get_or stack.old first_place (pos 0)) ≡ true }
-    ensures { (x : Value) → Lies stack.old first_place number x → Holds stack.new hundredths (unary_value to-hundredths x) }
+    ensures { (x : Value) → Lies stack.old first_place number x → Holds stack.new hundredths (unary_value to_hundredths x) }
 {
     let cell = stack[0];
     let counted = arith::to_hundredths(cell);

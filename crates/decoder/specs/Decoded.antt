@@ -2,7 +2,7 @@
 use Rattle.std.specs.Prelude.{◌≡◌, refl, Bool, true, false, List, [], ◌∷◌, ℕ, min}
 use Rattle.std.proofs.Math.Option.{Option, some, none}
 use Rattle.lingua.specs.Body.{Body, boolean, number, word, hundredths}
-use Rattle.lingua.specs.Operation.{Unary, negation, make_record, select, make-list, top, pop, remove, to-hundredths, to_number, Binary, add, subtract, multiply, divide, less, equal, glue, expand, change, push}
+use Rattle.lingua.specs.Operation.{Unary, negation, make_record, select, make_list, top, pop, remove, to_hundredths, to_number, Binary, add, subtract, multiply, divide, less, equal, glue, expand, change, push}
 use Rattle.lingua.specs.Operations.{unary_meaning, binary_meaning}
 use Rattle.lingua.specs.Expression.{Connective, conjunction, disjunction}
 use Rattle.lingua.specs.Rows.{kind_at, wide_at, number_at, bytes_at, numbered, used_of, TypeRow, simple_type, list_type, record_type, expand_type, unknown_type, type_kinds, type_at, Constant, boolean_constant, number_constant, word_constant, hundredths_constant, ExpressionRow, constant_row, variable_row, current_row, unary_row, binary_row, lazy_row, choice_row, all_list_row, unknown_expression, expression_kinds, expression_at, InstructionRow, skip_row, assign_row, set_yoke_row, sequence_row, branch_row, loop_row, handle_row, call_row, unknown_instruction, instruction_kinds, instruction_at}
@@ -92,11 +92,11 @@ unfolding unary_attribute
 unary_naming negation = names_none refl
 unary_naming (make_record n) = names_one_lem make_record n (λ m. refl)
 unary_naming (select n) = names_one_lem select n (λ m. refl)
-unary_naming make-list = names_none refl
+unary_naming make_list = names_none refl
 unary_naming top = names_none refl
 unary_naming pop = names_none refl
 unary_naming (remove n) = names_one_lem remove n (λ m. refl)
-unary_naming to-hundredths = names_none refl
+unary_naming to_hundredths = names_none refl
 unary_naming to_number = names_none refl
 
 unfoldable pub binary_naming : (o : Binary) → Naming binary_attribute o

@@ -9,7 +9,7 @@ use Rattle.lingua.specs.Outcome.{ok, is_some}
 use Rattle.lingua.specs.Body.{Body, list_of, record_of, Attributes, end, attribute, size, nodes, depth, count_attributes, width, too_large, attribute_body, insert_attribute, remove_attribute}
 use Rattle.lingua.specs.WellFormed.{InBounds, WellFormed, formed_boolean, formed_number, formed_word, formed_hundredths, formed_list, formed_record, FormedFrom, formed_end, formed_attribute}
 use Rattle.lingua.specs.Value.{all_of}
-use Rattle.lingua.specs.Operation.{Unary, negation, make_record, select, make-list, top, pop, remove, to-hundredths, to_number, Binary, add, subtract, multiply, divide, less, equal, glue, expand, change, push, present, unary_body, binary_body}
+use Rattle.lingua.specs.Operation.{Unary, negation, make_record, select, make_list, top, pop, remove, to_hundredths, to_number, Binary, add, subtract, multiply, divide, less, equal, glue, expand, change, push, present, unary_body, binary_body}
 use Rattle.lingua.specs.Rules.{unary_attribute, binary_attribute, attributes_fit}
 use Rattle.laws.specs.Outcomes.{false_is_true, and_left, none_is_some, some_same}
 use Rattle.laws.specs.Removal.{removed_fewer}
@@ -120,13 +120,13 @@ unary_formed (make_record n) {b} a h e =
     let is = make_record_body {n = n} e in
     formed_as (sym is) (single_formed n b (subst (λ (c : Body). too_large c ≡ false) is (bounded_within (record_of (attribute n b end)) e)) (numbered n a) h)
 unary_formed (select n) {b} {d} a h e = let s = select_body {n = n} e in attribute_formed (formed_attributes (formed_as s.is h)) n d s.has
-unary_formed make-list {b} a h e =
+unary_formed make_list {b} a h e =
     let is = make_list_body e in
     formed_as (sym is) (list_formed b (subst (λ (c : Body). too_large c ≡ false) is (bounded_within (list_of b) e)) h)
 unary_formed top a h e = formed_element (formed_as (top_body e) h)
 unary_formed pop a h e = let p = pop_body e in formed_as (p.1 ∙ sym p.2) h
 unary_formed (remove n) a h e = let s = remove_body {n = n} e in formed_as (sym s.result) (removed_formed n s.removed s.has s.several (formed_as s.is h))
-unary_formed to-hundredths a h e = formed_as (sym (to_hundredths_body e).1) formed_hundredths
+unary_formed to_hundredths a h e = formed_as (sym (to_hundredths_body e).1) formed_hundredths
 unary_formed to_number a h e = formed_as (sym (to_number_body e).1) formed_number
 
 pub binary_formed : (o : Binary) {b c d : Body} → attributes_fit (binary_attribute o) ≡ true → WellFormed b → WellFormed c → binary_body o b c ≡ ok d → WellFormed d

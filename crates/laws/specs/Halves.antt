@@ -9,7 +9,7 @@ use Rattle.lingua.specs.Errors.{number_expected, boolean_expected, word_expected
 use Rattle.lingua.specs.Outcome.{ok, or_fail, is_some}
 use Rattle.lingua.specs.Body.{Body, boolean, number, word, hundredths, list_of, record_of, Attributes, end, attribute, size, sizes, nodes, depth, width, is_boolean, is_number, is_word, is_hundredths, is_quantity, is_simple, same_body, element_body, attributes_of, count_attributes, attribute_body, attribute_offset, insert_attribute, remove_attribute, too_large}
 use Rattle.lingua.specs.WellFormed.{InBounds}
-use Rattle.lingua.specs.Operation.{Unary, negation, make_record, select, make-list, top, pop, remove, to-hundredths, to_number, Binary, add, subtract, multiply, divide, less, equal, glue, expand, change, push, bounded, present, unary_body, quantities_to, binary_body}
+use Rattle.lingua.specs.Operation.{Unary, negation, make_record, select, make_list, top, pop, remove, to_hundredths, to_number, Binary, add, subtract, multiply, divide, less, equal, glue, expand, change, push, bounded, present, unary_body, quantities_to, binary_body}
 use Rattle.laws.specs.Outcomes.{false_is_true, ok_same, required, or_fail_ok, asked, is_some_lem, and_left, and_right, or_left, or_right, same_body_lem, is_boolean_lem, is_number_lem, is_word_lem, is_hundredths_lem, is_list, is_record, none_is_some, some_same}
 use Rattle.laws.specs.Removal.{removed_fewer}
 
@@ -69,7 +69,7 @@ select_body {n} {b} {d} e =
     let p = asked (attributes_of b) record_expected (λ fs. or_fail (attribute_body n fs) no_such_attribute) d e in
     record { attributes = p.0; is = is_record b p.0 p.1; has = or_fail_ok (attribute_body n p.0) no_such_attribute d p.2 }
 
-pub make_list_body : {b d : Body} → unary_body make-list b ≡ ok d → d ≡ list_of b
+pub make_list_body : {b d : Body} → unary_body make_list b ≡ ok d → d ≡ list_of b
 unfolding unary_body
 make_list_body e = bounded_is e
 
@@ -110,7 +110,7 @@ remove_body {n} {b} {d} e =
       result = sym (ok_same r.1);
     }
 
-pub to_hundredths_body : {b d : Body} → unary_body to-hundredths b ≡ ok d → (b ≡ number) × (d ≡ hundredths)
+pub to_hundredths_body : {b d : Body} → unary_body to_hundredths b ≡ ok d → (b ≡ number) × (d ≡ hundredths)
 unfolding unary_body
 to_hundredths_body {b} {d} e = let p = required (is_number b) number_expected (ok hundredths) d e in (is_number_lem b p.0, sym (ok_same p.1))
 
@@ -169,16 +169,16 @@ change_body {n} {b} {c} {d} e =
     let fs = p.0 in
     let q = asked (attribute_body n fs) no_such_attribute _ d p.2 in
     let r = required (same_body q.0 c) no_coherence (ok b) d q.2 in
-    let b-is = is_record b fs p.1 in
-    (record { attributes = fs; is = b-is; has = q.1 ∙ ap some (same_body_lem q.0 c r.0) }, sym (ok_same r.1) ∙ b-is)
+    let b_is = is_record b fs p.1 in
+    (record { attributes = fs; is = b_is; has = q.1 ∙ ap some (same_body_lem q.0 c r.0) }, sym (ok_same r.1) ∙ b_is)
 
 pub push_body : {b c d : Body} → binary_body push b c ≡ ok d → (b ≡ list_of c) × (d ≡ list_of c)
 unfolding binary_body
 push_body {b} {c} {d} e =
     let p = asked (element_body b) list_expected _ d e in
     let r = required (same_body p.0 c) no_coherence (ok b) d p.2 in
-    let b-is : b ≡ list_of c = is_list b p.0 p.1 ∙ ap (λ (x : Body). list_of x) (same_body_lem p.0 c r.0) in
-    (b-is, sym (ok_same r.1) ∙ b-is)
+    let b_is : b ≡ list_of c = is_list b p.0 p.1 ∙ ap (λ (x : Body). list_of x) (same_body_lem p.0 c r.0) in
+    (b_is, sym (ok_same r.1) ∙ b_is)
 
 -- ---- sizes
 -- an attribute's cells lie within its record's
@@ -242,13 +242,13 @@ unary_small negation b h e = simple_small (negation_body e).1 boolean_small
 unary_small (make_record n) b h e = bounded_small (record_of (attribute n b end)) e
 unary_small (select n) b {d} h e =
     let s = select_body {n = n} e in attribute_small n s.attributes d s.has (subst (λ (c : Body). size c ≤ body_cells) s.is h)
-unary_small make-list b h e = bounded_small (list_of b) e
+unary_small make_list b h e = bounded_small (list_of b) e
 unary_small top b {d} h e = element_small d (subst (λ (c : Body). size c ≤ body_cells) (top_body e) h)
 unary_small pop b {d} h e = let p = pop_body e in simple_small (p.2 ∙ sym p.1) h
 unary_small (remove n) b h e =
     let s = remove_body {n = n} e in
     simple_small s.result (removed_small n s.attributes s.removed s.has (subst (λ (c : Body). size c ≤ body_cells) s.is h))
-unary_small to-hundredths b h e = simple_small (to_hundredths_body e).1 hundredths_small
+unary_small to_hundredths b h e = simple_small (to_hundredths_body e).1 hundredths_small
 unary_small to_number b h e = simple_small (to_number_body e).1 number_small
 
 pub binary_small : (o : Binary) (b c : Body) {d : Body} → size b ≤ body_cells → size c ≤ body_cells → binary_body o b c ≡ ok d → size d ≤ body_cells

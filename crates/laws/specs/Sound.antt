@@ -8,7 +8,7 @@ use Rattle.lingua.specs.Errors.{overflow, division_by_zero, list_full, word_too_
 use Rattle.lingua.specs.Outcome.{ok}
 use Rattle.lingua.specs.Body.{Body, boolean, number, word, hundredths, is_number, is_hundredths, is_quantity, list_of, record_of, Attributes}
 use Rattle.lingua.specs.Value.{Value, whole, text, items, Values, no_items, item, count_values, in_range, Fits, fit_truth, fit_whole, fit_hundredths, fit_text, fit_items, fit_fields, AllFit, fit_item, FieldsFit, is_text, as_whole, as_text, as_items, as_fields, in_counts, quantity_body, is_count, in_range_of, quantity}
-use Rattle.lingua.specs.Operation.{Unary, negation, make_record, select, make-list, top, pop, remove, to-hundredths, to_number, Binary, add, subtract, multiply, divide, less, equal, glue, expand, change, push, unary_body, binary_body}
+use Rattle.lingua.specs.Operation.{Unary, negation, make_record, select, make_list, top, pop, remove, to_hundredths, to_number, Binary, add, subtract, multiply, divide, less, equal, glue, expand, change, push, unary_body, binary_body}
 use Rattle.lingua.specs.Rounding.{nearest}
 use Rattle.lingua.specs.Compute.{ranged, same_number, quotient, product, divided, glued, pushed, top_of, pop_of, with_last, unary_value, binary_value}
 use Rattle.arith.specs.Ranges.{counted_in_range, whole_part_in_range}
@@ -141,7 +141,7 @@ unary_sound (make_record n) h e f = fits_as (ok_same f) (sym (make_record_body {
 unary_sound (select n) {x} {v} {b} {d} h e f =
     let s = select_body {n = n} e in
     fits_as (ok_same f) refl (select_fits (fit_record (as_body s.is h)) n d s.has)
-unary_sound make-list h e f = fits_as (ok_same f) (sym (make_list_body e)) (single_fits h)
+unary_sound make_list h e f = fits_as (ok_same f) (sym (make_list_body e)) (single_fits h)
 unary_sound top {x} h e f = top_sound (as_items x) (fit_list (as_body (top_body e) h)) f
 unary_sound pop {x} h e f =
     let p = pop_body e in
@@ -150,7 +150,7 @@ unary_sound pop {x} h e f =
 unary_sound (remove n) h e f =
     let s = remove_body {n = n} e in
     fits_as (ok_same f) (sym s.result) (fit_fields (remove_fits (fit_record (as_body s.is h)) n s.removed s.has))
-unary_sound to-hundredths {x} h e f =
+unary_sound to_hundredths {x} h e f =
     let p = to_hundredths_body e in
     fits_as (ok_same f) (sym p.1) (fit_hundredths (counted_in_range (as_whole x) (fit_number (as_body p.0 h))))
 unary_sound to_number {x} h e f =

@@ -2,7 +2,7 @@
 -- go through these. Assumes nothing: these are definitions.
 use Rattle.std.proofs.Math.Option.{some, none}
 use Rattle.std.specs.Prelude.{ℕ}
-use Rattle.lingua.specs.Run.{End, finished, failed, out-of-budget}
+use Rattle.lingua.specs.Run.{End, finished, failed, out_of_budget}
 use Rattle.lingua.specs.Lookup.{Lookup, lookup}
 use Rattle.lingua.specs.Format.{File, profile, limits}
 use Rattle.lingua.specs.declared.FileKind.{FileKind}
@@ -37,13 +37,13 @@ ending n e p s = record { end = n; error = e; place = p; steps = s }
 abbrev pub end_number : End → ℕ
 end_number finished = 0
 end_number failed = 1
-end_number out-of-budget = 2
+end_number out_of_budget = 2
 
 unfoldable pub run_meaning : RunAnswer → Answer Ending
 run_meaning (run_answer.Refused n) = refused n
 run_meaning (run_answer.Finished s) = answered (ending (end_number finished) 0 0 s)
 run_meaning (run_answer.Failed e p s) = answered (ending (end_number failed) e p s)
-run_meaning (run_answer.Out e p s) = answered (ending (end_number out-of-budget) e p s)
+run_meaning (run_answer.Out e p s) = answered (ending (end_number out_of_budget) e p s)
 
 -- ---- the type check
 pub data Verdict : Type 0 where

@@ -9,7 +9,7 @@ use Rattle.lingua.specs.Errors.{overflow, division_by_zero, list_empty, list_ful
 use Rattle.lingua.specs.Outcome.{ok, fail, Result, require, ◌>>◌}
 use Rattle.lingua.specs.Value.{Value, truth, whole, count, text, items, fields, Values, no_items, item, Fields, no_fields, field, count_values, in_range_of, is_count, quantity, as_truth, as_whole, as_text, as_items, as_fields}
 use Rattle.lingua.specs.Rounding.{nearest}
-use Rattle.lingua.specs.Operation.{Unary, negation, make_record, select, make-list, top, pop, remove, to-hundredths, to_number, Binary, add, subtract, multiply, divide, less, equal, glue, expand, change, push}
+use Rattle.lingua.specs.Operation.{Unary, negation, make_record, select, make_list, top, pop, remove, to_hundredths, to_number, Binary, add, subtract, multiply, divide, less, equal, glue, expand, change, push}
 
 -- ---- numbers, and hundredths: h says that hundredths are counted
 unfoldable pub ranged : Bool → ℤ → Result Value
@@ -118,11 +118,11 @@ unfoldable pub unary_value : Unary → Value → Result Value
 unary_value negation x = ok (truth (not (as_truth x)))
 unary_value (make_record n) x = ok (fields (field n x no_fields))
 unary_value (select n) x = ok (field_value n (as_fields x))
-unary_value make-list x = ok (items (item x no_items))
+unary_value make_list x = ok (items (item x no_items))
 unary_value top x = top_of (as_items x)
 unary_value pop x = pop_of (as_items x)
 unary_value (remove n) x = ok (fields (remove_field n (as_fields x)))
-unary_value to-hundredths x = ok (count (counted (as_whole x)))
+unary_value to_hundredths x = ok (count (counted (as_whole x)))
 unary_value to_number x = ok (whole (whole_part (as_whole x)))
 
 unfoldable pub binary_value : Binary → Value → Value → Result Value

@@ -6,7 +6,7 @@ use Rattle.lingua.specs.Errors.{overflow, division_by_zero, yoke_not_satisfied, 
 use Rattle.lingua.specs.Outcome.{ok, fail, Result, ◌>>=◌}
 use Rattle.lingua.specs.Body.{Body, number, list_of, size}
 use Rattle.lingua.specs.Value.{whole, items, no_items, item, Composite, composite}
-use Rattle.lingua.specs.Operation.{make-list, add, divide, less, equal, unary_body}
+use Rattle.lingua.specs.Operation.{make_list, add, divide, less, equal, unary_body}
 use Rattle.lingua.specs.Expression.{conjunction, Expression, constant, current, binary, lazy, all_list, Yoke, always, yoke, Instruction, skip, assign, sequence}
 use Rattle.lingua.specs.Evaluation.{boolean_of, eval, no_current}
 use Rattle.lingua.specs.Store.{Limit, cells_in}
@@ -78,7 +78,7 @@ runs p budget = ends (ending_of budget (run p [] budget)) (take 1 (cells_in (las
 
 -- the cells of what the list operation makes
 unfoldable pub list_cells : Body → Seen
-list_cells b = takes (unary_body make-list b >>= λ c. ok (size c))
+list_cells b = takes (unary_body make_list b >>= λ c. ok (size c))
 
 -- ---- the table
 unfoldable pub edges : List Edge

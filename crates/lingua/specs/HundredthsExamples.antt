@@ -9,7 +9,7 @@ use Rattle.lingua.specs.Outcome.{ok, fail}
 use Rattle.lingua.specs.Body.{boolean, number, hundredths, list_of, size}
 use Rattle.lingua.specs.Value.{whole, count, cells_of, Composite, composite}
 use Rattle.lingua.specs.Encode.{encoded}
-use Rattle.lingua.specs.Operation.{to-hundredths, to_number, add, subtract, multiply, divide, less, equal}
+use Rattle.lingua.specs.Operation.{to_hundredths, to_number, add, subtract, multiply, divide, less, equal}
 use Rattle.lingua.specs.Expression.{Expression, constant, variable, current, unary, binary, Yoke, always, yoke, Instruction, skip, assign, sequence, handle}
 use Rattle.lingua.specs.Evaluation.{boolean_of, apply_unary, apply_binary, no_current}
 use Rattle.lingua.specs.Store.{Limit, Reading, cells_in}
@@ -107,11 +107,11 @@ unfolding computing
 counts_equal = refl
 
 -- ---- conversions
-pub highest_converted : apply_unary to-hundredths (wholes (pos 1000000)) ≡ ok (counts (pos 100000000))
+pub highest_converted : apply_unary to_hundredths (wholes (pos 1000000)) ≡ ok (counts (pos 100000000))
 unfolding computing
 highest_converted = refl
 
-pub lowest_converted : apply_unary to-hundredths (wholes (negsuc 999999)) ≡ ok (counts (negsuc 99999999))
+pub lowest_converted : apply_unary to_hundredths (wholes (negsuc 999999)) ≡ ok (counts (negsuc 99999999))
 unfolding computing
 lowest_converted = refl
 
@@ -128,7 +128,7 @@ pub cut_to_zero : apply_unary to_number (counts (negsuc 98)) ≡ ok (wholes (pos
 unfolding computing
 cut_to_zero = refl
 
-pub converted_twice : apply_unary to-hundredths (counts (pos 250)) ≡ fail number_expected
+pub converted_twice : apply_unary to_hundredths (counts (pos 250)) ≡ fail number_expected
 unfolding computing
 converted_twice = refl
 
@@ -191,7 +191,7 @@ reckoned in_row =
     (in_row 7 (pos 7))
 
 abbrev pub there_and_back : Expression
-there_and_back = binary 12 less (unary 10 to-hundredths (unary 9 to_number (reckoned counted_in))) (counted_in 11 (pos 11))
+there_and_back = binary 12 less (unary 10 to_hundredths (unary 9 to_number (reckoned counted_in))) (counted_in 11 (pos 11))
 
 abbrev pub layout_for : Expression → List ℕ
 layout_for e = layout_in (check e (λ n. boolean) (some boolean))
@@ -360,7 +360,7 @@ unfolding computing quickly exact_rows example_limits
 exact_passes = type_check_by (file_made profile 7 exact_rows) limits_made (replicate 1024 5) ∙ refl
 
 -- the conversions' kinds
-pub kind_28 : expression_at (row 3 28 (1 ∷ [])) 0 ≡ unary_row to-hundredths 1
+pub kind_28 : expression_at (row 3 28 (1 ∷ [])) 0 ≡ unary_row to_hundredths 1
 unfolding computing
 kind_28 = refl
 

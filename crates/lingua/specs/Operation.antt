@@ -10,9 +10,9 @@ pub data Unary : Type 0 where
   negation : Unary
   make_record : ℕ → Unary
   select : ℕ → Unary
-  make-list top pop : Unary
+  make_list top pop : Unary
   remove : ℕ → Unary
-  to-hundredths to_number : Unary
+  to_hundredths to_number : Unary
 
 -- of two operands: kinds 5 to 10, 13, 17, 19, 21
 pub data Binary : Type 0 where
@@ -38,7 +38,7 @@ unary_body (make_record n) b = bounded (record_of (attribute n b end))
 unary_body (select n) b = do
   fs ← or_fail (attributes_of b) record_expected
   or_fail (attribute_body n fs) no_such_attribute
-unary_body make-list b = bounded (list_of b)
+unary_body make_list b = bounded (list_of b)
 unary_body top b = or_fail (element_body b) list_expected
 unary_body pop b = do
   e ← or_fail (element_body b) list_expected
@@ -48,7 +48,7 @@ unary_body (remove n) b = do
   require (present n fs) no_such_attribute
   require (ltb 1 (count_attributes fs)) last_attribute
   ok (record_of (remove_attribute n fs))
-unary_body to-hundredths b = do
+unary_body to_hundredths b = do
   require (is_number b) number_expected
   ok hundredths
 unary_body to_number b = do

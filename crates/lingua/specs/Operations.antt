@@ -1,5 +1,5 @@
 -- What the code's operations mean. Assumes nothing: these are definitions.
-use Rattle.lingua.specs.Operation.{Unary, negation, make_record, select, make-list, top, pop, remove, to-hundredths, to_number, Binary, add, subtract, multiply, divide, less, equal, glue, expand, change, push}
+use Rattle.lingua.specs.Operation.{Unary, negation, make_record, select, make_list, top, pop, remove, to_hundredths, to_number, Binary, add, subtract, multiply, divide, less, equal, glue, expand, change, push}
 use Rattle.lingua.specs.declared.operations.UnaryOperation.{UnaryOperation}
 use Rattle.lingua.specs.declared.operations.UnaryOperation.TheVariants.{Negation, MakeRecord, Select, MakeList, Top, Pop, Remove, ToHundredths, ToNumber}
 use Rattle.lingua.specs.declared.operations.BinaryOperation.{BinaryOperation}
@@ -9,11 +9,11 @@ unfoldable pub unary_meaning : UnaryOperation → Unary
 unary_meaning Negation = negation
 unary_meaning (MakeRecord n) = make_record n
 unary_meaning (Select n) = select n
-unary_meaning MakeList = make-list
+unary_meaning MakeList = make_list
 unary_meaning Top = top
 unary_meaning Pop = pop
 unary_meaning (Remove n) = remove n
-unary_meaning ToHundredths = to-hundredths
+unary_meaning ToHundredths = to_hundredths
 unary_meaning ToNumber = to_number
 
 unfoldable pub binary_meaning : BinaryOperation → Binary

@@ -7,7 +7,7 @@ use Rattle.std.proofs.Common.{to_z}
 use Rattle.lingua.specs.Numbers.{row_bytes, type_section, expression_section, instruction_section, procedure_section, header_table}
 use Rattle.lingua.specs.Body.{Body, boolean, number, word, hundredths}
 use Rattle.lingua.specs.Value.{truth, whole, count, text, Composite, composite}
-use Rattle.lingua.specs.Operation.{Unary, negation, make_record, select, make-list, top, pop, remove, to-hundredths, to_number, Binary, add, subtract, multiply, divide, less, equal, glue, expand, change, push}
+use Rattle.lingua.specs.Operation.{Unary, negation, make_record, select, make_list, top, pop, remove, to_hundredths, to_number, Binary, add, subtract, multiply, divide, less, equal, glue, expand, change, push}
 use Rattle.lingua.specs.Expression.{Connective, conjunction, disjunction}
 
 -- ---- fields
@@ -227,7 +227,7 @@ expression_kinds =
     ∷ field_kind 17 6 (λ a b c. binary_row (expand b) a c)
     ∷ field_kind 18 4 (λ a b c. unary_row (select b) a)
     ∷ field_kind 19 6 (λ a b c. binary_row (change b) a c)
-    ∷ field_kind 20 2 (λ a b c. unary_row make-list a)
+    ∷ field_kind 20 2 (λ a b c. unary_row make_list a)
     ∷ field_kind 21 4 (λ a b c. binary_row push a b)
     ∷ field_kind 22 2 (λ a b c. unary_row top a)
     ∷ field_kind 23 2 (λ a b c. unary_row pop a)
@@ -235,7 +235,7 @@ expression_kinds =
     ∷ field_kind 25 2 (λ a b c. all_list_row a)
     ∷ field_kind 26 4 (λ a b c. unary_row (remove b) a)
     ∷ constant_kind 27 (λ rows i. hundredths_constant (number_at rows i))
-    ∷ field_kind 28 2 (λ a b c. unary_row to-hundredths a)
+    ∷ field_kind 28 2 (λ a b c. unary_row to_hundredths a)
     ∷ field_kind 29 2 (λ a b c. unary_row to_number a)
     ∷ []
 

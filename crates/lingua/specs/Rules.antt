@@ -6,7 +6,7 @@ use Rattle.std.proofs.Math.Option.{Option, some, none}
 use Rattle.lingua.specs.Numbers.{attribute_numbers, word_length, most_variables, most_types, most_expressions, most_instructions, most_limits, most_procedures, declaration_section, type_section, expression_section, instruction_section, limit_section, procedure_section, scope_table}
 use Rattle.lingua.specs.Errors.{is_error}
 use Rattle.lingua.specs.Value.{in_range, in_counts, is_character, all_of}
-use Rattle.lingua.specs.Operation.{Unary, negation, make_record, select, make-list, top, pop, remove, to-hundredths, to_number, Binary, add, subtract, multiply, divide, less, equal, glue, expand, change, push}
+use Rattle.lingua.specs.Operation.{Unary, negation, make_record, select, make_list, top, pop, remove, to_hundredths, to_number, Binary, add, subtract, multiply, divide, less, equal, glue, expand, change, push}
 use Rattle.lingua.specs.Compute.{same_text}
 use Rattle.lingua.specs.Rows.{row_count, section_at, kind_at, bytes_at, row_in, procedure_kind, table_count, pair_count, procedure_count, numbered, used_of, TypeRow, simple_type, list_type, record_type, expand_type, unknown_type, type_kinds, type_row, Constant, boolean_constant, number_constant, word_constant, hundredths_constant, ExpressionRow, constant_row, variable_row, current_row, unary_row, binary_row, lazy_row, choice_row, all_list_row, unknown_expression, expression_kinds, expression_row, InstructionRow, skip_row, assign_row, set_yoke_row, sequence_row, branch_row, loop_row, handle_row, call_row, unknown_instruction, instruction_kinds, instruction_row}
 use Rattle.lingua.specs.Trees.{name_at}
@@ -123,11 +123,11 @@ unfoldable pub unary_attribute : Unary → List ℕ
 unary_attribute negation = []
 unary_attribute (make_record n) = n ∷ []
 unary_attribute (select n) = n ∷ []
-unary_attribute make-list = []
+unary_attribute make_list = []
 unary_attribute top = []
 unary_attribute pop = []
 unary_attribute (remove n) = n ∷ []
-unary_attribute to-hundredths = []
+unary_attribute to_hundredths = []
 unary_attribute to_number = []
 
 unfoldable pub binary_attribute : Binary → List ℕ

@@ -189,7 +189,7 @@ run p readings budget = exec (called assigned exec p.procedures most_calls) p.pr
 
 -- ---- how it ended
 pub data End : Type 0 where
-  finished failed out-of-budget : End
+  finished failed out_of_budget : End
 
 abbrev pub last_state : Progress → State
 last_state (going s) = s
@@ -202,7 +202,7 @@ open_calls (out s os) = os
 
 abbrev pub end_of : Progress → End
 end_of (going s) = if eqb s.error no_error then finished else failed
-end_of (out s os) = out-of-budget
+end_of (out s os) = out_of_budget
 
 abbrev pub steps_of : ℕ → Progress → ℕ
 steps_of budget p = budget - (last_state p).left

@@ -6,7 +6,7 @@ use Rattle.lingua.specs.Numbers.{most_parameters, declaration_section, instructi
 use Rattle.lingua.specs.Outcome.{ok, fail, Result, ◌>>=◌}
 use Rattle.lingua.specs.Errors.{record_expected, is_among}
 use Rattle.lingua.specs.Body.{Body, boolean}
-use Rattle.lingua.specs.Operation.{make_record, make-list, expand, unary_body, binary_body}
+use Rattle.lingua.specs.Operation.{make_record, make_list, expand, unary_body, binary_body}
 use Rattle.lingua.specs.Compute.{same_text}
 use Rattle.lingua.specs.Expression.{Expression, constant, variable, current, unary, binary, lazy, choice, all_list, Yoke, always, yoke, Instruction, skip, assign, set_yoke, sequence, branch, loop, handle, call}
 use Rattle.lingua.specs.Evaluation.{no_current}
@@ -35,7 +35,7 @@ unfoldable pub type_body_of : TypeRow → (ℕ → Result Body) → Result Body
 type_body_of (simple_type b) look = ok b
 type_body_of (list_type a) look = do
   b ← look a
-  unary_body make-list b
+  unary_body make_list b
 type_body_of (record_type n b) look = do
   c ← look b
   unary_body (make_record n) c

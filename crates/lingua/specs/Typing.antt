@@ -6,7 +6,7 @@ use Rattle.lingua.specs.Numbers.{layout_length, instruction_place, declaration_p
 use Rattle.lingua.specs.Errors.{boolean_expected, list_expected, no_coherence, yoke_expected}
 use Rattle.lingua.specs.Outcome.{Outcome, ok, fail, Result, require, or_fail, or_else, answer_of, both, all_answers, ◌>>=◌, ◌>>◌}
 use Rattle.lingua.specs.Body.{Body, boolean, Attributes, size, same_body, is_boolean, is_hundredths, element_body, attributes_of, attribute_offset}
-use Rattle.lingua.specs.Operation.{Unary, negation, make_record, select, make-list, top, pop, remove, to-hundredths, to_number, Binary, add, subtract, multiply, divide, less, equal, glue, expand, change, push, unary_body, binary_body}
+use Rattle.lingua.specs.Operation.{Unary, negation, make_record, select, make_list, top, pop, remove, to_hundredths, to_number, Binary, add, subtract, multiply, divide, less, equal, glue, expand, change, push, unary_body, binary_body}
 use Rattle.lingua.specs.Expression.{Expression, constant, variable, current, unary, binary, lazy, choice, all_list, Yoke, always, yoke, Instruction, skip, assign, set_yoke, sequence, branch, loop, handle, call}
 use Rattle.lingua.specs.Evaluation.{no_current}
 use Rattle.lingua.specs.Run.{Declaration, Scoped, Profile, scope_declarations}
@@ -69,11 +69,11 @@ unfoldable pub unary_second : Unary → Body → ℕ
 unary_second negation b = 0
 unary_second (make_record n) b = 0
 unary_second (select n) b = offset_in n b
-unary_second make-list b = 0
+unary_second make_list b = 0
 unary_second top b = 0
 unary_second pop b = 0
 unary_second (remove n) b = offset_in n b
-unary_second to-hundredths b = 0
+unary_second to_hundredths b = 0
 unary_second to_number b = 0
 
 -- 1 for hundredths

@@ -3,7 +3,7 @@ use Rattle.std.specs.Prelude.{◌≡◌, refl, Bool, false, List, ℕ}
 use Rattle.std.proofs.Common.{ap}
 use Rattle.lingua.specs.Outcome.{ok, fail, Result, ◌>>=◌}
 use Rattle.lingua.specs.Body.{Body, is_hundredths}
-use Rattle.lingua.specs.Operation.{make-list, make_record, expand, unary_body, binary_body}
+use Rattle.lingua.specs.Operation.{make_list, make_record, expand, unary_body, binary_body}
 use Rattle.lingua.specs.Rows.{TypeRow, simple_type, list_type, record_type, expand_type, unknown_type, type_row}
 use Rattle.lingua.specs.Trees.{type_body_of, type_body_in, type_body, body_or}
 use Rattle.laws.specs.Halves.{make_list_body, make_record_body, expand_body}
@@ -30,7 +30,7 @@ behind (fail n) f g = refl
 row_body : (row : TypeRow) (look : ℕ → Result Body) → is_hundredths (body_or (type_body_of row look)) ≡ hundredths_row row
 unfolding type_body_of hundredths_row is_hundredths
 row_body (simple_type b) look = refl
-row_body (list_type a) look = behind (look a) (λ b. unary_body make-list b) (λ b d e. ap is_hundredths (make_list_body e))
+row_body (list_type a) look = behind (look a) (λ b. unary_body make_list b) (λ b d e. ap is_hundredths (make_list_body e))
 row_body (record_type n a) look = behind (look a) (λ b. unary_body (make_record n) b) (λ b d e. ap is_hundredths (make_record_body {n = n} e))
 row_body (expand_type a n c) look = first (look a)
   where

@@ -14,7 +14,7 @@ use Rattle.lingua.specs.Numbers.{type_section, attribute_numbers, most_types, ty
 use Rattle.lingua.specs.Errors.{record_expected}
 use Rattle.lingua.specs.Outcome.{ok, fail, Result, is_ok, ◌>>=◌}
 use Rattle.lingua.specs.Body.{Body, boolean}
-use Rattle.lingua.specs.Operation.{make-list, make_record, expand, unary_body, binary_body}
+use Rattle.lingua.specs.Operation.{make_list, make_record, expand, unary_body, binary_body}
 use Rattle.lingua.specs.Value.{all_of}
 use Rattle.lingua.specs.Rows.{table_count, TypeRow, simple_type, list_type, record_type, expand_type, unknown_type, type_row}
 use Rattle.lingua.specs.Trees.{lower, type_body_of, type_body}
@@ -85,13 +85,13 @@ module _ (t : Typed) (row : TypeRow) (look : ℕ → Result Body) where
   answers_simple b e h = answered t (type_body_of row look) (ok b) 0 (ap (λ (x : TypeRow). type_body_of x look) e) h
 
   module _ (bodies : List ℕ) (looks : Every (λ p. LooksUp look bodies p) (type_parts row)) where
-    pub answers_list : (a : ℕ) (x : List ℕ) → row ≡ list_type a → x ≡ body_at bodies a → ((d : Body) → Holds x d → Types t (unary_body make-list d) 0)
+    pub answers_list : (a : ℕ) (x : List ℕ) → row ≡ list_type a → x ≡ body_at bodies a → ((d : Body) → Holds x d → Types t (unary_body make_list d) 0)
         → Answers t (type_body_of row look)
     unfolding type_body_of
     answers_list a x e q h =
         let l = part_list row a e looks in
-        answered t (type_body_of row look) (unary_body make-list l.body) 0
-        (ap (λ (y : TypeRow). type_body_of y look) e ∙ bound (look a) (λ d. unary_body make-list d) l.body l.is)
+        answered t (type_body_of row look) (unary_body make_list l.body) 0
+        (ap (λ (y : TypeRow). type_body_of y look) e ∙ bound (look a) (λ d. unary_body make_list d) l.body l.is)
         (h l.body (subst (λ (y : List ℕ). Holds y l.body) (sym q) l.holds))
 
     pub answers_record : (n b : ℕ) (x : List ℕ) → row ≡ record_type n b → x ≡ body_at bodies b → ((d : Body) → Holds x d → Types t (unary_body (make_record n) d) 0)

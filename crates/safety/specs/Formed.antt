@@ -11,7 +11,7 @@ use Rattle.lingua.specs.Outcome.{ok, fail, Result, ◌>>=◌, all_answers}
 use Rattle.lingua.specs.Body.{Body, is_boolean}
 use Rattle.lingua.specs.WellFormed.{WellFormed, formed_boolean, formed_number, formed_word, formed_hundredths}
 use Rattle.lingua.specs.Value.{Composite, all_of}
-use Rattle.lingua.specs.Operation.{make_record, make-list, expand, unary_body, binary_body}
+use Rattle.lingua.specs.Operation.{make_record, make_list, expand, unary_body, binary_body}
 use Rattle.lingua.specs.Compute.{unary_value, binary_value}
 use Rattle.lingua.specs.Expression.{settled_by, Expression, constant, variable, current, unary, binary, lazy, choice, all_list}
 use Rattle.lingua.specs.Evaluation.{Variables, apply_unary, apply_binary, truth_or, boolean_of, all_true, elements_of, eval}
@@ -66,7 +66,7 @@ unfolding SimpleFormed type_body_of type_attributes all_of unary_attribute binar
 row_formed (simple_type c) look h a f b e = formed_as (ok_same e) h
 row_formed (list_type x) look h a f b e =
     let p = bound (look x) _ b e in
-    unary_formed make-list refl (f x p.0 p.1) p.2
+    unary_formed make_list refl (f x p.0 p.1) p.2
 row_formed (record_type n x) look h a f b e =
     let p = bound (look x) _ b e in
     unary_formed (make_record n) a (f x p.0 p.1) p.2

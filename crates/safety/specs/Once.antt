@@ -304,10 +304,10 @@ pub count_roots : (rows : List ℕ) (x : ℕ)
     → occurrences x (expression_uses rows) ≡ occurrences x (roots rows) + occurrences x (joined (tabulate (table_count rows expression_section) (used_by rows)))
 unfolding expression_uses yoke_roots plain_roots roots all_declared_roots instruction_roots tabulate
 count_roots rows x =
-    let set-roots : List ℕ = joined (tabulate (table_count rows instruction_section) (λ r. yoke_set (instruction_row rows r))) in
+    let set_roots : List ℕ = joined (tabulate (table_count rows instruction_section) (λ r. yoke_set (instruction_row rows r))) in
     let plain : List ℕ = joined (tabulate (table_count rows instruction_section) (λ r. evaluated (instruction_row rows r))) in
     let used : List ℕ = joined (tabulate (table_count rows expression_section) (used_by rows)) in
-    omega (arith, count_append x (yoke_roots rows) (plain_roots rows ++ used), count_append x (plain_roots rows) used, count_append x (all_declared_roots rows) set-roots, count_append x (all_declared_roots rows) (instruction_roots rows), count_both x (λ r. evaluated (instruction_row rows r)) (λ r. yoke_set (instruction_row rows r)) 0 (table_count rows instruction_section))
+    omega (arith, count_append x (yoke_roots rows) (plain_roots rows ++ used), count_append x (plain_roots rows) used, count_append x (all_declared_roots rows) set_roots, count_append x (all_declared_roots rows) (instruction_roots rows), count_both x (λ r. evaluated (instruction_row rows r)) (λ r. yoke_set (instruction_row rows r)) 0 (table_count rows instruction_section))
 
 not_counted : (x : ℕ) {ks : List ℕ} → Every (λ k. k < x) ks → occurrences x ks ≡ 0
 unfolding occurrences

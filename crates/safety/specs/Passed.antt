@@ -122,10 +122,10 @@ module _ {H : Entry → Type 0} (rows : List ℕ) (accepted : AcceptedRows rows)
       → Everywhere (DerivedRow H (procedure_bodies whole) (scope_bodies whole a)) (instruction_tree rows r)
   tree_typed a r l h =
       let own : Instruction → Type 0 = λ i. DerivedRow H (procedure_bodies whole) (scope_bodies whole (instruction_scope rows (node_row i))) i in
-      let of-rows : Everywhere own (instruction_tree rows r) = tree_everywhere own (λ k. skip_derived H (procedure_bodies whole) (scope_bodies whole (instruction_scope rows (node_row (skip k)))) k) rows (table_count rows instruction_section)
+      let of_rows : Everywhere own (instruction_tree rows r) = tree_everywhere own (λ k. skip_derived H (procedure_bodies whole) (scope_bodies whole (instruction_scope rows (node_row (skip k)))) k) rows (table_count rows instruction_section)
       (λ k q. subst (λ (j : ℕ). DerivedRow H (procedure_bodies whole) (scope_bodies whole (instruction_scope rows j)) (instruction_tree rows k)) (sym (tree_row rows k)) (rows_derive rows lims es passed each k q)) r l in
       everywhere_implies (λ i (k : own i × (instruction_scope rows (node_row i) ≡ a)). subst (λ (b : ℕ). DerivedRow H (procedure_bodies whole) (scope_bodies whole b) i) k.1 k.0)
-      (everywhere_both (instruction_tree rows r) of-rows (rows_everywhere {P = λ (x : ℕ). instruction_scope rows x ≡ a} (instruction_tree rows r) h))
+      (everywhere_both (instruction_tree rows r) of_rows (rows_everywhere {P = λ (x : ℕ). instruction_scope rows x ≡ a} (instruction_tree rows r) h))
 
   -- all rows of a scope's tree name its variables
   scope_rows : (a : ℕ) → a ≤ procedure_count rows → Everywhere (DerivedRow H (procedure_bodies whole) (scope_bodies whole a)) (instruction_tree rows (scope_row rows a))

@@ -11,7 +11,7 @@ use Rattle.lingua.specs.Errors.{is_run_error, overflow, division_by_zero, list_f
 use Rattle.lingua.specs.Outcome.{ok, fail, Result, ◌>>=◌, ◌>>◌, require, or_fail}
 use Rattle.lingua.specs.Body.{Body, boolean, record_of, Attributes, end, attribute, size, nodes, depth, count_attributes, width, too_large, is_boolean, is_quantity, is_word, is_simple, same_body, element_body, attributes_of, attribute_body, insert_attribute}
 use Rattle.lingua.specs.Value.{Value, Fits, Values, no_items, item, count_values, as_truth, as_whole, as_text, as_items, Composite, composite, in_range_of, is_count}
-use Rattle.lingua.specs.Operation.{Unary, negation, make_record, select, make-list, top, pop, remove, to-hundredths, to_number, Binary, add, subtract, multiply, divide, less, equal, glue, expand, change, push, bounded, present, unary_body, quantities_to, binary_body}
+use Rattle.lingua.specs.Operation.{Unary, negation, make_record, select, make_list, top, pop, remove, to_hundredths, to_number, Binary, add, subtract, multiply, divide, less, equal, glue, expand, change, push, bounded, present, unary_body, quantities_to, binary_body}
 use Rattle.lingua.specs.Compute.{ranged, same_number, product, divided, glued, pushed, top_of, pop_of, unary_value, binary_value}
 use Rattle.lingua.specs.Evaluation.{apply_unary, apply_binary, truth_or}
 use Rattle.lingua.specs.Meets.{error_in, on_answer, unless_met, expand_met, change_met, push_met, first_met, divisor_met, second_met, binary_met}
@@ -107,11 +107,11 @@ unfolding unary_value RunErrorOnly
 unary_only negation x = tt
 unary_only (make_record n) x = tt
 unary_only (select n) x = tt
-unary_only make-list x = tt
+unary_only make_list x = tt
 unary_only top x = top_only (as_items x)
 unary_only pop x = pop_only (as_items x)
 unary_only (remove n) x = tt
-unary_only to-hundredths x = tt
+unary_only to_hundredths x = tt
 unary_only to_number x = tt
 
 ranged_only : (h : Bool) (z : ℤ) → RunErrorOnly (ranged h z)

@@ -1,4 +1,4 @@
-use Rattle.lingua.specs.Operation.{negation, make_record, select, make-list, top, pop, remove, to-hundredths, to_number}
+use Rattle.lingua.specs.Operation.{negation, make_record, select, make_list, top, pop, remove, to_hundredths, to_number}
 use Rattle.lingua.specs.Operations.{unary_meaning}
 use Rattle.lingua.specs.Typing.{unary_second}
 use Rattle.body_half.proofs.Offsets.{unary_is}
@@ -18,7 +18,7 @@ returns-in-Select c = λ b h. rw c.in-Select.is (unary_is _ (select _) _ b h (c.
 
 pub returns-in-MakeList : goal.returns-in-MakeList
 unfolding unary_meaning unary_second
-returns-in-MakeList c = λ b h. rw c.in-MakeList.is (unary_is _ (make-list) _ b h (c.make_list.ensures b h))
+returns-in-MakeList c = λ b h. rw c.in-MakeList.is (unary_is _ (make_list) _ b h (c.make_list.ensures b h))
 
 pub returns-in-Top : goal.returns-in-Top
 unfolding unary_meaning unary_second
@@ -34,7 +34,7 @@ returns-in-Remove c = λ b h. rw c.in-Remove.is (unary_is _ (remove _) _ b h (c.
 
 pub returns-in-ToHundredths : goal.returns-in-ToHundredths
 unfolding unary_meaning unary_second
-returns-in-ToHundredths c = λ b h. rw c.in-ToHundredths.is (unary_is _ (to-hundredths) _ b h (c.to_hundredths.ensures b h))
+returns-in-ToHundredths c = λ b h. rw c.in-ToHundredths.is (unary_is _ (to_hundredths) _ b h (c.to_hundredths.ensures b h))
 
 pub returns-in-ToNumber : goal.returns-in-ToNumber
 unfolding unary_meaning unary_second

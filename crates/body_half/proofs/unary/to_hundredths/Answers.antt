@@ -1,7 +1,7 @@
 -- `body_half::unary::to_hundredths` meets its contract. Assumes nothing.
 use mathlib.Core.Path.{refl}
 use Rattle.lingua.specs.Encode.{bytes}
-use Rattle.lingua.specs.Operation.{unary_body, to-hundredths}
+use Rattle.lingua.specs.Operation.{unary_body, to_hundredths}
 use Rattle.body.specs.Typed.{simple_of}
 use Rattle.body.proofs.Tags.{is_number_lem, not_number}
 use Rattle.body.proofs.Answers.{failing, likewise}
@@ -10,12 +10,12 @@ use Rattle.body_half.proofs.unary.to_hundredths.Goals as goal
 
 pub returns-then-x-ne-NUMBER : goal.returns-then-x-ne-NUMBER
 returns-then-x-ne-NUMBER c = λ b h.
-    failing c.failed.result 8 c.failed.ensures (unary_body to-hundredths b)
+    failing c.failed.result 8 c.failed.ensures (unary_body to_hundredths b)
     (to_hundredths_other b (not_number c.args.x b h c.if-x-ne-NUMBER.true)) 0
 
 pub returns : goal.returns
 returns c = λ b h.
-    likewise c.scalar.result _ 0 c.scalar.ensures (unary_body to-hundredths b)
+    likewise c.scalar.result _ 0 c.scalar.ensures (unary_body to_hundredths b)
     (to_hundredths_number b (is_number_lem c.args.x b h c.if-x-ne-NUMBER.false))
 
 pub scalar-requires : goal.scalar-requires
