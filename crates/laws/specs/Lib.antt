@@ -36,3 +36,5 @@ pub mod Refers
 pub mod Reached
 pub mod Scopes
 pub mod Lookup
+pub mod Chains
+pub mod Faults

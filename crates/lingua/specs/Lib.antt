@@ -1,6 +1,7 @@
 pub mod Numbers
 pub mod Errors
 pub mod Outcome
+pub mod Faults
 pub mod Body
 pub mod WellFormed
 pub mod Value

@@ -1,4 +1,93 @@
-// Error and refusal numbers of document 01, as specs/Errors.antt defines them.
+// Errors and refusals of document 01, and their numbers, as specs/Errors.antt and specs/Faults.antt define them.
+ghost use Rattle.std.specs.Prelude.{◌≡◌};
+ghost use Rattle.lingua.specs.Faults.{error_number, refusal_number, number_of, refusal_of};
+
+// What stops a run or a type check: run errors first, then the errors of bodies, and again a run error, one call more than may be open.
+#[derive(Clone, Copy, Debug, PartialEq, Eq)]
+pub enum Error {
+    Overflow = 1,
+    DivisionByZero = 2,
+    YokeNotSatisfied = 3,
+    ListEmpty = 4,
+    ListFull = 5,
+    WordTooLong = 6,
+    NotFilled = 7,
+    NumberExpected = 8,
+    BooleanExpected = 9,
+    WordExpected = 10,
+    ListExpected = 11,
+    RecordExpected = 12,
+    NoSuchAttribute = 13,
+    AttributePresent = 14,
+    NoCoherence = 15,
+    YokeExpected = 16,
+    NotComparable = 17,
+    BodyTooLarge = 18,
+    LastAttribute = 19,
+    TooDeep = 20,
+}
+
+impl Error {
+    pub fn number(self) -> u8
+        ensures { result ≡ error_number self }
+    {
+        self as u8
+    }
+}
+
+// Why files, readings or buffers are refused.
+#[derive(Clone, Copy, Debug, PartialEq, Eq)]
+pub enum Refusal {
+    BadBuffer = 1,
+    BadLength = 2,
+    BadMarker = 3,
+    BadHeader = 4,
+    BadCheck = 5,
+    BadForm = 6,
+    BadCount = 7,
+    BadName = 8,
+    BadConstant = 9,
+    BadReference = 10,
+    BadUse = 11,
+    Misplaced = 12,
+    BadType = 13,
+    ModelsDiffer = 14,
+    BadLimit = 15,
+    BadReading = 16,
+    TypeErrorFound = 17,
+    BadParameters = 18,
+    RepeatedReference = 19,
+}
+
+impl Refusal {
+    pub fn number(self) -> u8
+        ensures { result ≡ refusal_number self }
+    {
+        self as u8
+    }
+}
+
+// The error's number, 0 where there is none.
+pub fn number_of(answer: Result<(), Error>) -> u8
+    ensures { result ≡ number_of answer }
+{
+    match answer {
+        Ok(()) => NO_ERROR,
+        Err(error) => error.number(),
+    }
+}
+
+// The refusal's number, 0 where there is none.
+pub fn refusal_of(answer: Result<(), Refusal>) -> u8
+    ensures { result ≡ refusal_of answer }
+{
+    match answer {
+        Ok(()) => NO_ERROR,
+        Err(refusal) => refusal.number(),
+    }
+}
+
+// The numbers alone.
 // no error
 pub const NO_ERROR: u8 = 0;
 // run errors
