@@ -1,6 +1,6 @@
 -- What the machine's operations give on numbers and counts fits 64 bits, and the ways in which the range check and a division end.
 -- Assumes nothing.
-use mathlib.Core.Path.{◌≡◌, refl, sym, ap}
+use mathlib.Core.Path.{◌≡◌, refl, ap}
 use mathlib.Core.Bool.{Bool, true, false, ◌&&◌}
 use Prim.Native.Nat.{ℕ, zero, suc, ◌≤◌, ◌<◌}
 use native.Mathlib.Nat.{mul-le-mul, div-le_self}
@@ -10,14 +10,12 @@ use lib.IntN.{ℤ, pos, negsuc, nat_abs, ◌+ℤ◌, ◌-ℤ◌, ◌*ℤ◌}
 use lib.Signed.{lt_z, le_z, quot_z}
 use mir.Syntax.{w64}
 use mir.Val.{SFits, of_z}
-use Rattle.lingua.specs.Value.{in_range, in_counts, in_range_of, as_whole}
+use Rattle.lingua.specs.Value.{whole, in_range, in_counts, in_range_of, quantity}
+use Rattle.lingua.specs.Outcome.{ok, fail}
 use Rattle.lingua.specs.Rounding.{nearest}
 use Rattle.lingua.specs.Compute.{ranged, product, divided, quotient, same_number}
-use Rattle.arith.specs.Image.{image}
-use Rattle.arith.specs.declared.Number.TheVariants.{Whole, Error}
 use Rattle.arith.specs.Sizes.{abs_product, abs_sum, abs_difference, abs_quotient}
 use Rattle.arith.specs.Ranges.{number_size, quantity_size}
-use Rattle.arith.specs.Distances.{quantity_whole}
 
 -- ---- the four ways in which the range is told
 below_range : (low high : ℤ) (z : ℤ) → lt_z z low ≡ true → false ≡ le_z low z && le_z z high
@@ -50,12 +48,12 @@ module _ (h : Bool) (z : ℤ) where
   number_rest e f = rw e (from_lowest (negsuc 999999) (pos 1000000) z f)
 
   -- ---- the two ways in which the range check ends
-  pub checked_within : in_range_of h z ≡ true → Whole z ≡ image (ranged h z)
-  unfolding image ranged
-  checked_within e = rw e (ap Whole (sym (quantity_whole h z)))
+  pub checked_within : in_range_of h z ≡ true → ok (quantity h z) ≡ ranged h z
+  unfolding ranged
+  checked_within e = rw e
 
-  pub checked_out : in_range_of h z ≡ false → Error 1 ≡ image (ranged h z)
-  unfolding image ranged
+  pub checked_out : in_range_of h z ≡ false → fail 1 ≡ ranged h z
+  unfolding ranged
   checked_out e = rw e
 
 -- ---- what the machine's operations give fits 64 bits
@@ -99,11 +97,11 @@ zero_bits (pos (suc n)) f s = omega arith
 zero_bits (negsuc n) f s = omega (arith, s.sfits)
 
 -- ---- products
-pub product_counts : (h : Bool) (x y : ℤ) → h ≡ true → image (ranged true (nearest (x *ℤ y) (pos 100))) ≡ image (ranged h (product h x y))
+pub product_counts : (h : Bool) (x y : ℤ) → h ≡ true → ranged true (nearest (x *ℤ y) (pos 100)) ≡ ranged h (product h x y)
 unfolding product
 product_counts h x y e = rw e
 
-pub product_numbers : (h : Bool) (x y : ℤ) → h ≡ false → image (ranged false (x *ℤ y)) ≡ image (ranged h (product h x y))
+pub product_numbers : (h : Bool) (x y : ℤ) → h ≡ false → ranged false (x *ℤ y) ≡ ranged h (product h x y)
 unfolding product
 product_numbers h x y e = rw e
 
@@ -118,17 +116,17 @@ unfolding same_number
 not_zero (pos n) f = ne_eqb n 0 (λ e. f (ap pos e))
 not_zero (negsuc n) f = refl
 
-pub divide_zero : (h : Bool) (x y : ℤ) → y ≡ pos 0 → Error 2 ≡ image (divided h x y)
-unfolding image divided
+pub divide_zero : (h : Bool) (x y : ℤ) → y ≡ pos 0 → fail 2 ≡ divided h x y
+unfolding divided
 divide_zero true x y e = rw (same_zero y e)
 divide_zero false x y e = rw (same_zero y e)
 
-pub divide_counts : (h : Bool) (x y : ℤ) → h ≡ true → (y ≡ pos 0 → ⊥) → image (ranged true (nearest (pos 100 *ℤ x) y)) ≡ image (divided h x y)
+pub divide_counts : (h : Bool) (x y : ℤ) → h ≡ true → (y ≡ pos 0 → ⊥) → ranged true (nearest (pos 100 *ℤ x) y) ≡ divided h x y
 unfolding divided
 divide_counts true x y e f = rw (not_zero y f)
 divide_counts false x y e f = let k : ◌≡◌ {A = ℕ} 0 1 = cc in absurd (let b : ⊥ = omega arith in b)
 
-pub divide_numbers : (h : Bool) (x y : ℤ) → h ≡ false → (y ≡ pos 0 → ⊥) → Whole (quotient x y) ≡ image (divided h x y)
-unfolding image divided as_whole
+pub divide_numbers : (h : Bool) (x y : ℤ) → h ≡ false → (y ≡ pos 0 → ⊥) → ok (whole (quotient x y)) ≡ divided h x y
+unfolding divided
 divide_numbers true x y e f = let k : ◌≡◌ {A = ℕ} 0 1 = cc in absurd (let b : ⊥ = omega arith in b)
 divide_numbers false x y e f = rw (not_zero y f)

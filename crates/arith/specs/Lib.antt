@@ -1,4 +1,4 @@
-pub mod Image
+pub mod Told
 pub mod Sizes
 pub mod Ranges
 pub mod Nearest

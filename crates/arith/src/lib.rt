@@ -6,20 +6,13 @@
 ghost use Rattle.std.specs.Prelude.{◌≡◌, true, ◌≤◌, pos, nat_abs, ◌+ℤ◌, ◌-ℤ◌};
 ghost use Rattle.lingua.specs.Value.{in_range, in_counts, in_range_of};
 ghost use Rattle.lingua.specs.Compute.{ranged, product, quotient, divided, counted, whole_part};
-ghost use Rattle.arith.specs.Image.{image};
+ghost use Rattle.arith.specs.Told.{told_quantity};
 
 use crate::rounding::nearest;
-use lingua::errors::{DIVISION_BY_ZERO, OVERFLOW};
+use lingua::errors::Error;
 use lingua::sizes::{HIGHEST_COUNT, HIGHEST_NUMBER, LOWEST_COUNT, LOWEST_NUMBER, PARTS_OF_ONE};
 
 pub mod rounding; // rounding.rt: to the nearest whole number
-
-// A number or a count, or the number of a run error.
-#[derive(Clone, Copy)]
-pub enum Number {
-    Whole(i64),
-    Error(u8),
-}
 
 // In a count's range, or in a number's.
 pub fn in_range(hundredths: bool, z: i64) -> bool
@@ -38,36 +31,36 @@ pub fn in_range(hundredths: bool, z: i64) -> bool
 }
 
 // The one range check: every operation that can leave the range ends here, after its rounding.
-fn checked(hundredths: bool, z: i64) -> Number
-    ensures { result ≡ image (ranged hundredths z) }
+fn checked(hundredths: bool, z: i64) -> Result<i64, Error>
+    ensures { told_quantity hundredths result ≡ ranged hundredths z }
 {
     if in_range(hundredths, z) {
-        return Number::Whole(z);
+        return Ok(z);
     }
-    Number::Error(OVERFLOW)
+    Err(Error::Overflow)
 }
 
-pub fn add(hundredths: bool, x: i64, y: i64) -> Number
+pub fn add(hundredths: bool, x: i64, y: i64) -> Result<i64, Error>
     requires x_value { in_range_of hundredths x ≡ true }
     requires y_value { in_range_of hundredths y ≡ true }
-    ensures { result ≡ image (ranged hundredths (x +ℤ y)) }
+    ensures { told_quantity hundredths result ≡ ranged hundredths (x +ℤ y) }
 {
     checked(hundredths, x + y)
 }
 
-pub fn subtract(hundredths: bool, x: i64, y: i64) -> Number
+pub fn subtract(hundredths: bool, x: i64, y: i64) -> Result<i64, Error>
     requires x_value { in_range_of hundredths x ≡ true }
     requires y_value { in_range_of hundredths y ≡ true }
-    ensures { result ≡ image (ranged hundredths (x -ℤ y)) }
+    ensures { told_quantity hundredths result ≡ ranged hundredths (x -ℤ y) }
 {
     checked(hundredths, x - y)
 }
 
 // The machine's product cannot wrap, so it is the exact one that is checked; of counts, it is a hundred times the product's count.
-pub fn multiply(hundredths: bool, x: i64, y: i64) -> Number
+pub fn multiply(hundredths: bool, x: i64, y: i64) -> Result<i64, Error>
     requires x_value { in_range_of hundredths x ≡ true }
     requires y_value { in_range_of hundredths y ≡ true }
-    ensures { result ≡ image (ranged hundredths (product hundredths x y)) }
+    ensures { told_quantity hundredths result ≡ ranged hundredths (product hundredths x y) }
 {
     let z = x * y;
     if hundredths {
@@ -88,19 +81,19 @@ fn quotient(x: i64, y: i64) -> i64
 }
 
 // A quotient of numbers is in size at most its dividend, so only that of counts can leave the range.
-pub fn divide(hundredths: bool, x: i64, y: i64) -> Number
+pub fn divide(hundredths: bool, x: i64, y: i64) -> Result<i64, Error>
     requires x_value { in_range_of hundredths x ≡ true }
     requires y_value { in_range_of hundredths y ≡ true }
-    ensures { result ≡ image (divided hundredths x y) }
+    ensures { told_quantity hundredths result ≡ divided hundredths x y }
 {
     if y == 0 {
-        return Number::Error(DIVISION_BY_ZERO);
+        return Err(Error::DivisionByZero);
     }
     if hundredths {
         let q = nearest(PARTS_OF_ONE * x, y);
         return checked(true, q);
     }
-    Number::Whole(quotient(x, y))
+    Ok(quotient(x, y))
 }
 
 // A number's count of hundredths is in the range of counts: there is nothing to check.

@@ -1,17 +1,19 @@
 -- What each way out of the rules' functions shows: the test of the rule, from what the branches on the way said. Assumes nothing.
-use Rattle.std.proofs.Common.{◌≡◌, ℕ, ◌+◌, ◌-◌, ◌*◌, ◌/◌, ◌<◌, ◌≤◌, Bool, true, false, not, ltb, leb, List, length, get_or, take, drop, sym, refl, ap, ◌∙◌, arith, le-ltb, lt-ltb, eq-eqb, ne_eqb, le-leb, leb-false, leb-true}
+use Rattle.std.proofs.Common.{◌≡◌, ℕ, ◌*◌, ◌/◌, ◌<◌, ◌≤◌, Bool, true, false, not, ltb, leb, List, length, get_or, take, sym, refl, ap, ◌∙◌, arith, le-ltb, lt-ltb, eq-eqb, ne_eqb, le-leb, leb-false, leb-true, ◌%◌, ◌^◌, ◌&&◌, [], ◌∷◌, eqb, ap₂}
+use lib.Pointwise.{pointwise}
+use borrow.Author.Tests.{eqb-true, eqb-false}
+use Rattle.std.specs.Int.{w32, rotate_left}
+use Rattle.std.proofs.lemmas.Nat.{or_shifted}
 use borrow.Author.Tests.{lt-leb}
 use Rattle.lingua.specs.Numbers.{block_bytes, most_blocks}
 use Rattle.lingua.specs.Compute.{same_text}
 use Rattle.lingua.specs.Rows.{word16}
-use Rattle.lingua.specs.Format.{File, profile, block_count, marker, block_at, every_below, length_wrong, marker_wrong, header_fits, header_wrong, block_check_wrong, model_of, empty_block}
+use Rattle.lingua.specs.Format.{File, profile, block_count, marker, block_at, every_below, length_wrong, marker_wrong, header_fits, header_wrong, block_check_wrong, model_of, empty_block, rotated}
 use Rattle.lingua.specs.Errors.{no_error, bad_length, bad_marker, bad_header, bad_check}
 use Rattle.lingua.specs.Value.{all_of}
 use Rattle.lingua.specs.Refusal.{rank, place_in, lowest, file_rules}
 use Rattle.laws.specs.Refusals.{lowest_nil, lowest_skip, lowest_first}
-use Rattle.laws.specs.Tests.{every_false, every_more}
 use Rattle.laws.specs.Written.{length_marker}
-use Rattle.laws.specs.Blocks.{part_block}
 use Rattle.blocks.specs.Blocks.{header_is}
 
 -- ---- 2: the length of a profile
@@ -55,27 +57,6 @@ module _ (f : File) (block : List ℕ) (k count model : ℕ) where
   pub header_rest : get_or block 4 0 ≡ k → get_or block 5 0 ≡ count → word16 block 6 ≡ model → header_is f block k count model ≡ not (empty_block f block)
   unfolding header_is
   header_rest e d m = simp (eq-eqb (get_or block 4 0) k e, eq-eqb (get_or block 5 0) count d, eq-eqb (word16 block 6) model m)
-
--- ---- a loop over the blocks, which asks q of each
-module _ (file : List ℕ) (q : ℕ → List ℕ → Bool) (k : ℕ) where
-  -- what the code asks of a part of the file is asked of the block
-  asked : (r : Bool) → r ≡ q k (take (block_bytes * k + block_bytes - block_bytes * k) (drop (block_bytes * k) file)) → r ≡ q k (block_at file k)
-  asked r e = e ∙ ap (λ (b : List ℕ). q k b) (part_block file k)
-
-  pub wrong_at : (r : Bool) → r ≡ q k (take (block_bytes * k + block_bytes - block_bytes * k) (drop (block_bytes * k) file)) → r ≡ false
-      → k < block_count file → not (every_below (block_count file) (λ j. q j (block_at file j))) ≡ true
-  wrong_at r e n h =
-      ap not (every_false (block_count file) (λ j. q j (block_at file j)) k (sym (asked r e) ∙ n) h)
-
-  pub right_at : (r : Bool) → r ≡ q k (take (block_bytes * k + block_bytes - block_bytes * k) (drop (block_bytes * k) file)) → r ≡ true
-      → every_below k (λ j. q j (block_at file j)) ≡ true → every_below (k + 1) (λ j. q j (block_at file j)) ≡ true
-  right_at r e n a = every_more k (λ j. q j (block_at file j)) a (sym (asked r e) ∙ n)
-
-  pub all_right : k ≤ block_count file → block_count file ≤ k → every_below k (λ j. q j (block_at file j)) ≡ true
-      → not (every_below (block_count file) (λ j. q j (block_at file j))) ≡ false
-  all_right h l a =
-      let e : block_count file ≡ k = omega arith in
-      ap not (ap (λ (n : ℕ). every_below n (λ j. q j (block_at file j))) e ∙ a)
 
 -- ---- 3: the marker
 pub marker_is : (f : File) (file m : List ℕ) → m ≡ marker f
@@ -125,3 +106,27 @@ module _ (f : File) (file : List ℕ) where
   refused_not a b d e =
       lowest_skip bad_length (length_wrong f file) _ a ∙ lowest_skip bad_marker (marker_wrong f file) _ b
       ∙ lowest_skip bad_header (header_wrong f file) _ d ∙ lowest_skip bad_check (block_check_wrong file) _ e ∙ lowest_nil
+
+-- ---- a word rotated, by the library's word
+pub rotated_is : (x : ℕ) → x < 2 ^ 32 → rotate_left w32 x 5 ≡ rotated x
+unfolding rotated
+rotated_is x h =
+    let a : ℕ = x % 2 ^ 27 in
+    let e : x * 2 ^ 5 % 2 ^ 32 ≡ a * 2 ^ 5 = omega arith in
+    let b : x / 2 ^ 27 < 2 ^ 5 = omega arith in
+    rw e (or_shifted a 5 (x / 2 ^ 27) b)
+
+-- ---- the bytes that a block begins with
+eqb_swap : (a b : ℕ) → eqb a b ≡ eqb b a
+eqb_swap a b = by_test (eqb b a) refl
+  where
+    by_test : (t : Bool) → eqb b a ≡ t → eqb a b ≡ t
+    by_test true e = eq-eqb a b (sym (eqb-true b a e))
+    by_test false e = ne_eqb a b (λ q. eqb-false b a e (sym q))
+
+pub begins_is : (part text : List ℕ) → pointwise eqb text part ≡ same_text part text
+unfolding same_text
+begins_is [] [] = refl
+begins_is [] (d ∷ ds) = refl
+begins_is (c ∷ cs) [] = refl
+begins_is (c ∷ cs) (d ∷ ds) = ap₂ (λ (a b : Bool). a && b) (eqb_swap d c) (begins_is cs ds)

@@ -1,37 +1,32 @@
 -- One turn of each loop over rows and blocks, and what a loop leaves at its end. Assumes nothing.
-use Rattle.std.proofs.Common.{◌≡◌, ℕ, ◌+◌, ◌-◌, ◌*◌, ◌<◌, ◌≤◌, Bool, true, false, List, ◌++◌, length, take, drop, sym, ap, ◌∙◌, arith, take-take, take_at}
-use lib.Seq.{take-length}
+use Rattle.std.proofs.Common.{◌≡◌, ℕ, suc, add-one, ◌+◌, ◌-◌, ◌*◌, ◌<◌, ◌≤◌, Bool, true, false, List, ◌++◌, length, take, drop, sym, ap, ◌∙◌, arith, ap₂, replicate, take-take, take_at, append-nil, drop_of_length-le, length-append, length-drop}
+use lib.ListN.{length-take}
 use borrow.Rule.Slice.PartMut.{put_mid}
 use Rattle.lingua.specs.Numbers.{row_bytes, block_bytes, header_bytes, area_bytes, check_place}
 use Rattle.std.specs.Prelude.{if◌then◌else◌}
 use Rattle.lingua.specs.Value.{pad}
 use Rattle.lingua.specs.Rows.{row_count}
 use Rattle.lingua.specs.Format.{block_count, block_at, row_area, areas_from, all_zero, used_rows, rows_of}
-use Rattle.laws.specs.Parts.{pad_front, put_next}
+use Rattle.laws.specs.Parts.{put_next}
 use Rattle.laws.specs.Blocks.{length_block, length_area}
-use Rattle.laws.specs.Areas.{part_area, areas_next, length_areas, used_last, used_inside, length_rows, count_rows}
+use Rattle.laws.specs.Areas.{part_area, areas_next, length_areas, used_inside, length_rows, count_rows}
 use Rattle.blocks.specs.Blocks.{Gathered}
 
--- ---- used rows, from the last row on
--- the part of the bytes that the code tests is the last of n rows
-module _ (bytes : List ℕ) (n : ℕ) (some : 0 < n) (r : Bool)
-    (is : r ≡ all_zero (take (row_bytes * (n - 1) + row_bytes - row_bytes * (n - 1)) (drop (row_bytes * (n - 1)) bytes))) where
-  tested : used_rows n bytes ≡ (if r then used_rows (n - 1) bytes else n)
-  tested =
-      let e : row_bytes * (n - 1) + row_bytes - row_bytes * (n - 1) ≡ row_bytes = omega arith in
-      used_last n bytes some
-      ∙ ap (λ (t : Bool). if t then used_rows (n - 1) bytes else n)
-      (sym (is ∙ ap (λ (m : ℕ). all_zero (take m (drop (row_bytes * (n - 1)) bytes))) e))
+-- ---- used rows, one more row at a time: the part of the bytes that the code tests is the row
+module _ (bytes : List ℕ) (r : ℕ) (t : Bool) (is : t ≡ all_zero (take (row_bytes * r + row_bytes - row_bytes * r) (drop (row_bytes * r) bytes))) where
+  used_next : used_rows (r + 1) bytes ≡ (if t then used_rows r bytes else suc r)
+  unfolding used_rows
+  used_next =
+      let e : row_bytes * r + row_bytes - row_bytes * r ≡ row_bytes = omega arith in
+      rw add-one
+      (ap (λ (u : Bool). if u then used_rows r bytes else suc r)
+      (sym (is ∙ ap (λ (m : ℕ). all_zero (take m (drop (row_bytes * r) bytes))) e)))
 
-  pub used_here : r ≡ false → used_rows n bytes ≡ n
-  used_here e = tested ∙ ap (λ (t : Bool). if t then used_rows (n - 1) bytes else n) e
+  pub used_here : t ≡ false → used_rows (r + 1) bytes ≡ r + 1
+  used_here e = used_next ∙ (ap (λ (u : Bool). if u then used_rows r bytes else suc r) e ∙ sym (add-one r))
 
-  pub used_before : r ≡ true → used_rows n bytes ≡ used_rows (n - 1) bytes
-  used_before e = tested ∙ ap (λ (t : Bool). if t then used_rows (n - 1) bytes else n) e
-
-pub used_none : (bytes : List ℕ) (n : ℕ) → n ≡ 0 → used_rows n bytes ≡ 0
-unfolding used_rows
-used_none bytes n e = ap (λ (m : ℕ). used_rows m bytes) e
+  pub used_before : t ≡ true → used_rows (r + 1) bytes ≡ used_rows r bytes
+  used_before e = used_next ∙ ap (λ (u : Bool). if u then used_rows r bytes else suc r) e
 
 -- ---- a block's rows behind those of the blocks before it
 -- what is copied
@@ -58,10 +53,20 @@ gather_next file areas₀ areas last k h room is copied =
     ∙ ap (λ (l : List ℕ). l ++ drop e areas₀) (sym (areas_next file k))
     ∙ ap (λ (m : ℕ). areas_from 0 (k + 1) file ++ drop m areas₀) n
 
--- ---- the rows at the front of what they are copied to
-pub rows_first : (rows out last : List ℕ) → last ≡ rows → take (length rows) (last ++ drop (length rows) out) ≡ pad (length rows) 0 rows
-rows_first rows out last is =
-    pad_front 0 rows out (last ++ drop (length rows) out) (ap (λ (l : List ℕ). l ++ drop (length rows) out) (is ∙ sym (take-length rows)))
+-- ---- the rows at the front of what they are copied to, and zeros behind them
+pub rows_then_zeros : (rows out last zeros : List ℕ) → length rows ≤ length out → last ≡ rows
+    → zeros ≡ replicate (length (take (length (last ++ drop (length rows) out) - length rows) (drop (length rows) (last ++ drop (length rows) out)))) 0
+    → put_mid (length rows) (length (last ++ drop (length rows) out) - length rows) (last ++ drop (length rows) out) zeros ≡ pad (length out) 0 rows
+unfolding pad
+rows_then_zeros rows out last zeros room is filled =
+    let n : ℕ = length rows in
+    let copied : List ℕ = last ++ drop n out in
+    let whole : length copied ≡ length out = omega (arith, length-append last (drop n out), length-drop n out, ap length is) in
+    let rest : length (take (length copied - n) (drop n copied)) ≡ length out - n = omega (arith, length-take (length copied - n) (drop n copied), length-drop n copied) in
+    put_next last out zeros n (length copied) (ap length is) (omega arith)
+    ∙ ap (λ (l : List ℕ). (last ++ zeros) ++ l) (drop_of_length-le out (let e : length out ≤ length copied = omega arith in e))
+    ∙ append-nil (last ++ zeros)
+    ∙ ap₂ (λ (x y : List ℕ). x ++ y) is (filled ∙ ap (λ (m : ℕ). replicate m 0) rest)
 
 -- ---- the rows of the areas that were gathered
 module _ (file areas last : List ℕ) (r : ℕ) (room : area_bytes * block_count file ≤ length areas)

@@ -1,6 +1,6 @@
 -- What the stores of the writer leave: the part of the rows that a block has, its header, its check, the block, and the blocks one
 -- after the other. Assumes nothing.
-use Rattle.std.proofs.Common.{◌≡◌, ℕ, ◌+◌, ◌-◌, ◌*◌, ◌/◌, ◌%◌, ◌≤◌, List, [], ◌∷◌, ◌++◌, length, take, drop, set, sym, ap, ◌∙◌, ap₂, append_assoc, append-nil, arith, length-append, length-drop, take-append-drop, drop_of_length-le, length-take-le, take_all, take_at}
+use Rattle.std.proofs.Common.{◌≡◌, ℕ, ◌+◌, ◌-◌, ◌*◌, ◌/◌, ◌%◌, ◌≤◌, List, [], ◌∷◌, ◌++◌, length, take, drop, set, sym, ap, ◌∙◌, ap₂, append_assoc, append-nil, arith, length-append, length-drop, drop_of_length-le, take_all, take_at}
 use lib.Seq.{take-nil, drop-length}
 use borrow.Rule.Slice.PartMut.{put_mid}
 use Rattle.lingua.specs.Numbers.{block_bytes, header_bytes, area_bytes, check_place}
@@ -44,18 +44,14 @@ header_stored f model k n m header last a b h is copied ea eb =
     ∙ ap (λ (l : List ℕ). l ++ (k ∷ n ∷ model % 256 ∷ model / 256 % 256 ∷ [])) is
 
 -- ---- a block's check, over its last four bytes
-pub check_stored : (block : List ℕ) (check a b c d : ℕ) → length block ≡ block_bytes → check ≡ block_check (take check_place block)
-    → a ≡ check % 256 → b ≡ check / 256 % 256 → c ≡ check / 65536 % 256 → d ≡ check / 16777216 % 256
-    → set (set (set (set block 508 a) 509 b) 510 c) 511 d ≡ with_check (take check_place block)
-unfolding with_check bytes32
-check_stored block check a b c d h is ea eb ec ed =
+pub check_stored : (block last : List ℕ) (check : ℕ) → length block ≡ block_bytes → check ≡ block_check (take check_place block) → last ≡ bytes32 check
+    → put_mid check_place (length block - check_place) block last ≡ with_check (take check_place block)
+unfolding with_check
+check_stored block last check long is written =
     let front : List ℕ = take check_place block in
-    let here = length-take-le check_place block (omega arith) in
-    ap (λ (l : List ℕ). set (set (set (set l 508 a) 509 b) 510 c) 511 d) (sym (take-append-drop check_place block))
-    ∙ store_four_at check_place front (drop check_place block) a b c d here (length-drop check_place block ∙ (let e : length block - check_place ≡ 4 = omega arith in e))
-    ∙ ap₂ (λ (x y : ℕ). front ++ (x ∷ y ∷ c ∷ d ∷ [])) ea eb
-    ∙ ap₂ (λ (x y : ℕ). front ++ (check % 256 ∷ check / 256 % 256 ∷ x ∷ y ∷ [])) ec ed
-    ∙ ap (λ (x : ℕ). front ++ bytes32 x) is
+    let none : drop (length block - check_place) (drop check_place block) ≡ [] = drop_of_length-le (drop check_place block) (omega (arith, length-drop check_place block)) in
+    ap (λ (l : List ℕ). front ++ (last ++ l)) none
+    ∙ ap (λ (l : List ℕ). front ++ l) (append-nil last ∙ (written ∙ ap bytes32 is))
 
 -- ---- a block: header, rows, check
 length_header : (f : File) (model k n : ℕ) → length (header_of f model k n) ≡ header_bytes

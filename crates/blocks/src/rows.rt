@@ -14,15 +14,12 @@ pub fn gather(file: &[u8], areas: &mut [u8])
     requires { area_bytes * block_count file.now ≤ length areas.old }
     ensures { areas.new ≡ areas_from 0 (block_count file.now) file.now ++ drop (area_bytes * block_count file.now) areas.old }
 {
-    let count = file.len() / BLOCK_BYTES;
-    let mut k = 0;
-    while k < count {
+    for k in 0..file.len() / BLOCK_BYTES {
         let start = BLOCK_BYTES * k;
         let at = AREA_BYTES * k;
         areas[at..at + AREA_BYTES].copy_from_slice(
             &file[start + HEADER_BYTES..start + CHECK_PLACE],
         );
-        k += 1;
     }
 }
 
@@ -30,15 +27,14 @@ pub fn gather(file: &[u8], areas: &mut [u8])
 fn used_rows(areas: &[u8]) -> usize
     ensures { result ≡ used_rows (row_count areas.now) areas.now }
 {
-    let mut n = areas.len() / ROW_BYTES;
-    while 0 < n {
-        let at = ROW_BYTES * (n - 1);
+    let mut used = 0;
+    for r in 0..areas.len() / ROW_BYTES {
+        let at = ROW_BYTES * r;
         if !all_zero(&areas[at..at + ROW_BYTES]) {
-            return n;
+            used = r + 1;
         }
-        n -= 1;
     }
-    0
+    used
 }
 
 // A file's rows to the front of areas, which has room for all its row areas; how many bytes they are.
@@ -57,9 +53,5 @@ pub fn copy_rows(rows: &[u8], out: &mut [u8])
     ensures { out.new ≡ pad (length out.old) 0 rows.now }
 {
     out[..rows.len()].copy_from_slice(rows);
-    let mut i = rows.len();
-    while i < out.len() {
-        out[i] = 0;
-        i += 1;
-    }
+    out[rows.len()..].fill(0);
 }

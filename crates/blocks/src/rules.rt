@@ -1,17 +1,27 @@
 // Rules 2 to 5: what is wrong with a file's bytes. Each rule looks at any bytes, and only at whole blocks.
-ghost use Rattle.std.specs.Prelude.{◌≡◌, ◌≤◌, length, take, ◌==◌};
+ghost use Rattle.std.specs.Prelude.{◌≡◌, ◌/◌, ◌<◌, ◌≤◌, length, take, ◌==◌};
 ghost use Rattle.lingua.specs.Numbers.{block_bytes, check_place};
 ghost use Rattle.lingua.specs.Compute.{same_text};
 ghost use Rattle.lingua.specs.Rows.{word32};
-ghost use Rattle.lingua.specs.Format.{marker, all_zero, empty_block, block_check, length_wrong, marker_wrong, header_wrong, block_check_wrong};
+ghost use Rattle.lingua.specs.Format.{block_at, marker, all_zero, empty_block, block_check, length_wrong, marker_wrong, header_wrong, block_check_wrong};
 ghost use Rattle.lingua.specs.Refusal.{lowest, file_rules};
+ghost use Rattle.lingua.specs.Faults.{refusal_of};
 ghost use Rattle.lingua.specs.Answers.{file_meaning};
 ghost use Rattle.blocks.specs.Blocks.{header_is};
 
 use crate::words::{block_check, word16_at, word32_at};
 use lingua::FileKind;
-use lingua::errors::{BAD_CHECK, BAD_HEADER, BAD_LENGTH, BAD_MARKER, NO_ERROR};
+use lingua::errors::Refusal;
 use lingua::sizes::{BLOCK_BYTES, CHECK_PLACE, HEADER_BYTES, MOST_BLOCKS};
+
+// Block k.
+fn block(file: &[u8], k: usize) -> &[u8]
+    requires { k < length file.now / block_bytes }
+    ensures { (result.now ≡ block_at file.now k) × (length result.now ≡ block_bytes) }
+{
+    let start = BLOCK_BYTES * k;
+    &file[start..start + BLOCK_BYTES]
+}
 
 // ---- 2: the length
 pub fn length_wrong(kind: FileKind, file: &[u8]) -> bool
@@ -44,47 +54,21 @@ pub fn marker_of(kind: FileKind) -> [u8; 4]
 fn starts_with(bytes: &[u8], text: &[u8]) -> bool
     ensures { result ≡ same_text (take (length text.now) bytes.now) text.now }
 {
-    if bytes.len() < text.len() {
-        return false;
-    }
-    let mut i = 0;
-    while i < text.len() {
-        if bytes[i] != text[i] {
-            return false;
-        }
-        i += 1;
-    }
-    true
+    bytes.starts_with(text)
 }
 
 pub fn marker_wrong(kind: FileKind, file: &[u8]) -> bool
     ensures { result ≡ marker_wrong (file_meaning kind) file.now }
 {
     let marker = marker_of(kind);
-    let count = file.len() / BLOCK_BYTES;
-    let mut k = 0;
-    while k < count {
-        let start = BLOCK_BYTES * k;
-        if !starts_with(&file[start..start + BLOCK_BYTES], &marker) {
-            return true;
-        }
-        k += 1;
-    }
-    false
+    !(0..file.len() / BLOCK_BYTES).all(|k| starts_with(block(file, k), &marker))
 }
 
 // ---- 4: block number, count of blocks, model, and rows in each block of a profile
 pub fn all_zero(bytes: &[u8]) -> bool
     ensures { result ≡ all_zero bytes.now }
 {
-    let mut i = 0;
-    while i < bytes.len() {
-        if bytes[i] != 0 {
-            return false;
-        }
-        i += 1;
-    }
-    true
+    bytes.iter().all(|byte| *byte == 0)
 }
 
 fn empty_block(kind: FileKind, block: &[u8]) -> bool
@@ -121,15 +105,7 @@ pub fn header_wrong(kind: FileKind, file: &[u8]) -> bool
         return false;
     }
     let model = word16_at(file, 6);
-    let mut k = 0;
-    while k < count {
-        let start = BLOCK_BYTES * k;
-        if !header_fits(kind, &file[start..start + BLOCK_BYTES], k, count, model) {
-            return true;
-        }
-        k += 1;
-    }
-    false
+    !(0..count).all(|k| header_fits(kind, block(file, k), k, count, model))
 }
 
 // ---- 5: the check
@@ -143,33 +119,24 @@ fn check_fits(block: &[u8]) -> bool
 pub fn check_wrong(file: &[u8]) -> bool
     ensures { result ≡ block_check_wrong file.now }
 {
-    let count = file.len() / BLOCK_BYTES;
-    let mut k = 0;
-    while k < count {
-        let start = BLOCK_BYTES * k;
-        if !check_fits(&file[start..start + BLOCK_BYTES]) {
-            return true;
-        }
-        k += 1;
-    }
-    false
+    !(0..file.len() / BLOCK_BYTES).all(|k| check_fits(block(file, k)))
 }
 
 // ---- the lowest of them
-pub fn file_refusal(kind: FileKind, file: &[u8]) -> u8
-    ensures { result ≡ lowest (file_rules (file_meaning kind) file.now) }
+pub fn file_refusal(kind: FileKind, file: &[u8]) -> Result<(), Refusal>
+    ensures { refusal_of result ≡ lowest (file_rules (file_meaning kind) file.now) }
 {
     if length_wrong(kind, file) {
-        return BAD_LENGTH;
+        return Err(Refusal::BadLength);
     }
     if marker_wrong(kind, file) {
-        return BAD_MARKER;
+        return Err(Refusal::BadMarker);
     }
     if header_wrong(kind, file) {
-        return BAD_HEADER;
+        return Err(Refusal::BadHeader);
     }
     if check_wrong(file) {
-        return BAD_CHECK;
+        return Err(Refusal::BadCheck);
     }
-    NO_ERROR
+    Ok(())
 }

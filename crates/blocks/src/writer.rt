@@ -27,12 +27,6 @@ pub fn file_length(kind: FileKind, rows: &[u8]) -> usize
     BLOCK_BYTES * begun
 }
 
-fn low_byte(x: u32) -> u8
-    ensures { result ≡ x % 256 }
-{
-    (x % 256) as u8
-}
-
 // The eight bytes before a block's rows.
 fn write_header(kind: FileKind, model: u16, k: u8, count: u8, header: &mut [u8])
     requires { length header.old ≡ header_bytes }
@@ -42,8 +36,9 @@ fn write_header(kind: FileKind, model: u16, k: u8, count: u8, header: &mut [u8])
     header[..4].copy_from_slice(&marker);
     header[4] = k;
     header[5] = count;
-    header[6] = low_byte(model as u32);
-    header[7] = low_byte(model as u32 / 256);
+    let model_bytes = model.to_le_bytes();
+    header[6] = model_bytes[0];
+    header[7] = model_bytes[1];
 }
 
 // A block's check, behind what it goes over.
@@ -52,10 +47,7 @@ fn write_check(block: &mut [u8])
     ensures { block.new ≡ with_check (take check_place block.old) }
 {
     let check = block_check(&block[..CHECK_PLACE]);
-    block[CHECK_PLACE] = low_byte(check);
-    block[CHECK_PLACE + 1] = low_byte(check / 256);
-    block[CHECK_PLACE + 2] = low_byte(check / 65536);
-    block[CHECK_PLACE + 3] = low_byte(check / 16777216);
+    block[CHECK_PLACE..].copy_from_slice(&check.to_le_bytes());
 }
 
 // Block k of count, with the rows of its area; what the area has left is zero.
@@ -90,8 +82,7 @@ pub fn write_file(kind: FileKind, model: u16, rows: &[u8], out: &mut [u8])
     ensures { out.new ≡ file_of (file_meaning kind) model rows.now }
 {
     let count = out.len() / BLOCK_BYTES;
-    let mut k = 0;
-    while k < count {
+    for k in 0..count {
         let start = BLOCK_BYTES * k;
         let area = area_of(rows, k);
         write_block(
@@ -102,6 +93,5 @@ pub fn write_file(kind: FileKind, model: u16, rows: &[u8], out: &mut [u8])
             area,
             &mut out[start..start + BLOCK_BYTES],
         );
-        k += 1;
     }
 }

@@ -2,43 +2,20 @@
 use mathlib.Core.Path.{◌≡◌, refl, sym, ap, subst, ◌∙◌}
 use mathlib.Core.Bool.{Bool, true, false, ◌||◌}
 use mathlib.Core.List.{List, [], ◌∷◌}
-use Prim.Native.Nat.{ℕ, ◌≤◌}
+use Prim.Native.Nat.{ℕ}
 use native.Mathlib.Omega.{arith}
 use lib.Dec.{ltb, eqb}
-use lib.ListN.{replicate}
-use Rattle.lingua.specs.Outcome.{ok, fail, Result}
+use Rattle.lingua.specs.Outcome.{Outcome, ok}
 use Rattle.lingua.specs.Body.{Body, size, nodes, depth, width, too_large}
 use Rattle.lingua.specs.Value.{pad}
 use Rattle.lingua.specs.Encode.{bytes, encoded}
 use Rattle.body.specs.declared.typed.Typed.{Typed}
 use Rattle.body.specs.Encode.{Holds}
-use Rattle.body.specs.Typed.{typed, Fit, Types, simple_of}
+use Rattle.body.specs.Typed.{TypesBody, simple_of}
 
-pub failed_is : (e : ℕ) → 1 ≤ e → (o : ℕ) → Types (record { error = e; body = replicate 96 0; cells = 0; offset = 0 }) (fail e) o
-unfolding typed Fit
-failed_is e h o = record { is = refl; fit = h }
-
--- an error of the code, where the definition gives it
-pub failing : (t : Typed) (e : ℕ) → ((o : ℕ) → Types t (fail e) o) → (r : Result Body) → r ≡ fail e → (o : ℕ) → Types t r o
-failing t e h r q o = subst (λ (s : Result Body). Types t s o) (sym q) (h o)
-
--- another answer of the code that is known already
-pub likewise : (t : Typed) (b : Body) (o : ℕ) → Types t (ok b) o → (r : Result Body) → r ≡ ok b → Types t r o
-likewise t b o h r q = subst (λ (s : Result Body). Types t s o) (sym q) h
-
--- an array that holds the body, with its cells and the offset
-pub given : (x : List ℕ) (c f : ℕ) (b : Body) (o : ℕ) → Holds x b → c ≡ size b → f ≡ o → (r : Result Body) → r ≡ ok b
-    → Types (record { error = 0; body = x; cells = c; offset = f }) r o
-unfolding typed Fit
-given x c f b o h p q r e =
-    subst (λ (s : Result Body). Types (record { error = 0; body = x; cells = c; offset = f }) s o) (sym e)
-    (record {
-      is =
-          ap (λ (l : List ℕ). record { error = 0; body = l; cells = c; offset = f }) h.is
-          ∙ ap (λ (n : ℕ). record { error = 0; body = encoded b; cells = n; offset = f }) p
-          ∙ ap (λ (n : ℕ). record { error = 0; body = encoded b; cells = size b; offset = n }) q;
-      fit = (h.few_cells, h.few_nodes);
-    })
+-- what gives the same body is answered alike
+pub likewise : {t : Typed} {b : Body} {o : ℕ} {r : Outcome ℕ Body} → TypesBody t (ok b) o → r ≡ ok b → TypesBody t r o
+likewise h q = record { body = h.body; is = q ∙ h.is; holds = h.holds; is_cells = h.is_cells; is_offset = h.is_offset }
 
 -- ---- simple bodies
 scalar_one : (t : ℕ) → (1 ≡ size (simple_of t)) × (1 ≡ nodes (simple_of t))
@@ -65,10 +42,15 @@ scalar_held t h =
     }
 
 pub scalar_is : (t : ℕ) (x : List ℕ) → x ≡ pad 96 0 (t ∷ []) → bytes (simple_of t) ≡ t ∷ []
-    → Types (record { error = 0; body = x; cells = 1; offset = 0 }) (ok (simple_of t)) 0
+    → TypesBody (record { body = x; cells = 1; offset = 0 }) (ok (simple_of t)) 0
 scalar_is t x e h =
-    given x 1 0 (simple_of t) 0 (subst (λ (l : List ℕ). Holds l (simple_of t)) (sym e) (scalar_held t h)) (scalar_cell t) refl
-    (ok (simple_of t)) refl
+    record {
+      body = simple_of t;
+      is = refl;
+      holds = subst (λ (l : List ℕ). Holds l (simple_of t)) (sym e) (scalar_held t h);
+      is_cells = scalar_cell t;
+      is_offset = refl;
+    }
 
 -- ---- the bounds, by the numbers of a body
 pub large_is : (b : Body) (c n d w : ℕ) → c ≡ size b → n ≡ nodes b → d ≡ depth b → w ≡ width b

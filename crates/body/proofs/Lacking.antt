@@ -3,7 +3,7 @@ use mathlib.Core.Path.{◌≡◌, refl, sym, ap, ◌∙◌}
 use mathlib.Core.Bool.{Bool, true, false, ◌||◌}
 use mathlib.Core.List.{List}
 use mathlib.Core.Option.{some, none}
-use Prim.Native.Nat.{ℕ, ◌+◌, ◌-◌, ◌≤◌, ◌<◌}
+use Prim.Native.Nat.{ℕ, ◌+◌, ◌≤◌, ◌<◌}
 use native.Mathlib.Omega.{arith}
 use borrow.Author.Tests.{eq-eqb}
 use lib.Dec.{eqb}
@@ -17,7 +17,7 @@ use Rattle.body.specs.declared.walk.Measure.{Measure}
 use Rattle.body.specs.Encode.{Holds}
 use Rattle.body.specs.Walk.{At, Measured}
 use Rattle.body.specs.Find.{HeldRecord, HeldWith}
-use Rattle.body.proofs.Finding.{for_record, Ahead, ahead_start, next_view, next_number, passed}
+use Rattle.body.proofs.Finding.{for_record, Ahead, ahead_start, next_view, next_number, next_passed}
 
 -- an attribute of hs is one of gs
 abbrev pub Among : Attributes → Attributes → Type 0
@@ -58,36 +58,36 @@ not_lacking fs gs h = by_test (lacks_one_of gs fs gs) refl
     by_test false e = refl
 
 -- ---- the search for the attribute that the record in x lacks, among those of the record in y
-pub record Lacking (x y : List ℕ) (left at : ℕ) : Type 0 where
-  pub state : Ahead y left at
+pub record Lacking (x y : List ℕ) (passed at : ℕ) : Type 0 where
+  pub state : Ahead y passed at
   pub among : Among state.ahead state.all
   pub same_answer : (fs : Attributes) → Holds x (record_of fs) → lacks_one fs state.all ≡ lacks_one_of state.ahead fs state.all
 
-pub lacking_start : (x y : List ℕ) → HeldRecord y → Lacking x y (get_or y 1 0) 2
+pub lacking_start : (x y : List ℕ) → HeldRecord y → Lacking x y 0 2
 unfolding ahead_start lacks_one
 lacking_start x y h = record { state = ahead_start y h; among = λ n e. e; same_answer = λ fs k. refl }
 
-module _ (x y : List ℕ) (left at : ℕ) (s : Lacking x y left at) where
-  pub lacking_none : left ≡ 0 → (fs gs : Attributes) → Holds x (record_of fs) → Holds y (record_of gs) → false ≡ lacks_one fs gs
+module _ (x y : List ℕ) (passed at : ℕ) (s : Lacking x y passed at) where
+  pub lacking_none : get_or y 1 0 ≤ passed → (fs gs : Attributes) → Holds x (record_of fs) → Holds y (record_of gs) → false ≡ lacks_one fs gs
   unfolding lacks_one_of count_attributes
   lacking_none z fs gs h k =
       for_record (λ (hs : Attributes). false ≡ lacks_one fs hs) s.state.holds
       (sym (s.same_answer fs h ∙ none_left s.state.ahead (omega (arith, z, s.state.counted)))) gs k
     where
-      none_left : (hs : Attributes) → 0 ≡ count_attributes hs → lacks_one_of hs fs s.state.all ≡ false
+      none_left : (hs : Attributes) → count_attributes hs ≡ 0 → lacks_one_of hs fs s.state.all ≡ false
       none_left end e = refl
       none_left (attribute m b hs) e = absurd (let z : ⊥ = omega (arith, e) in z)
 
-  module _ (f : left ≡ 0 → ⊥) where
+  module _ (f : passed < get_or y 1 0) where
     pub lacking_with : HeldWith y (get_or y at 0)
     lacking_with =
         let a = s.state in
-        let v = next_view y left at f a in
+        let v = next_view y passed at f a in
         record {
           attributes = a.all;
           holds = a.holds;
           there =
-              rw (next_number y left at f a)
+              rw (next_number y passed at f a)
               (s.among v.first_number
               (ap (λ (hs : Attributes). is_some (attribute_body v.first_number hs)) v.is ∙ first_there v.first_number v.first_body v.others));
         }
@@ -95,27 +95,27 @@ module _ (x y : List ℕ) (left at : ℕ) (s : Lacking x y left at) where
     module _ (t : Bool) (k : (fs gs : Attributes) → Holds x (record_of fs) → Holds y (record_of gs) → t ≡ same_attributes fs (remove_attribute (get_or y at 0) gs)) where
       -- what is asked of the attributes ahead, by the first of them
       by_first : (fs : Attributes) → Holds x (record_of fs)
-          → lacks_one fs s.state.all ≡ (t || lacks_one_of (next_view y left at f s.state).others fs s.state.all)
+          → lacks_one fs s.state.all ≡ (t || lacks_one_of (next_view y passed at f s.state).others fs s.state.all)
       unfolding lacks_one_of
       by_first fs h =
           let a = s.state in
-          let v = next_view y left at f a in
+          let v = next_view y passed at f a in
           s.same_answer fs h ∙ ap (λ (hs : Attributes). lacks_one_of hs fs a.all) v.is
           ∙ ap (λ (u : Bool). u || lacks_one_of v.others fs a.all)
-          (ap (λ (n : ℕ). same_attributes fs (remove_attribute n a.all)) (sym (next_number y left at f a)) ∙ sym (k fs a.all h a.holds))
+          (ap (λ (n : ℕ). same_attributes fs (remove_attribute n a.all)) (sym (next_number y passed at f a)) ∙ sym (k fs a.all h a.holds))
 
       pub lacking_found : t ≡ true → (fs gs : Attributes) → Holds x (record_of fs) → Holds y (record_of gs) → true ≡ lacks_one fs gs
       lacking_found e fs gs h j =
           for_record (λ (hs : Attributes). true ≡ lacks_one fs hs) s.state.holds
-          (sym (by_first fs h ∙ ap (λ (u : Bool). u || lacks_one_of (next_view y left at f s.state).others fs s.state.all) e)) gs j
+          (sym (by_first fs h ∙ ap (λ (u : Bool). u || lacks_one_of (next_view y passed at f s.state).others fs s.state.all) e)) gs j
 
-      pub lacking_on : t ≡ false → (m : Measure) → ((b : Body) → At y (at + 1) b → Measured m (at + 1) b) → Lacking x y (left - 1) m.next
-      unfolding passed
+      pub lacking_on : t ≡ false → (m : Measure) → ((b : Body) → At y (at + 1) b → Measured m (at + 1) b) → Lacking x y (passed + 1) m.next
+      unfolding next_passed
       lacking_on e m g =
           let a = s.state in
-          let v = next_view y left at f a in
+          let v = next_view y passed at f a in
           record {
-            state = passed y left at f a m g;
+            state = next_passed y passed at f a m g;
             among =
                 λ n h. s.among n
                 (ap (λ (hs : Attributes). is_some (attribute_body n hs)) v.is ∙ others_there n v.first_number v.first_body v.others h);

@@ -122,11 +122,11 @@ module _ (bs : List ℕ) (at : ℕ) where
       measured_simple (λ e. let z : ⊥ = omega (arith, l, e) in z) (λ e. let z : ⊥ = omega (arith, l, e) in z)
 
 -- ---- attributes
-module _ (bs : List ℕ) (at n : ℕ) (f : n ≡ 0 → ⊥) where
+module _ (bs : List ℕ) (at n : ℕ) (f : 0 < n) where
   pub first_at : SomeAttributesAt bs at n → SomeAt bs (at + 1)
   unfolding size nodes
   first_at h =
-      let v = more_view n h.attributes f h.counted in
+      let v = more_view h.attributes (omega (arith, f, h.counted)) in
       record {
         body = v.first_body;
         here = attribute_part bs at v.first_number v.first_body v.others (subst (λ (fs : Attributes). AttributesAt bs at fs) v.is h.here);
@@ -134,17 +134,17 @@ module _ (bs : List ℕ) (at n : ℕ) (f : n ≡ 0 → ⊥) where
         few_nodes = omega (arith, h.few_nodes, ap attribute_nodes v.is);
       }
 
-measured_none : (at n : ℕ) (fs : Attributes) → n ≡ 0 → n ≡ count_attributes fs
+measured_none : (at : ℕ) (fs : Attributes) → count_attributes fs ≡ 0
     → AttributesMeasured (record { cells = 0; nodes = 0; depth = 0; next = at }) at fs
 unfolding size nodes depth bytes count_attributes
-measured_none at n end z e = record { is_cells = refl; is_nodes = refl; is_depth = refl; is_next = omega arith }
-measured_none at n (attribute m b fs) z e = absurd (let k : ⊥ = omega (arith, z, e) in k)
+measured_none at end e = record { is_cells = refl; is_nodes = refl; is_depth = refl; is_next = omega arith }
+measured_none at (attribute m b fs) e = absurd (let k : ⊥ = omega (arith, e) in k)
 
--- ---- attributes that a loop passes: what it has added up, with the attributes ahead, is what the whole measures
-pub record Passing (bs : List ℕ) (at left cells nodes_of depth_of next : ℕ) (fs : Attributes) : Type 0 where
+-- ---- n attributes that a loop passes: what it has added up of those passed, with the attributes ahead, is what the whole measures
+pub record Passing (bs : List ℕ) (at n passed cells nodes_of depth_of next : ℕ) (fs : Attributes) : Type 0 where
   pub ahead : Attributes
   pub here : AttributesAt bs next ahead
-  pub counted : left ≡ count_attributes ahead
+  pub counted : passed + count_attributes ahead ≡ n
   pub all_cells : cells + sizes ahead ≡ sizes fs
   pub all_nodes : nodes_of + attribute_nodes ahead ≡ attribute_nodes fs
   pub all_levels : max depth_of (attribute_depth ahead) ≡ attribute_depth fs
@@ -152,17 +152,17 @@ pub record Passing (bs : List ℕ) (at left cells nodes_of depth_of next : ℕ) 
   pub onward : at ≤ next
 
 -- so it is whichever n attributes stand there
-pub record Passed (bs : List ℕ) (at n left cells nodes_of depth_of next : ℕ) : Type 0 where
-  pub whole : (fs : Attributes) → AttributesAt bs at fs → n ≡ count_attributes fs → Passing bs at left cells nodes_of depth_of next fs
+pub record Passed (bs : List ℕ) (at n passed cells nodes_of depth_of next : ℕ) : Type 0 where
+  pub whole : (fs : Attributes) → AttributesAt bs at fs → n ≡ count_attributes fs → Passing bs at n passed cells nodes_of depth_of next fs
 
-pub none_passed : (bs : List ℕ) (at n : ℕ) → Passed bs at n n 0 0 0 at
+pub none_passed : (bs : List ℕ) (at n : ℕ) → Passed bs at n 0 0 0 0 at
 none_passed bs at n =
     record {
       whole = λ fs h e.
           record {
             ahead = fs;
             here = h;
-            counted = e;
+            counted = omega (arith, e);
             all_cells = omega arith;
             all_nodes = omega arith;
             all_levels = omega arith;
@@ -171,12 +171,12 @@ none_passed bs at n =
           };
     }
 
-module _ {bs : List ℕ} {at n left cells nodes_of depth_of next : ℕ} (k : Passed bs at n left cells nodes_of depth_of next) where
-  pub all_passed : left ≡ 0 → (fs : Attributes) → AttributesAt bs at fs → n ≡ count_attributes fs
+module _ {bs : List ℕ} {at n passed cells nodes_of depth_of next : ℕ} (k : Passed bs at n passed cells nodes_of depth_of next) where
+  pub all_passed : n ≤ passed → (fs : Attributes) → AttributesAt bs at fs → n ≡ count_attributes fs
       → AttributesMeasured (record { cells = cells; nodes = nodes_of; depth = depth_of; next = next }) at fs
   all_passed z fs h e =
       let p = k.whole fs h e in
-      let r = measured_none next left p.ahead z p.counted in
+      let r = measured_none next p.ahead (omega (arith, z, p.counted)) in
       record {
         is_cells = omega (arith, r.is_cells, p.all_cells);
         is_nodes = omega (arith, r.is_nodes, p.all_nodes);
@@ -191,15 +191,15 @@ module _ {bs : List ℕ} {at n left cells nodes_of depth_of next : ℕ} (k : Pas
       (omega (arith, p.all_cells, s.few_cells), omega (arith, p.all_nodes, s.few_nodes), p.onward)
 
   -- the next attribute
-  module _ (f : left ≡ 0 → ⊥) where
+  module _ (f : passed < n) where
     pub some_next : SomeAttributesAt bs at n → SomeAt bs (next + 1)
     some_next s =
         let p = k.whole s.attributes s.here s.counted in
-        first_at bs next left f
+        first_at bs next (n - passed) (omega (arith, f))
         (record {
           attributes = p.ahead;
           here = p.here;
-          counted = p.counted;
+          counted = omega (arith, p.counted);
           few_cells = omega (arith, p.all_cells, s.few_cells);
           few_nodes = omega (arith, p.all_nodes, s.few_nodes);
         })
@@ -209,13 +209,13 @@ module _ {bs : List ℕ} {at n left cells nodes_of depth_of next : ℕ} (k : Pas
 
     pub one_passed : (m : Measure) → ((b : Body) → At bs (next + 1) b → Measured m (next + 1) b)
         → {c' k' d' x' : ℕ} → c' ≡ cells + m.cells → k' ≡ nodes_of + m.nodes → d' ≡ max depth_of m.depth → x' ≡ m.next
-        → Passed bs at n (left - 1) c' k' d' x'
+        → Passed bs at n (passed + 1) c' k' d' x'
     unfolding size nodes depth bytes
     one_passed m g ec ek ed ex =
         record {
           whole = λ fs h e.
               let p = k.whole fs h e in
-              let v = more_view left p.ahead f p.counted in
+              let v = more_view p.ahead (omega (arith, f, p.counted)) in
               let a = subst (λ (gs : Attributes). AttributesAt bs next gs) v.is p.here in
               let r = g v.first_body (attribute_part bs next v.first_number v.first_body v.others a) in
               record {
@@ -223,7 +223,7 @@ module _ {bs : List ℕ} {at n left cells nodes_of depth_of next : ℕ} (k : Pas
                 here =
                     subst (λ (y : ℕ). AttributesAt bs y v.others) (sym (ex ∙ r.is_next))
                     (attribute_rest bs next v.first_number v.first_body v.others a);
-                counted = v.counted;
+                counted = omega (arith, p.counted, v.counted);
                 all_cells = omega (arith, ec, r.is_cells, p.all_cells, ap sizes v.is);
                 all_nodes = omega (arith, ek, r.is_nodes, p.all_nodes, ap attribute_nodes v.is);
                 all_levels = omega (arith, ed, r.is_depth, p.all_levels, ap attribute_depth v.is);

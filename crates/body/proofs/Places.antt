@@ -1,7 +1,7 @@
 -- Bodies and attributes at places of a list of bytes. Assumes nothing.
 use mathlib.Core.Path.{◌≡◌, refl, sym, ap, ◌∙◌}
 use mathlib.Core.List.{List, ◌++◌, append_assoc}
-use Prim.Native.Nat.{ℕ, ◌+◌, ◌-◌, ◌≤◌, ◌<◌}
+use Prim.Native.Nat.{ℕ, ◌+◌, ◌≤◌, ◌<◌}
 use native.Mathlib.Nat.{add-zero}
 use native.Mathlib.Omega.{arith}
 use lib.ListN.{length, drop, get_or, length-append, length-drop}
@@ -117,15 +117,15 @@ simple_view hundredths f g = record { one_cell = refl; one_node = refl; one_leve
 simple_view (list_of b) f g = absurd (f refl)
 simple_view (record_of fs) f g = absurd (g refl)
 
-pub record MoreView (n : ℕ) (fs : Attributes) : Type 0 where
+pub record MoreView (fs : Attributes) : Type 0 where
   pub first_number : ℕ
   pub first_body : Body
   pub others : Attributes
   pub is : fs ≡ attribute first_number first_body others
-  pub counted : n - 1 ≡ count_attributes others
+  pub counted : count_attributes fs ≡ 1 + count_attributes others
 
-pub more_view : (n : ℕ) (fs : Attributes) → (n ≡ 0 → ⊥) → n ≡ count_attributes fs → MoreView n fs
+pub more_view : (fs : Attributes) → 0 < count_attributes fs → MoreView fs
 unfolding count_attributes
-more_view n end f e = absurd (f e)
-more_view n (attribute m b fs) f e =
-    record { first_number = m; first_body = b; others = fs; is = refl; counted = omega (arith, e) }
+more_view end f = absurd (let z : ⊥ = omega (arith, f) in z)
+more_view (attribute m b fs) f =
+    record { first_number = m; first_body = b; others = fs; is = refl; counted = omega arith }

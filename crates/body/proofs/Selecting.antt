@@ -2,18 +2,21 @@
 use mathlib.Core.Path.{◌≡◌, refl, sym, ap, ◌∙◌}
 use mathlib.Core.Bool.{Bool, true, false}
 use mathlib.Core.List.{List}
-use mathlib.Core.Option.{Option, some, none}
+use mathlib.Core.Option.{some}
+use Rattle.std.specs.Prelude.{Option, Some, None, IsSome}
+use Rattle.std.specs.Option as found
 use Prim.Native.Nat.{ℕ, ◌≤◌}
 use native.Mathlib.Omega.{arith}
 use lib.Dec.{eqb}
 use Rattle.lingua.specs.Outcome.{is_some}
 use Rattle.lingua.specs.Body.{Body, record_of, Attributes, end, attribute, size, sizes, nodes, attribute_nodes, attribute_body, attribute_offset}
 use Rattle.lingua.specs.Encode.{encoded}
-use Rattle.laws.specs.Outcomes.{is_some_lem}
+use Rattle.laws.specs.Outcomes.{false_is_true}
+use borrow.Author.Rules.{rules}
 use Rattle.body.specs.declared.find.Found.{Found}
 use Rattle.body.specs.Encode.{Holds, Held}
 use Rattle.body.specs.Walk.{At, SomeAt}
-use Rattle.body.specs.Find.{HeldRecord, FoundIs, PlacedAt, SomePlacedAt}
+use Rattle.body.specs.Find.{FoundAt, FoundIs, PlacedAt, SomePlacedAt}
 
 -- an attribute has no more cells and nodes than its record
 pub record Smaller (d : Body) (fs : Attributes) : Type 0 where
@@ -36,9 +39,14 @@ attribute_smaller n (attribute m b fs) d e = by_test (eqb n m) refl (attribute_s
         let r = f (rw q at e) in
         record { cells_of = omega (arith, r.cells_of); nodes_of = omega (arith, r.nodes_of) }
 
-pub nothing : {A : Type 0} (o : Option A) → is_some o ≡ false → o ≡ none
-nothing none e = refl
-nothing (some a) e = absurd (let k : ◌≡◌ {A = ℕ} 0 1 = cc in let z : ⊥ = omega arith in z)
+-- an attribute is found where it is there
+pub found_is : (x : List ℕ) (n : ℕ) (fs : Attributes) (f : Option Found) → FoundIs f x n fs → is_some (attribute_body n fs) ≡ found.is_some f
+found_is x n fs None g = ap is_some g
+found_is x n fs (Some f) g = ap is_some g.there
+
+pub found_there : (x : List ℕ) (n : ℕ) (fs : Attributes) (f : Option Found) → FoundIs f x n fs → is_some (attribute_body n fs) ≡ true → IsSome f
+found_there x n fs None g e = false_is_true (ap is_some (sym g) ∙ e)
+found_there x n fs (Some f) g e = search rules
 
 -- what is known of an attribute that was found
 pub record Got (x : List ℕ) (f : Found) (n : ℕ) (fs : Attributes) : Type 0 where
@@ -49,32 +57,25 @@ pub record Got (x : List ℕ) (f : Found) (n : ℕ) (fs : Attributes) : Type 0 w
   pub few_cells : size body ≤ 64
   pub few_nodes : nodes body ≤ 32
 
-module _ (x : List ℕ) (n : ℕ) (f : Found) (g : (fs : Attributes) → Holds x (record_of fs) → FoundIs f x n fs) where
-  pub missing : (fs : Attributes) → Holds x (record_of fs) → f.found ≡ false → attribute_body n fs ≡ none
-  missing fs h e = nothing (attribute_body n fs) (sym (g fs h).is_found ∙ e)
-
-  pub got : (fs : Attributes) → Holds x (record_of fs) → f.found ≡ true → Got x f n fs
+module _ (x : List ℕ) (n : ℕ) (f : Found) (fs : Attributes) (h : Holds x (record_of fs)) (g : FoundAt f x n fs) where
+  pub got : Got x f n fs
   unfolding size nodes
-  got fs h e =
-      let r = g fs h in
-      let s = is_some_lem (attribute_body n fs) (sym r.is_found ∙ e) in
-      let l = attribute_smaller n fs s.0 s.1 in
+  got =
+      let l = attribute_smaller n fs g.body g.there in
       record {
-        body = s.0;
-        is = s.1;
-        stands = r.stands s.0 s.1;
-        is_offset = r.is_offset e;
+        body = g.body;
+        is = g.there;
+        stands = g.stands;
+        is_offset = g.is_offset;
         few_cells = omega (arith, l.cells_of, h.few_cells);
         few_nodes = omega (arith, l.nodes_of, h.few_nodes);
       }
 
-  pub placed : (fs : Attributes) → Holds x (record_of fs) → f.found ≡ true → PlacedAt f.at n fs
-  placed fs h e =
-      let s = is_some_lem (attribute_body n fs) (sym (g fs h).is_found ∙ e) in
-      record { body = s.0; there = s.1; is_place = (g fs h).is_place e }
+  pub placed : PlacedAt f.at n fs
+  placed = record { body = g.body; there = g.there; is_place = g.is_place }
 
-  pub some_found : HeldRecord x → f.found ≡ true → SomePlacedAt x f.at
-  some_found h e = record { attributes = h.attributes; holds = h.holds; number = n; placed = placed h.attributes h.holds e }
+  pub some_found : SomePlacedAt x f.at
+  some_found = record { attributes = fs; holds = h; number = n; placed = placed }
 
 module _ (x : List ℕ) (n : ℕ) (f : Found) (fs : Attributes) (a : Got x f n fs) where
   pub some_got : SomeAt x f.at

@@ -118,6 +118,9 @@ module _ (x : List ℕ) (b : Body) (h : Holds x b) where
   not_hundredths f = hundredths_test b ∙ ne_eqb (tag b) 7 (λ e. f (held_tag ∙ e))
 
   -- the tests themselves
+  pub first_boolean : eqb (get_or x 0 0) 1 ≡ is_boolean b
+  first_boolean = ap (λ (t : ℕ). eqb t 1) held_tag ∙ sym (boolean_test b)
+
   pub first_number : eqb (get_or x 0 0) 2 ≡ is_number b
   first_number = ap (λ (t : ℕ). eqb t 2) held_tag ∙ sym (number_test b)
 

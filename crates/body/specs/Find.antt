@@ -1,6 +1,6 @@
 -- Where a record's attributes stand in its bytes. Assumes nothing: these are definitions.
-use Rattle.std.specs.Prelude.{◌≡◌, true, List, ℕ, ◌+◌, ◌≤◌, eqb, ltb, length, if◌then◌else◌}
-use Rattle.std.proofs.Math.Option.{some}
+use Rattle.std.specs.Prelude.{◌≡◌, true, List, ℕ, Option, Some, None, ◌+◌, ◌≤◌, eqb, ltb, length, if◌then◌else◌}
+use Rattle.std.proofs.Math.Option.{some, none}
 use Rattle.lingua.specs.Numbers.{body_nodes}
 use Rattle.lingua.specs.Outcome.{is_some}
 use Rattle.lingua.specs.Body.{Body, record_of, Attributes, end, attribute, nodes, attribute_body, attribute_offset}
@@ -19,12 +19,18 @@ unfoldable pub bytes_before : ℕ → Attributes → ℕ
 bytes_before n end = 0
 bytes_before n (attribute m b fs) = if eqb n m then 0 else 1 + length (bytes b) + bytes_before n fs
 
--- whether attribute n is there; if so, where its body stands, behind its number, and the cells before its first
-pub record FoundIs (f : Found) (x : List ℕ) (n : ℕ) (fs : Attributes) : Type 0 where
-  pub is_found : f.found ≡ is_some (attribute_body n fs)
-  pub stands : (b : Body) → attribute_body n fs ≡ some b → At x f.at b
-  pub is_place : f.found ≡ true → f.at ≡ 3 + bytes_before n fs
-  pub is_offset : f.found ≡ true → f.offset ≡ attribute_offset n fs
+-- attribute n is there: where its body stands, behind its number, and the cells before its first
+pub record FoundAt (f : Found) (x : List ℕ) (n : ℕ) (fs : Attributes) : Type 0 where
+  pub body : Body
+  pub there : attribute_body n fs ≡ some body
+  pub stands : At x f.at body
+  pub is_place : f.at ≡ 3 + bytes_before n fs
+  pub is_offset : f.offset ≡ attribute_offset n fs
+
+-- attribute n stands where it was found, or is not there
+abbrev pub FoundIs : Option Found → List ℕ → ℕ → Attributes → Type 0
+FoundIs (Some f) x n fs = FoundAt f x n fs
+FoundIs None x n fs = attribute_body n fs ≡ none
 
 -- the bytes of the attributes that stay before a new attribute n
 unfoldable pub bytes_below : ℕ → Attributes → ℕ

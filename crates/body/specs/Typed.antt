@@ -1,28 +1,27 @@
 -- What the operations' half on bodies gives, as the code holds it. Assumes nothing: these are definitions.
-use Rattle.std.specs.Prelude.{◌≡◌, ℕ, ◌≤◌, eqb, replicate, if◌then◌else◌}
+use Rattle.std.specs.Prelude.{◌≡◌, ℕ, Result, Ok, Err, eqb, if◌then◌else◌}
 use Rattle.std.proofs.Math.Option.{Option, some, none}
-use Rattle.lingua.specs.Numbers.{body_cells, body_nodes, body_bytes}
-use Rattle.lingua.specs.Outcome.{ok, fail, Result}
-use Rattle.lingua.specs.Body.{Body, boolean, number, word, hundredths, Attributes, attributes_of, attribute_offset, insert_attribute, size, nodes}
-use Rattle.lingua.specs.Encode.{encoded}
+use Rattle.lingua.specs.Outcome.{Outcome, ok, fail}
+use Rattle.lingua.specs.Body.{Body, boolean, number, word, hundredths, Attributes, attributes_of, attribute_offset, insert_attribute, size}
+use Rattle.lingua.specs.Faults.{error_number}
+use Rattle.lingua.specs.declared.errors.Error.{Error}
 use Rattle.lingua.specs.Operation.{Binary, add, subtract, multiply, divide, less, equal, glue, expand, change, push}
 use Rattle.lingua.specs.Typing.{offset_in, hundredths_flag}
 use Rattle.body.specs.declared.typed.Typed.{Typed}
+use Rattle.body.specs.Encode.{Holds}
 
--- no error, the body, its cells and the second number; or the error's number
-unfoldable pub typed : Result Body → ℕ → Typed
-typed (ok b) o = record { error = 0; body = encoded b; cells = size b; offset = o }
-typed (fail e) o = record { error = e; body = replicate body_bytes 0; cells = 0; offset = 0 }
+-- the body, its cells and the second number
+pub record TypesBody (t : Typed) (r : Outcome ℕ Body) (o : ℕ) : Type 0 where
+  pub body : Body
+  pub is : r ≡ ok body
+  pub holds : Holds t.body body
+  pub is_cells : t.cells ≡ size body
+  pub is_offset : t.offset ≡ o
 
--- the body has few enough cells and nodes to be held; the error is one
-unfoldable pub Fit : Result Body → Type 0
-Fit (ok b) = (size b ≤ body_cells) × (nodes b ≤ body_nodes)
-Fit (fail e) = 1 ≤ e
-
--- the code's answer is what the half on bodies gives
-pub record Types (t : Typed) (r : Result Body) (o : ℕ) : Type 0 where
-  pub is : t ≡ typed r o
-  pub fit : Fit r
+-- the code's answer is what the half on bodies gives: a body, or the error
+abbrev pub Types : Result Typed Error → Outcome ℕ Body → ℕ → Type 0
+Types (Ok t) r o = TypesBody t r o
+Types (Err e) r o = r ≡ fail (error_number e)
 
 -- a simple body by its tag
 unfoldable pub simple_of : ℕ → Body

@@ -45,15 +45,13 @@ fn lacks_one(narrow: [u8; BODY_BYTES], wide: [u8; BODY_BYTES]) -> bool
     requires { HeldRecord wide }
     ensures { (fs gs : Attributes) → Holds narrow (record_of fs) → Holds wide (record_of gs) → result ≡ lacks_one fs gs }
 {
-    let mut left = wide[1];
     let mut at = 2;
-    while left != 0 {
+    for _ in 0..wide[1] {
         if lacks(narrow, wide, wide[at]) {
             return true;
         }
         let m = measured(wide, at + 1);
         at = m.next;
-        left = left - 1;
     }
     false
 }
@@ -63,7 +61,7 @@ fn lacks(narrow: [u8; BODY_BYTES], wide: [u8; BODY_BYTES], n: u8) -> bool
     requires { HeldWith wide n }
     ensures { (fs gs : Attributes) → Holds narrow (record_of fs) → Holds wide (record_of gs) → result ≡ same_attributes fs (remove_attribute n gs) }
 {
-    let f = find(wide, n);
+    let f = find(wide, n).unwrap();
     let rest = cut(wide, f.at);
     same(narrow, rest)
 }

@@ -7,40 +7,32 @@ ghost use Rattle.body.specs.Find.{HeldRecord, FoundIs, bytes_below};
 use crate::walk::measured;
 use lingua::sizes::BODY_BYTES;
 
-// Whether an attribute is there, where its body stands, and the cells before its first.
+// Where the body of an attribute that is there stands, and the cells before its first.
 #[derive(Clone, Copy)]
 pub struct Found {
-    pub found: bool,
     pub at: usize,
     pub offset: usize,
 }
 
 // The offset counts the attributes that were passed, and not the one that is found.
-pub fn find(body: [u8; BODY_BYTES], n: u8) -> Found
+pub fn find(body: [u8; BODY_BYTES], n: u8) -> Option<Found>
     requires { HeldRecord body }
     ensures { (fs : Attributes) → Holds body (record_of fs) → FoundIs result body n fs }
 {
-    let mut left = body[1];
     let mut at = 2;
     let mut offset = 0;
-    while left != 0 {
+    for _ in 0..body[1] {
         if body[at] == n {
-            return Found {
-                found: true,
+            return Some(Found {
                 at: at + 1,
                 offset: offset,
-            };
+            });
         }
         let m = measured(body, at + 1);
         at = m.next;
-        offset = offset + m.cells;
-        left = left - 1;
+        offset += m.cells;
     }
-    Found {
-        found: false,
-        at: 0,
-        offset: 0,
-    }
+    None
 }
 
 // Where attribute n goes, so that the numbers still ascend: before the first that is larger.
@@ -48,15 +40,13 @@ pub fn place(body: [u8; BODY_BYTES], n: u8) -> usize
     requires { HeldRecord body }
     ensures { (fs : Attributes) → Holds body (record_of fs) → result ≡ 2 + bytes_below n fs }
 {
-    let mut left = body[1];
     let mut at = 2;
-    while left != 0 {
+    for _ in 0..body[1] {
         if n < body[at] {
             return at;
         }
         let m = measured(body, at + 1);
         at = m.next;
-        left = left - 1;
     }
     at
 }

@@ -3,6 +3,7 @@
 
 pub mod coherence;
 pub mod find;
+pub mod flat;
 pub mod make;
 pub mod parts;
 pub mod typed;

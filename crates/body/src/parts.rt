@@ -22,11 +22,7 @@ pub fn pasted(
     ensures { result ≡ paste body at (drop from other) n }
 {
     let mut out = body;
-    let mut i = 0;
-    while i < n {
-        out[at + i] = other[from + i];
-        i += 1;
-    }
+    out[at..at + n].copy_from_slice(&other[from..from + n]);
     out
 }
 
@@ -56,12 +52,10 @@ fn all_same(x: [u8; BODY_BYTES], y: [u8; BODY_BYTES]) -> bool
     ensures { (b c : Body) → Holds x b → Holds y c → result ≡ same_body b c }
 {
     let mut alike = true;
-    let mut i = 0;
-    while i < BODY_BYTES {
+    for i in 0..BODY_BYTES {
         if x[i] != y[i] {
             alike = false;
         }
-        i += 1;
     }
     alike
 }

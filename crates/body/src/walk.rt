@@ -1,5 +1,5 @@
 // Measuring a body by a walk of its bytes in preorder.
-ghost use Rattle.std.specs.Prelude.{◌≡◌, ℕ, max};
+ghost use Rattle.std.specs.Prelude.{◌≡◌, ℕ};
 ghost use Rattle.lingua.specs.Body.{Body, Attributes, count_attributes};
 ghost use Rattle.body.specs.Encode.{Holds, Held};
 ghost use Rattle.body.specs.Walk.{At, AttributesAt, SomeAt, SomeAttributesAt, Measured, AttributesMeasured};
@@ -25,15 +25,6 @@ pub struct Measure {
     pub nodes: usize,
     pub depth: usize,
     pub next: usize,
-}
-
-pub fn larger(a: usize, b: usize) -> usize
-    ensures { result ≡ max a b }
-{
-    if a < b {
-        return b;
-    }
-    a
 }
 
 // The body at a place.
@@ -76,25 +67,23 @@ fn attributes_at(body: [u8; BODY_BYTES], at: usize, n: u8) -> Measure
     requires { SomeAttributesAt body at n }
     ensures { (fs : Attributes) → AttributesAt body at fs → n ≡ count_attributes fs → AttributesMeasured result at fs }
 {
-    let mut left = n;
     let mut next = at;
     let mut cells = 0;
     let mut nodes = 0;
-    let mut depth = 0;
-    while left != 0 {
+    let mut depth: usize = 0;
+    for _ in 0..n {
         if body[next + 1] <= WORD {
-            cells = cells + 1;
-            nodes = nodes + 1;
-            depth = larger(depth, 1);
-            next = next + 2;
+            cells += 1;
+            nodes += 1;
+            depth = depth.max(1);
+            next += 2;
         } else {
             let m = measure_at(body, next + 1);
-            cells = cells + m.cells;
-            nodes = nodes + m.nodes;
-            depth = larger(depth, m.depth);
+            cells += m.cells;
+            nodes += m.nodes;
+            depth = depth.max(m.depth);
             next = m.next;
         }
-        left = left - 1;
     }
     Measure {
         cells: cells,

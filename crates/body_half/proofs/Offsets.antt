@@ -8,8 +8,9 @@ use native.Mathlib.Omega.{arith}
 use lib.Dec.{eqb}
 use Rattle.lingua.specs.Numbers.{body_cells}
 use Rattle.lingua.specs.Errors.{attribute_present, no_such_attribute, no_coherence, body_too_large}
-use Rattle.std.specs.Prelude.{if◌then◌else◌}
-use Rattle.lingua.specs.Outcome.{ok, fail, Result, require, ◌>>◌}
+use Rattle.std.specs.Prelude.{if◌then◌else◌, Result, Ok, Err}
+use Rattle.lingua.specs.declared.errors.Error.{Error}
+use Rattle.lingua.specs.Outcome.{Outcome, ok, require, ◌>>◌}
 use Rattle.lingua.specs.Body.{Body, boolean, number, word, hundredths, list_of, record_of, Attributes, end, attribute, size, sizes, is_hundredths, same_body, attributes_of, attribute_body, attribute_offset, insert_attribute, too_large}
 use Rattle.lingua.specs.Operation.{Unary, negation, make_record, select, make_list, top, pop, remove, to_hundredths, to_number, Binary, add, subtract, multiply, divide, less, equal, glue, expand, change, push, bounded, present, quantities_to, unary_body, binary_body}
 use Rattle.lingua.specs.Typing.{offset_in, hundredths_flag, unary_second, binary_second}
@@ -17,7 +18,7 @@ use Rattle.laws.specs.Outcomes.{fail_is_ok, ok_same, required, asked}
 use Rattle.laws.specs.Halves.{quantities_body}
 use Rattle.body.specs.Encode.{Holds}
 use Rattle.body.specs.declared.typed.Typed.{Typed as HalfTyped}
-use Rattle.body.specs.Typed.{typed, Fit, Types, binary_offset, offset_after}
+use Rattle.body.specs.Typed.{Types, binary_offset, offset_after}
 use Rattle.body_half.specs.Half.{Half}
 
 -- ---- offsets
@@ -113,22 +114,19 @@ binary_second_lem (change n) b c d e h =
 binary_second_lem push b c d e h = none_is 0 refl
 
 -- ---- halves
-by_types : (t : HalfTyped) (r : Result Body) (o : ℕ) (second : Body → ℕ) → Types t r o → ((d : Body) → r ≡ ok d → size d ≤ body_cells → Second o (second d)) → Half t r second
-unfolding Half typed Fit
-by_types t (ok d) o second h f =
-    let s = f d refl h.fit.0 in
+by_types : (t : Result HalfTyped Error) (r : Outcome ℕ Body) (o : ℕ) (second : Body → ℕ) → Types t r o → ((d : Body) → r ≡ ok d → size d ≤ body_cells → Second o (second d)) → Half t r second
+by_types (Ok t) r o second h f =
+    let s = f h.body h.is h.holds.few_cells in
     record {
-      passed = ap (λ (x : HalfTyped). x.error) h.is;
-      holds = record { is = ap (λ (x : HalfTyped). x.body) h.is; few_cells = h.fit.0; few_nodes = h.fit.1 };
-      cells = ap (λ (x : HalfTyped). x.cells) h.is;
-      is_second = ap (λ (x : HalfTyped). x.offset) h.is ∙ s.is;
-      small = omega (arith, ap (λ (x : HalfTyped). x.offset) h.is, s.small);
+      body = h.body;
+      is = h.is;
+      passes = record { holds = h.holds; cells = h.is_cells; is_second = h.is_offset ∙ s.is; small = omega (arith, h.is_offset, s.small) };
     }
-by_types t (fail n) o second h f = record { some_error = h.fit; error = ap (λ (x : HalfTyped). x.error) h.is }
+by_types (Err e) r o second h f = h
 
-pub unary_is : (t : HalfTyped) (o : Unary) (x : List ℕ) (b : Body) → Holds x b → Types t (unary_body o b) (unary_second o b) → Half t (unary_body o b) (λ d. unary_second o b)
+pub unary_is : (t : Result HalfTyped Error) (o : Unary) (x : List ℕ) (b : Body) → Holds x b → Types t (unary_body o b) (unary_second o b) → Half t (unary_body o b) (λ d. unary_second o b)
 unary_is t o x b h k =
     by_types t (unary_body o b) (unary_second o b) _ k (λ d e s. record { is = refl; small = unary_small o b h.few_cells })
 
-pub binary_is : (t : HalfTyped) (o : Binary) (b c : Body) → Types t (binary_body o b c) (binary_offset o b c) → Half t (binary_body o b c) (λ d. binary_second o b c d)
+pub binary_is : (t : Result HalfTyped Error) (o : Binary) (b c : Body) → Types t (binary_body o b c) (binary_offset o b c) → Half t (binary_body o b c) (λ d. binary_second o b c d)
 binary_is t o b c k = by_types t (binary_body o b c) (binary_offset o b c) _ k (λ d e s. binary_second_lem o b c d e s)

@@ -9,12 +9,9 @@ ghost use Rattle.body.specs.Typed.{Types, binary_offset};
 use body::find::find;
 use body::make::{body_at, element, insert};
 use body::parts::same;
-use body::typed::{Typed, failed, scalar, too_large};
-use body::walk::{BOOLEAN, HUNDREDTHS, LIST, NUMBER, RECORD, WORD, larger, measure_body};
-use lingua::errors::{
-    ATTRIBUTE_PRESENT, BODY_TOO_LARGE, LIST_EXPECTED, NO_COHERENCE, NO_SUCH_ATTRIBUTE,
-    NOT_COMPARABLE, NUMBER_EXPECTED, RECORD_EXPECTED, WORD_EXPECTED,
-};
+use body::typed::{Typed, scalar, too_large};
+use body::walk::{BOOLEAN, HUNDREDTHS, LIST, NUMBER, RECORD, WORD, measure_body};
+use lingua::errors::Error;
 use lingua::sizes::BODY_BYTES;
 
 // Two numbers, or two hundredths.
@@ -33,135 +30,127 @@ fn quantities(x: [u8; BODY_BYTES], y: [u8; BODY_BYTES]) -> bool
 }
 
 // Kinds 5 to 8: the operands' own body; the second number is 1 for hundredths.
-pub fn reckoned(x: [u8; BODY_BYTES], y: [u8; BODY_BYTES]) -> Typed
+pub fn reckoned(x: [u8; BODY_BYTES], y: [u8; BODY_BYTES]) -> Result<Typed, Error>
     ensures { (b c : Body) → Holds x b → Holds y c → Types result (quantities_to b b c) (hundredths_flag b) }
 {
     if !quantities(x, y) {
-        return failed(NUMBER_EXPECTED);
+        return Err(Error::NumberExpected);
     }
     if x[0] == HUNDREDTHS {
-        return Typed {
-            error: 0,
+        return Ok(Typed {
             body: x,
             cells: 1,
             offset: 1,
-        };
+        });
     }
-    scalar(NUMBER)
+    Ok(scalar(NUMBER))
 }
 
 // Kind 9.
-pub fn compared(x: [u8; BODY_BYTES], y: [u8; BODY_BYTES]) -> Typed
+pub fn compared(x: [u8; BODY_BYTES], y: [u8; BODY_BYTES]) -> Result<Typed, Error>
     ensures { (b c : Body) → Holds x b → Holds y c → Types result (quantities_to boolean b c) 0 }
 {
     if !quantities(x, y) {
-        return failed(NUMBER_EXPECTED);
+        return Err(Error::NumberExpected);
     }
-    scalar(BOOLEAN)
+    Ok(scalar(BOOLEAN))
 }
 
 // Kind 10: a list or a record can't be compared.
-pub fn equal(x: [u8; BODY_BYTES], y: [u8; BODY_BYTES]) -> Typed
+pub fn equal(x: [u8; BODY_BYTES], y: [u8; BODY_BYTES]) -> Result<Typed, Error>
     ensures { (b c : Body) → Holds x b → Holds y c → Types result (binary_body equal b c) 0 }
 {
     if x[0] == LIST {
-        return failed(NOT_COMPARABLE);
+        return Err(Error::NotComparable);
     }
     if x[0] == RECORD {
-        return failed(NOT_COMPARABLE);
+        return Err(Error::NotComparable);
     }
     if !same(x, y) {
-        return failed(NOT_COMPARABLE);
+        return Err(Error::NotComparable);
     }
-    scalar(BOOLEAN)
+    Ok(scalar(BOOLEAN))
 }
 
 // Kind 13.
-pub fn glue(x: [u8; BODY_BYTES], y: [u8; BODY_BYTES]) -> Typed
+pub fn glue(x: [u8; BODY_BYTES], y: [u8; BODY_BYTES]) -> Result<Typed, Error>
     ensures { (b c : Body) → Holds x b → Holds y c → Types result (binary_body glue b c) 0 }
 {
     if x[0] != WORD {
-        return failed(WORD_EXPECTED);
+        return Err(Error::WordExpected);
     }
     if y[0] != WORD {
-        return failed(WORD_EXPECTED);
+        return Err(Error::WordExpected);
     }
-    scalar(WORD)
+    Ok(scalar(WORD))
 }
 
 // Kind 17. An attribute that is there already comes before a record that gets too large.
-pub fn expand(n: u8, x: [u8; BODY_BYTES], y: [u8; BODY_BYTES]) -> Typed
+pub fn expand(n: u8, x: [u8; BODY_BYTES], y: [u8; BODY_BYTES]) -> Result<Typed, Error>
     requires held { Held x }
     requires held_2 { Held y }
     ensures { (b c : Body) → Holds x b → Holds y c → Types result (binary_body (expand n) b c) (binary_offset (expand n) b c) }
 {
     if x[0] != RECORD {
-        return failed(RECORD_EXPECTED);
+        return Err(Error::RecordExpected);
     }
-    let f = find(x, n);
-    let present = f.found;
+    let present = find(x, n).is_some();
     if present {
-        return failed(ATTRIBUTE_PRESENT);
+        return Err(Error::AttributePresent);
     }
     let m = measure_body(x);
     let k = measure_body(y);
     let cells = m.cells + k.cells;
-    let depth = larger(m.depth, 1 + k.depth);
+    let depth = m.depth.max(1 + k.depth);
     if too_large(cells, m.nodes + k.nodes, depth, x[1] + 1) {
-        return failed(BODY_TOO_LARGE);
+        return Err(Error::BodyTooLarge);
     }
     let body = insert(x, n, y);
-    let g = find(body, n);
-    Typed {
-        error: 0,
+    let f = find(body, n).unwrap();
+    Ok(Typed {
         body: body,
         cells: cells,
-        offset: g.offset,
-    }
+        offset: f.offset,
+    })
 }
 
 // Kind 19.
-pub fn change(n: u8, x: [u8; BODY_BYTES], y: [u8; BODY_BYTES]) -> Typed
+pub fn change(n: u8, x: [u8; BODY_BYTES], y: [u8; BODY_BYTES]) -> Result<Typed, Error>
     requires { Held x }
     ensures { (b c : Body) → Holds x b → Holds y c → Types result (binary_body (change n) b c) (binary_offset (change n) b c) }
 {
     if x[0] != RECORD {
-        return failed(RECORD_EXPECTED);
+        return Err(Error::RecordExpected);
     }
-    let f = find(x, n);
-    if !f.found {
-        return failed(NO_SUCH_ATTRIBUTE);
-    }
+    let f = find(x, n).ok_or(Error::NoSuchAttribute)?;
     let old = body_at(x, f.at);
     if !same(old, y) {
-        return failed(NO_COHERENCE);
+        return Err(Error::NoCoherence);
     }
     let m = measure_body(x);
-    Typed {
-        error: 0,
+    Ok(Typed {
         body: x,
         cells: m.cells,
         offset: f.offset,
-    }
+    })
 }
 
 // Kind 21.
-pub fn push(x: [u8; BODY_BYTES], y: [u8; BODY_BYTES]) -> Typed
+pub fn push(x: [u8; BODY_BYTES], y: [u8; BODY_BYTES]) -> Result<Typed, Error>
     requires { Held x }
     ensures { (b c : Body) → Holds x b → Holds y c → Types result (binary_body push b c) 0 }
 {
     if x[0] != LIST {
-        return failed(LIST_EXPECTED);
+        return Err(Error::ListExpected);
     }
     let inner = element(x);
     if !same(inner, y) {
-        return failed(NO_COHERENCE);
+        return Err(Error::NoCoherence);
     }
     let m = measure_body(x);
-    Typed {
-        error: 0,
+    Ok(Typed {
         body: x,
         cells: m.cells,
         offset: 0,
-    }
+    })
 }

@@ -1,5 +1,5 @@
 // An operation's half on bodies at a row: the error, or the result's body and the layout table's second number.
-ghost use Rattle.std.specs.Prelude.{◌≡◌, ◌≤◌};
+ghost use Rattle.std.specs.Prelude.{◌≡◌, ◌≤◌, IfSome};
 ghost use Rattle.lingua.specs.Body.{Body};
 ghost use Rattle.lingua.specs.Operation.{unary_body, binary_body};
 ghost use Rattle.lingua.specs.Operations.{unary_meaning, binary_meaning};
@@ -13,10 +13,11 @@ use crate::unary::{
 };
 use body::typed::Typed;
 use body::walk::{BOOLEAN, HUNDREDTHS, NUMBER, WORD};
+use lingua::errors::Error;
 use lingua::operations::{BinaryOperation, UnaryOperation};
 use lingua::sizes::BODY_BYTES;
 
-pub fn unary_half(o: UnaryOperation, x: [u8; BODY_BYTES]) -> Typed
+pub fn unary_half(o: UnaryOperation, x: [u8; BODY_BYTES]) -> Result<Typed, Error>
     requires { Held x }
     ensures { (b : Body) → Holds x b → Half result (unary_body (unary_meaning o) b) (λ d. unary_second (unary_meaning o) b) }
 {
@@ -33,7 +34,11 @@ pub fn unary_half(o: UnaryOperation, x: [u8; BODY_BYTES]) -> Typed
     }
 }
 
-pub fn binary_half(o: BinaryOperation, x: [u8; BODY_BYTES], y: [u8; BODY_BYTES]) -> Typed
+pub fn binary_half(
+    o: BinaryOperation,
+    x: [u8; BODY_BYTES],
+    y: [u8; BODY_BYTES],
+) -> Result<Typed, Error>
     requires held { Held x }
     requires held_2 { Held y }
     ensures { (b c : Body) → Holds x b → Holds y c → Half result (binary_body (binary_meaning o) b c) (λ d. binary_second (binary_meaning o) b c d) }
@@ -52,26 +57,21 @@ pub fn binary_half(o: BinaryOperation, x: [u8; BODY_BYTES], y: [u8; BODY_BYTES])
     }
 }
 
-// The tag of the simple body that an operation gives on simple bodies, where the second number is 0; or 0, which says nothing. What decides
-// it is the first byte of each.
-pub fn simple_unary(o: UnaryOperation, x: [u8; BODY_BYTES]) -> u8
+// The tag of the simple body that an operation gives on simple bodies, where the second number is 0; none says nothing. What decides it is the
+// first byte of each.
+pub fn simple_unary(o: UnaryOperation, x: [u8; BODY_BYTES]) -> Option<u8>
     ensures { (b : Body) → Holds x b → SimpleHalf result (unary_body (unary_meaning o) b) (λ d. unary_second (unary_meaning o) b) }
 {
     let a = x[0];
     match o {
         UnaryOperation::Negation => when_it(BOOLEAN, a, BOOLEAN),
-        UnaryOperation::MakeRecord(_) => 0,
-        UnaryOperation::Select(_) => 0,
-        UnaryOperation::MakeList => 0,
-        UnaryOperation::Top => 0,
-        UnaryOperation::Pop => 0,
-        UnaryOperation::Remove(_) => 0,
         UnaryOperation::ToHundredths => when_it(NUMBER, a, HUNDREDTHS),
         UnaryOperation::ToNumber => when_it(HUNDREDTHS, a, NUMBER),
+        _ => None,
     }
 }
 
-pub fn simple_binary(o: BinaryOperation, x: [u8; BODY_BYTES], y: [u8; BODY_BYTES]) -> u8
+pub fn simple_binary(o: BinaryOperation, x: [u8; BODY_BYTES], y: [u8; BODY_BYTES]) -> Option<u8>
     ensures { (b c : Body) → Holds x b → Holds y c → SimpleHalf result (binary_body (binary_meaning o) b c) (λ d. binary_second (binary_meaning o) b c d) }
 {
     let a = x[0];
@@ -84,44 +84,27 @@ pub fn simple_binary(o: BinaryOperation, x: [u8; BODY_BYTES], y: [u8; BODY_BYTES
         BinaryOperation::Less => when_both(NUMBER, a, b, BOOLEAN),
         BinaryOperation::Equal => when_like(a, b),
         BinaryOperation::Glue => when_both(WORD, a, b, WORD),
-        BinaryOperation::Expand(_) => 0,
-        BinaryOperation::Change(_) => 0,
-        BinaryOperation::Push => 0,
+        _ => None,
     }
 }
 
-// What an operand of the tag gives, 0 for any other.
-fn when_it(tag: u8, a: u8, gives: u8) -> u8
-    ensures { 1 ≤ result → (a ≡ tag) × (result ≡ gives) }
+// What an operand of the tag gives.
+fn when_it(tag: u8, a: u8, gives: u8) -> Option<u8>
+    ensures { IfSome result (λ g. (a ≡ tag) × (g ≡ gives)) }
 {
-    if a != tag {
-        return 0;
-    }
-    gives
+    (a == tag).then_some(gives)
 }
 
-// What two operands of the same tag give, 0 for any others.
-fn when_both(tag: u8, a: u8, b: u8, gives: u8) -> u8
-    ensures { 1 ≤ result → (a ≡ tag) × (b ≡ tag) × (result ≡ gives) }
+// What two operands of the same tag give.
+fn when_both(tag: u8, a: u8, b: u8, gives: u8) -> Option<u8>
+    ensures { IfSome result (λ g. (a ≡ tag) × (b ≡ tag) × (g ≡ gives)) }
 {
-    if a != tag {
-        return 0;
-    }
-    if b != tag {
-        return 0;
-    }
-    gives
+    (a == tag && b == tag).then_some(gives)
 }
 
 // Two booleans, two numbers or two words can be compared; two hundredths too, but of them this says nothing.
-fn when_like(a: u8, b: u8) -> u8
-    ensures { 1 ≤ result → (a ≤ 3) × (a ≡ b) × (result ≡ 1) }
+fn when_like(a: u8, b: u8) -> Option<u8>
+    ensures { IfSome result (λ g. (a ≤ 3) × (a ≡ b) × (g ≡ 1)) }
 {
-    if WORD < a {
-        return 0;
-    }
-    if a != b {
-        return 0;
-    }
-    BOOLEAN
+    (a <= WORD && a == b).then_some(BOOLEAN)
 }

@@ -8,172 +8,151 @@ ghost use Rattle.body.specs.Typed.{Types};
 
 use body::find::find;
 use body::make::{body_at, cut, element, list_of, record_of};
-use body::typed::{Typed, failed, scalar, too_large};
+use body::typed::{Typed, scalar, too_large};
 use body::walk::{BOOLEAN, HUNDREDTHS, LIST, NUMBER, RECORD, measure_body};
-use lingua::errors::{
-    BODY_TOO_LARGE, BOOLEAN_EXPECTED, LAST_ATTRIBUTE, LIST_EXPECTED, NO_SUCH_ATTRIBUTE,
-    NUMBER_EXPECTED, RECORD_EXPECTED,
-};
+use lingua::errors::Error;
 use lingua::sizes::{BODY_BYTES, LIST_PLACES};
 
 // What a test and a yoke are asked.
 pub fn is_boolean(x: [u8; BODY_BYTES]) -> bool
     ensures { (b : Body) → Holds x b → result ≡ is_boolean b }
 {
-    if x[0] == BOOLEAN {
-        return true;
-    }
-    false
+    x[0] == BOOLEAN
 }
 
 // Kind 14.
-pub fn negation(x: [u8; BODY_BYTES]) -> Typed
+pub fn negation(x: [u8; BODY_BYTES]) -> Result<Typed, Error>
     ensures { (b : Body) → Holds x b → Types result (unary_body negation b) 0 }
 {
     if x[0] != BOOLEAN {
-        return failed(BOOLEAN_EXPECTED);
+        return Err(Error::BooleanExpected);
     }
-    scalar(BOOLEAN)
+    Ok(scalar(BOOLEAN))
 }
 
 // Kind 16. The bounds are asked before the record is made: within them it fits its 96 bytes.
-pub fn make_record(n: u8, x: [u8; BODY_BYTES]) -> Typed
+pub fn make_record(n: u8, x: [u8; BODY_BYTES]) -> Result<Typed, Error>
     requires { Held x }
     ensures { (b : Body) → Holds x b → Types result (unary_body (make_record n) b) 0 }
 {
     let m = measure_body(x);
     if too_large(m.cells, 1 + m.nodes, 1 + m.depth, 1) {
-        return failed(BODY_TOO_LARGE);
+        return Err(Error::BodyTooLarge);
     }
     let body = record_of(n, x);
-    Typed {
-        error: 0,
+    Ok(Typed {
         body: body,
         cells: m.cells,
         offset: 0,
-    }
+    })
 }
 
 // Kind 18.
-pub fn select(n: u8, x: [u8; BODY_BYTES]) -> Typed
+pub fn select(n: u8, x: [u8; BODY_BYTES]) -> Result<Typed, Error>
     requires { Held x }
     ensures { (b : Body) → Holds x b → Types result (unary_body (select n) b) (unary_second (select n) b) }
 {
     if x[0] != RECORD {
-        return failed(RECORD_EXPECTED);
+        return Err(Error::RecordExpected);
     }
-    let f = find(x, n);
-    if !f.found {
-        return failed(NO_SUCH_ATTRIBUTE);
-    }
+    let f = find(x, n).ok_or(Error::NoSuchAttribute)?;
     let body = body_at(x, f.at);
     let m = measure_body(body);
-    Typed {
-        error: 0,
+    Ok(Typed {
         body: body,
         cells: m.cells,
         offset: f.offset,
-    }
+    })
 }
 
 // Kind 20.
-pub fn make_list(x: [u8; BODY_BYTES]) -> Typed
+pub fn make_list(x: [u8; BODY_BYTES]) -> Result<Typed, Error>
     requires { Held x }
     ensures { (b : Body) → Holds x b → Types result (unary_body make_list b) 0 }
 {
     let m = measure_body(x);
     let cells = 1 + LIST_PLACES * m.cells;
     if too_large(cells, 1 + m.nodes, 1 + m.depth, 0) {
-        return failed(BODY_TOO_LARGE);
+        return Err(Error::BodyTooLarge);
     }
     let body = list_of(x);
-    Typed {
-        error: 0,
+    Ok(Typed {
         body: body,
         cells: cells,
         offset: 0,
-    }
+    })
 }
 
 // Kind 22.
-pub fn top(x: [u8; BODY_BYTES]) -> Typed
+pub fn top(x: [u8; BODY_BYTES]) -> Result<Typed, Error>
     requires { Held x }
     ensures { (b : Body) → Holds x b → Types result (unary_body top b) 0 }
 {
     if x[0] != LIST {
-        return failed(LIST_EXPECTED);
+        return Err(Error::ListExpected);
     }
     let body = element(x);
     let m = measure_body(body);
-    Typed {
-        error: 0,
+    Ok(Typed {
         body: body,
         cells: m.cells,
         offset: 0,
-    }
+    })
 }
 
 // Kind 23.
-pub fn pop(x: [u8; BODY_BYTES]) -> Typed
+pub fn pop(x: [u8; BODY_BYTES]) -> Result<Typed, Error>
     requires { Held x }
     ensures { (b : Body) → Holds x b → Types result (unary_body pop b) 0 }
 {
     if x[0] != LIST {
-        return failed(LIST_EXPECTED);
+        return Err(Error::ListExpected);
     }
     let m = measure_body(x);
-    Typed {
-        error: 0,
+    Ok(Typed {
         body: x,
         cells: m.cells,
         offset: 0,
-    }
+    })
 }
 
 // Kind 26. A record that lacks the attribute comes before one that has no other. The offset is that in the operand.
-pub fn remove(n: u8, x: [u8; BODY_BYTES]) -> Typed
+pub fn remove(n: u8, x: [u8; BODY_BYTES]) -> Result<Typed, Error>
     requires { Held x }
     ensures { (b : Body) → Holds x b → Types result (unary_body (remove n) b) (unary_second (remove n) b) }
 {
     if x[0] != RECORD {
-        return failed(RECORD_EXPECTED);
+        return Err(Error::RecordExpected);
     }
-    let count = x[1];
-    let f = find(x, n);
-    let there = f.found;
-    let offset = f.offset;
-    if !there {
-        return failed(NO_SUCH_ATTRIBUTE);
+    let gone = find(x, n).ok_or(Error::NoSuchAttribute)?;
+    if x[1] < 2 {
+        return Err(Error::LastAttribute);
     }
-    if count < 2 {
-        return failed(LAST_ATTRIBUTE);
-    }
-    let body = cut(x, f.at);
+    let body = cut(x, gone.at);
     let m = measure_body(body);
-    Typed {
-        error: 0,
+    Ok(Typed {
         body: body,
         cells: m.cells,
-        offset: offset,
-    }
+        offset: gone.offset,
+    })
 }
 
 // Kind 28.
-pub fn to_hundredths(x: [u8; BODY_BYTES]) -> Typed
+pub fn to_hundredths(x: [u8; BODY_BYTES]) -> Result<Typed, Error>
     ensures { (b : Body) → Holds x b → Types result (unary_body to_hundredths b) 0 }
 {
     if x[0] != NUMBER {
-        return failed(NUMBER_EXPECTED);
+        return Err(Error::NumberExpected);
     }
-    scalar(HUNDREDTHS)
+    Ok(scalar(HUNDREDTHS))
 }
 
 // Kind 29.
-pub fn to_number(x: [u8; BODY_BYTES]) -> Typed
+pub fn to_number(x: [u8; BODY_BYTES]) -> Result<Typed, Error>
     ensures { (b : Body) → Holds x b → Types result (unary_body to_number b) 0 }
 {
     if x[0] != HUNDREDTHS {
-        return failed(NUMBER_EXPECTED);
+        return Err(Error::NumberExpected);
     }
-    scalar(NUMBER)
+    Ok(scalar(NUMBER))
 }

@@ -21,8 +21,7 @@ use Rattle.laws.specs.Outcomes.{and_left, and_right}
 use Rattle.laws.specs.Words.{text_short, text_characters, all_append, glued_text, packed_half, packed_tail, packed_positive, packed_append, packed_shift, packed_full}
 use Rattle.laws.specs.Determined.{pos_same}
 use Rattle.laws.specs.Sound.{fit_word}
-use Rattle.cells.specs.declared.words.Moved.{Moved}
-use Rattle.cells.specs.declared.words.Moved.TheVariants.{To, Nowhere}
+use Rattle.std.specs.Prelude.{Option, Some, None}
 use Rattle.cells.specs.Stack.{Lies, Leaves}
 use Rattle.cells.specs.Word.{IsWord, WordAt, Behind}
 use Rattle.cells.proofs.Elements.{leaves_answer, leaves_error}
@@ -163,23 +162,23 @@ module _ (s : List ℤ) (at : ℕ) (k : WordAt s at) where
   numbered_fits = omega (arith, numbered_word.is, packed_half numbered_word.characters (text_characters numbered_word.characters numbered_word.text))
 
 -- what `moved_behind` says of its result
-abbrev pub Says : ℕ → ℕ → Moved → Type 0
+abbrev pub Says : ℕ → ℕ → Option ℕ → Type 0
 Says m n r = (cs ds : List ℕ) → is_text cs ≡ true → is_text ds ≡ true → m ≡ packed_in word_length cs → n ≡ packed_in word_length ds → Behind r cs ds
 
-moved_to : (cs ds : List ℕ) (r : Moved) (k : ℕ) → r ≡ To k → Behind r cs ds → (length cs + length ds ≤ word_length) × (k ≡ packed_in (word_length - length cs) ds)
+moved_to : (cs ds : List ℕ) (r : Option ℕ) (k : ℕ) → r ≡ Some k → Behind r cs ds → (length cs + length ds ≤ word_length) × (k ≡ packed_in (word_length - length cs) ds)
 unfolding Behind
-moved_to cs ds r k e b = subst (λ (q : Moved). Behind q cs ds) e b
+moved_to cs ds r k e b = subst (λ (q : Option ℕ). Behind q cs ds) e b
 
-moved_nowhere : (cs ds : List ℕ) (r : Moved) → r ≡ Nowhere → Behind r cs ds → word_length < length cs + length ds
+moved_nowhere : (cs ds : List ℕ) (r : Option ℕ) → r ≡ None → Behind r cs ds → word_length < length cs + length ds
 unfolding Behind
-moved_nowhere cs ds r e b = subst (λ (q : Moved). Behind q cs ds) e b
+moved_nowhere cs ds r e b = subst (λ (q : Option ℕ). Behind q cs ds) e b
 
 -- the two numbers together are that of the glued text
 together : (cs ds : List ℕ) (m k : ℕ) → is_text cs ≡ true → m ≡ packed_in word_length cs → k ≡ packed_in (word_length - length cs) ds → m + k ≡ packed_in word_length (cs ++ ds)
 together cs ds m k h e f = omega (arith, e, f, packed_append word_length cs ds (text_short cs h))
 
 -- the sum fits a cell
-pub glued_fits : (m n : ℕ) (r : Moved) (k : ℕ) → IsWord m → IsWord n → Says m n r → r ≡ To k → m + k < 9223372036854775808
+pub glued_fits : (m n : ℕ) (r : Option ℕ) (k : ℕ) → IsWord m → IsWord n → Says m n r → r ≡ Some k → m + k < 9223372036854775808
 glued_fits m n r k x y f e =
     let cs = x.characters in
     let ds = y.characters in
@@ -187,16 +186,16 @@ glued_fits m n r k x y f e =
     omega (arith, together cs ds m k x.text x.is b.1, packed_half (cs ++ ds) (all_append is_character cs ds (text_characters cs x.text) (text_characters ds y.text)))
 
 -- ---- glue
-module _ (s : List ℤ) (x y : Value) (m n : ℕ) (r : Moved) (h : Lies s 0 word x) (k : Lies s 64 word y) (p : get_or s 0 (pos 0) ≡ pos m) (q : get_or s 64 (pos 0) ≡ pos n) (f : Says m n r) where
+module _ (s : List ℤ) (x y : Value) (m n : ℕ) (r : Option ℕ) (h : Lies s 0 word x) (k : Lies s 64 word y) (p : get_or s 0 (pos 0) ≡ pos m) (q : get_or s 64 (pos 0) ≡ pos n) (f : Says m n r) where
   behind : Behind r (as_text x) (as_text y)
   unfolding packed
   behind = f (as_text x) (as_text y) (fit_word h.fit) (fit_word k.fit) (pos_same (sym p ∙ word_cell h)) (pos_same (sym q ∙ word_cell k))
 
-  pub glue_none : r ≡ Nowhere → Leaves 6 s word (binary_value glue x y)
+  pub glue_none : r ≡ None → Leaves 6 s word (binary_value glue x y)
   unfolding binary_value glued
   glue_none e = leaves_error 5 (rw (lt-leb (length (as_text x) + length (as_text y)) word_length (moved_nowhere (as_text x) (as_text y) r e behind)) refl)
 
-  pub glue_law : (j : ℕ) → 0 < length s → r ≡ To j → Leaves 0 (set s 0 (to_z w64 (m + j))) word (binary_value glue x y)
+  pub glue_law : (j : ℕ) → 0 < length s → r ≡ Some j → Leaves 0 (set s 0 (to_z w64 (m + j))) word (binary_value glue x y)
   unfolding binary_value glued packed size cells_of as_text
   glue_law j l e =
       let cs = as_text x in

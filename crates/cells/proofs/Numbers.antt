@@ -1,28 +1,24 @@
 -- Arithmetic on the stack: what it gives is a number, a count or an error, the cells that it takes are in range, and what is put in the
 -- first operand's place is the result. Assumes nothing.
 use mathlib.Core.Path.{◌≡◌, refl, sym, ap, ap₂, ◌∙◌, subst}
-use mathlib.Core.Bool.{Bool, true, false, not}
+use mathlib.Core.Bool.{Bool, true, false}
 use mathlib.Core.List.{List}
 use Prim.Native.Nat.{ℕ, ◌<◌}
-use native.Mathlib.Omega.{arith}
 use lib.Dec.{eqb}
 use lib.ListN.{length, set, get_or}
-use lib.IntN.{ℤ, pos, ◌+ℤ◌, ◌-ℤ◌, ◌*ℤ◌}
+use lib.IntN.{ℤ, pos, ◌+ℤ◌, ◌-ℤ◌}
 use mir.Syntax.{w64}
 use mir.Val.{to_z, of_z}
-use Rattle.lingua.specs.Numbers.{parts_of_one}
-use Rattle.lingua.specs.Errors.{overflow, division_by_zero}
-use Rattle.std.specs.Prelude.{if◌then◌else◌}
-use Rattle.lingua.specs.Outcome.{ok, fail, Result, require, ◌>>◌}
+use Rattle.std.specs.Prelude.{if◌then◌else◌, Result}
+use Rattle.lingua.specs.Outcome.{ok, Result as Outcome}
 use Rattle.lingua.specs.Body.{Body, is_hundredths, is_quantity}
-use Rattle.lingua.specs.Value.{Value, whole, in_range_of, is_count, quantity, quantity_body, as_whole}
+use Rattle.lingua.specs.Value.{Value, in_range_of, is_count, quantity, quantity_body, as_whole}
 use Rattle.lingua.specs.Operation.{Binary, add, subtract, multiply, divide, quantities_to, binary_body}
-use Rattle.lingua.specs.Compute.{ranged, same_number, quotient, product, divided, binary_value}
-use Rattle.lingua.specs.Rounding.{nearest}
+use Rattle.lingua.specs.Compute.{ranged, product, divided, binary_value}
 use Rattle.lingua.specs.Typing.{hundredths_flag, binary_second}
-use Rattle.arith.specs.declared.Number.{Number}
-use Rattle.arith.specs.declared.Number.TheVariants.{Whole, Error}
-use Rattle.arith.specs.Image.{image}
+use Rattle.lingua.specs.declared.errors.Error.{Error}
+use Rattle.arith.specs.Told.{told_quantity}
+use Rattle.arith.specs.Distances.{quantity_whole}
 use Rattle.laws.specs.Halves.{quantities_body}
 use Rattle.laws.specs.Sound.{ranged_fits, divided_fits, quantity_body_lem, quantity_counts, quantity_range}
 use Rattle.cells.specs.Stack.{Lies, Leaves}
@@ -33,54 +29,20 @@ use Rattle.cells.proofs.Singles.{range_back, quantity_cell}
 use Rattle.cells.specs.Numeric.{Numeric}
 
 -- ---- what arithmetic gives
-ok_is_fail {ℓ} : {A : Type 0} {B : Type ℓ} {a : A} {n : ℕ} → ◌≡◌ {A = Result A} (ok a) (fail n) → B
-ok_is_fail e = absurd (let z : ◌≡◌ {A = ℕ} 0 1 = cc in let k : ⊥ = omega arith in k)
-
-required_error : (t : Bool) (n : ℕ) (o : Result Value) → (o ≡ fail 0 → ⊥) → (require t n >> o) ≡ fail 0 → n ≡ 0
-required_error true n o f e = absurd (f e)
-required_error false n o f e = cc
-
 pub numeric_ranged : (h : Bool) (z : ℤ) → Numeric h (ranged h z)
 unfolding ranged
-numeric_ranged h z = record {
-  fits = λ v e. ranged_fits h z v e;
-  error = λ e. let k : overflow ≡ 0 = required_error (in_range_of h z) overflow (ok (quantity h z)) (λ q. ok_is_fail q) e in omega arith;
-}
+numeric_ranged h z = record { fits = λ v e. ranged_fits h z v e }
 
 pub numeric_divided : (h : Bool) (x y : ℤ) → in_range_of h x ≡ true → Numeric h (divided h x y)
-unfolding divided
-numeric_divided true x y r = record {
-  fits = λ v e. divided_fits true x y v r e;
-  error = λ e. let k : division_by_zero ≡ 0 = required_error (not (same_number y (pos 0))) division_by_zero (ranged true (nearest (pos parts_of_one *ℤ x) y)) (numeric_ranged true (nearest (pos parts_of_one *ℤ x) y)).error e in omega arith;
-}
-numeric_divided false x y r = record {
-  fits = λ v e. divided_fits false x y v r e;
-  error = λ e. let k : division_by_zero ≡ 0 = required_error (not (same_number y (pos 0))) division_by_zero (ok (whole (quotient x y))) (λ q. ok_is_fail q) e in omega arith;
-}
+numeric_divided h x y r = record { fits = λ v e. divided_fits h x y v r e }
 
 -- ---- put
-image_whole : (o : Result Value) (z : ℤ) → image o ≡ Whole z → (v : Value) × (o ≡ ok v) × (z ≡ as_whole v)
-unfolding image
-image_whole (ok v) z e = (v, refl, cc)
-image_whole (fail n) z e = absurd (let k : ◌≡◌ {A = ℕ} 0 1 = cc in let b : ⊥ = omega arith in b)
-
-image_error : (o : Result Value) (n : ℕ) → image o ≡ Error n → o ≡ fail n
-unfolding image
-image_error (ok v) n e = absurd (let k : ◌≡◌ {A = ℕ} 0 1 = cc in let b : ⊥ = omega arith in b)
-image_error (fail m) n e = cc
-
-pub put_whole : (h : Bool) (s : List ℤ) (o : Result Value) (answer : Number) (z : ℤ) → 0 < length s → answer ≡ image o → Numeric h o → answer ≡ Whole z
-    → Leaves 0 (set s 0 (to_z w64 (of_z w64 z))) (quantity_body h) o
-put_whole h s o answer z l e k w =
-    let p = image_whole o z (sym e ∙ w) in
-    let v = p.0 in
-    let fit = k.fits v p.1 in
-    subst (λ (y : ℤ). Leaves 0 (set s 0 y) (quantity_body h) o) (sym (range_back h z (ap (in_range_of h) p.2 ∙ quantity_in_range h fit) ∙ p.2)) (quantity_leaves h s v l p.1 fit)
-
-pub put_error : (h : Bool) (s : List ℤ) (o : Result Value) (answer : Number) (n : ℕ) → answer ≡ image o → Numeric h o → answer ≡ Error n → Leaves n s (quantity_body h) o
-put_error h s o answer n e k w =
-    let p = image_error o n (sym e ∙ w) in
-    record { answer = λ z. absurd (k.error (p ∙ ap (λ (m : ℕ). fail m) z)); error = λ f. p }
+pub put_whole : (h : Bool) (s : List ℤ) {o : Outcome Value} (z : ℤ) → 0 < length s → ok (quantity h z) ≡ o → Numeric h o → Leaves 0 (set s 0 (to_z w64 (of_z w64 z))) (quantity_body h) o
+put_whole h s {o} z l e k =
+    let v = quantity h z in
+    let fit = k.fits v (sym e) in
+    let p : as_whole v ≡ z = quantity_whole h z in
+    subst (λ (y : ℤ). Leaves 0 (set s 0 y) (quantity_body h) o) (p ∙ sym (range_back h z (ap (in_range_of h) (sym p) ∙ quantity_in_range h fit))) (quantity_leaves h s v l (sym e) fit)
 
 -- ---- the operands
 -- a cell as the code reads it
@@ -104,8 +66,8 @@ flagged b n e = by (is_hundredths b) refl e
     by false q r = rw (← r)
 
 -- what `put` says of its result
-abbrev Puts : ℕ → List ℤ → Number → Type 0
-Puts r last answer = (h : Bool) (o : Result Value) → answer ≡ image o → Numeric h o → Leaves r last (quantity_body h) o
+abbrev Puts : ℕ → List ℤ → Result ℤ Error → Type 0
+Puts r last answer = (h : Bool) (o : Outcome Value) → told_quantity h answer ≡ o → Numeric h o → Leaves r last (quantity_body h) o
 
 -- the two cells are in range
 abbrev pub Ranges : List ℤ → ℕ → Type 0
@@ -136,30 +98,30 @@ module _ {s : List ℤ} {cells others offset : ℕ} {b c d : Body} {x y : Value}
   unfolding binary_body binary_second
   divide_ranges h = ranges divide h.half h.offset_is h
 
-  module _ (r : ℕ) (last : List ℤ) (answer : Number) (put : Puts r last answer) where
-    leaves : (o : Binary) (f : Bool → ℤ → ℤ → Result Value) → quantities_to b b c ≡ ok d → hundredths_flag d ≡ offset → Operands o s cells others offset b c d x y
-        → answer ≡ image (f (eqb offset 1) (read s 0) (read s 64)) → (in_range_of (is_count x) (as_whole x) ≡ true → Numeric (is_count x) (f (is_count x) (as_whole x) (as_whole y)))
+  module _ (r : ℕ) (last : List ℤ) (answer : Result ℤ Error) (put : Puts r last answer) where
+    leaves : (o : Binary) (f : Bool → ℤ → ℤ → Outcome Value) → quantities_to b b c ≡ ok d → hundredths_flag d ≡ offset → Operands o s cells others offset b c d x y
+        → told_quantity (eqb offset 1) answer ≡ f (eqb offset 1) (read s 0) (read s 64) → (in_range_of (is_count x) (as_whole x) ≡ true → Numeric (is_count x) (f (is_count x) (as_whole x) (as_whole y)))
         → Leaves r last d (f (is_count x) (as_whole x) (as_whole y))
     leaves o f e g h q k =
         let p = quantities_body e in
         let t : eqb offset 1 ≡ is_count x = flagged d offset g ∙ ap is_hundredths p.2 ∙ sym (quantity_counts p.0 h.lies.fit) in
         leaves_as (p.2 ∙ sym (quantity_body_lem p.0 h.lies.fit))
         (put (is_count x) (f (is_count x) (as_whole x) (as_whole y))
-        (q ∙ ap (λ (u : Bool). image (f u (read s 0) (read s 64))) t ∙ ap₂ (λ (m n : ℤ). image (f (is_count x) m n)) (read_is p.0 h.lies) (read_is p.0 (lies_as p.1 h.lies_other)))
+        (ap (λ (u : Bool). told_quantity u answer) (sym t) ∙ q ∙ ap (λ (u : Bool). f u (read s 0) (read s 64)) t ∙ ap₂ (λ (m n : ℤ). f (is_count x) m n) (read_is p.0 h.lies) (read_is p.0 (lies_as p.1 h.lies_other)))
         (k (quantity_range p.0 h.lies.fit)))
 
-    pub add_leaves : answer ≡ image (ranged (eqb offset 1) (read s 0 +ℤ read s 64)) → Operands add s cells others offset b c d x y → Leaves r last d (binary_value add x y)
+    pub add_leaves : told_quantity (eqb offset 1) answer ≡ ranged (eqb offset 1) (read s 0 +ℤ read s 64) → Operands add s cells others offset b c d x y → Leaves r last d (binary_value add x y)
     unfolding binary_body binary_value binary_second
     add_leaves q h = leaves add (λ t m n. ranged t (m +ℤ n)) h.half h.offset_is h q (λ i. numeric_ranged _ _)
 
-    pub subtract_leaves : answer ≡ image (ranged (eqb offset 1) (read s 0 -ℤ read s 64)) → Operands subtract s cells others offset b c d x y → Leaves r last d (binary_value subtract x y)
+    pub subtract_leaves : told_quantity (eqb offset 1) answer ≡ ranged (eqb offset 1) (read s 0 -ℤ read s 64) → Operands subtract s cells others offset b c d x y → Leaves r last d (binary_value subtract x y)
     unfolding binary_body binary_value binary_second
     subtract_leaves q h = leaves subtract (λ t m n. ranged t (m -ℤ n)) h.half h.offset_is h q (λ i. numeric_ranged _ _)
 
-    pub multiply_leaves : answer ≡ image (ranged (eqb offset 1) (product (eqb offset 1) (read s 0) (read s 64))) → Operands multiply s cells others offset b c d x y → Leaves r last d (binary_value multiply x y)
+    pub multiply_leaves : told_quantity (eqb offset 1) answer ≡ ranged (eqb offset 1) (product (eqb offset 1) (read s 0) (read s 64)) → Operands multiply s cells others offset b c d x y → Leaves r last d (binary_value multiply x y)
     unfolding binary_body binary_value binary_second
     multiply_leaves q h = leaves multiply (λ t m n. ranged t (product t m n)) h.half h.offset_is h q (λ i. numeric_ranged _ _)
 
-    pub divide_leaves : answer ≡ image (divided (eqb offset 1) (read s 0) (read s 64)) → Operands divide s cells others offset b c d x y → Leaves r last d (binary_value divide x y)
+    pub divide_leaves : told_quantity (eqb offset 1) answer ≡ divided (eqb offset 1) (read s 0) (read s 64) → Operands divide s cells others offset b c d x y → Leaves r last d (binary_value divide x y)
     unfolding binary_body binary_value binary_second
     divide_leaves q h = leaves divide (λ t m n. divided t m n) h.half h.offset_is h q (λ i. numeric_divided (is_count x) (as_whole x) (as_whole y) i)

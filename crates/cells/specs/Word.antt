@@ -1,9 +1,7 @@
 -- Words as numbers, as the code glues them. Assumes nothing: these are definitions.
-use Rattle.std.specs.Prelude.{◌≡◌, true, List, ℕ, ◌+◌, ◌-◌, ◌≤◌, ◌<◌, length, get_or, ℤ, pos}
+use Rattle.std.specs.Prelude.{Option, Some, None, ◌≡◌, true, List, ℕ, ◌+◌, ◌-◌, ◌≤◌, ◌<◌, length, get_or, ℤ, pos}
 use Rattle.lingua.specs.Numbers.{word_length}
 use Rattle.lingua.specs.Value.{is_text, packed_in}
-use Rattle.cells.specs.declared.words.Moved.{Moved}
-use Rattle.cells.specs.declared.words.Moved.TheVariants.{To, Nowhere}
 
 -- the number is that of some text
 pub record IsWord (n : ℕ) : Type 0 where
@@ -17,7 +15,7 @@ pub record WordAt (stack : List ℤ) (at : ℕ) : Type 0 where
   pub is : get_or stack at (pos 0) ≡ pos number
   pub word : IsWord number
 
--- the second text's number in the places that the first text leaves, or nowhere if they are too few
-unfoldable pub Behind : Moved → List ℕ → List ℕ → Type 0
-Behind (To n) cs ds = (length cs + length ds ≤ word_length) × (n ≡ packed_in (word_length - length cs) ds)
-Behind Nowhere cs ds = word_length < length cs + length ds
+-- the second text's number in the places that the first text leaves, or none if they are too few
+unfoldable pub Behind : Option ℕ → List ℕ → List ℕ → Type 0
+Behind (Some n) cs ds = (length cs + length ds ≤ word_length) × (n ≡ packed_in (word_length - length cs) ds)
+Behind None cs ds = word_length < length cs + length ds

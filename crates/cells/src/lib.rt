@@ -6,7 +6,7 @@
 
 pub mod apply; // apply.rt: an operation by its name
 pub mod lists; // lists.rt: lists
-pub mod parts; // parts.rt: cells moved and cleared
+pub mod parts; // parts.rt: cells cleared
 pub mod records; // records.rt: records
 pub mod simple; // simple.rt: simple values
 pub mod words; // words.rt: words

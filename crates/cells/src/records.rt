@@ -8,7 +8,6 @@ ghost use Rattle.lingua.specs.Operation.{select, change, expand, remove, present
 ghost use Rattle.lingua.specs.Compute.{unary_value, binary_value};
 ghost use Rattle.cells.specs.Stack.{first_place, second_place, Lies, Holds};
 
-use crate::parts;
 use lingua::sizes::BODY_CELLS;
 
 // The attribute's cells to the front.
@@ -17,7 +16,7 @@ pub fn select(stack: &mut [i64], offset: usize, width: usize)
     ensures { (n : ℕ) (fs : Attributes) (d : Body) (x : Value) → attribute_body n fs ≡ some d → attribute_offset n fs ≡ offset → size d ≡ width
         → Lies stack.old first_place (record_of fs) x → Holds stack.new d (unary_value (select n) x) }
 {
-    parts::copy_down(stack, offset, 0, width);
+    stack.copy_within(offset..offset + width, 0);
 }
 
 // The second operand's cells in the place of the attribute's.
@@ -27,7 +26,7 @@ pub fn change(stack: &mut [i64], offset: usize, width: usize)
     ensures { (n : ℕ) (fs : Attributes) (d : Body) (x y : Value) → attribute_body n fs ≡ some d → attribute_offset n fs ≡ offset → size d ≡ width
         → Lies stack.old first_place (record_of fs) x → Lies stack.old second_place d y → Holds stack.new (record_of fs) (binary_value (change n) x y) }
 {
-    parts::copy_down(stack, BODY_CELLS, offset, width);
+    stack.copy_within(BODY_CELLS..BODY_CELLS + width, offset);
 }
 
 // The attributes above the new one move up by its size, and the second operand's cells go between.
@@ -39,9 +38,8 @@ pub fn expand(stack: &mut [i64], total: usize, offset: usize, width: usize)
         → sizes fs ≡ total → size c ≡ width → Lies stack.old first_place (record_of fs) x → Lies stack.old second_place c y
         → Holds stack.new (record_of (insert_attribute n c fs)) (binary_value (expand n) x y) }
 {
-    let next = offset + width;
-    parts::copy_up(stack, offset, next, total - offset);
-    parts::copy_down(stack, BODY_CELLS, offset, width);
+    stack.copy_within(offset..total, offset + width);
+    stack.copy_within(BODY_CELLS..BODY_CELLS + width, offset);
 }
 
 // The attributes above the removed one move down by its size.
@@ -52,6 +50,5 @@ pub fn remove(stack: &mut [i64], total: usize, offset: usize, width: usize)
         → sizes fs ≡ total → size d ≡ width → Lies stack.old first_place (record_of fs) x
         → Holds stack.new (record_of (remove_attribute n fs)) (unary_value (remove n) x) }
 {
-    let next = offset + width;
-    parts::copy_down(stack, next, offset, total - next);
+    stack.copy_within(offset + width..total, offset);
 }

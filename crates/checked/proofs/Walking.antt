@@ -5,8 +5,10 @@ use mathlib.Core.Option.{Option, some}
 use Prim.Native.Nat.{ℕ, ◌+◌, ◌-◌, ◌*◌, ◌<◌}
 use lib.ListN.{length, take, drop, get_or}
 use lib.IntN.{ℤ}
+use Rattle.std.specs.Prelude.{Result}
+use Rattle.lingua.specs.declared.errors.Error.{Error}
 use Rattle.lingua.specs.Errors.{list_expected}
-use Rattle.lingua.specs.Outcome.{ok, fail, Result, or_fail, ◌>>=◌}
+use Rattle.lingua.specs.Outcome.{ok, fail, Result as Outcome, or_fail, ◌>>=◌}
 use Rattle.lingua.specs.Body.{Body, list_of, size, element_body}
 use Rattle.lingua.specs.Value.{Value, count_values, value_list, as_items, Composite, composite}
 use Rattle.lingua.specs.Expression.{Expression, all_list}
@@ -55,11 +57,11 @@ pub element_current : {current : List ℤ} {inner : List ℕ} {b : Body} {x : Va
 element_current lies holds i at w z p l = record { lies = element_lies lies i at w z p l; holds = holds }
 
 -- ---- the results
-pub sees_more : {s : Tally} (g : Value → Result Composite) (x : Value) (i : ℕ) → i < count_values (as_items x) → Sees s (map g (take i (value_list (as_items x))) ++ (g (element_at x i) ∷ [])) → Sees s (map g (take (i + 1) (value_list (as_items x))))
-sees_more {s} g x i l h = subst (λ (rs : List (Result Composite)). Sees s rs) (sym (gathered_more g x i l)) h
+pub sees_more : {s : Result Tally Error} (g : Value → Outcome Composite) (x : Value) (i : ℕ) → i < count_values (as_items x) → Sees s (map g (take i (value_list (as_items x))) ++ (g (element_at x i) ∷ [])) → Sees s (map g (take (i + 1) (value_list (as_items x))))
+sees_more {s} g x i l h = subst (λ (rs : List (Outcome Composite)). Sees s rs) (sym (gathered_more g x i l)) h
 
-pub sees_all : {s : Tally} (g : Value → Result Composite) (x : Value) (i : ℕ) → i ≡ count_values (as_items x) → Sees s (map g (take i (value_list (as_items x)))) → Sees s (map g (value_list (as_items x)))
-sees_all {s} g x i e h = subst (λ (rs : List (Result Composite)). Sees s rs) (gathered_all g x i e) h
+pub sees_all : {s : Result Tally Error} (g : Value → Outcome Composite) (x : Value) (i : ℕ) → i ≡ count_values (as_items x) → Sees s (map g (take i (value_list (as_items x)))) → Sees s (map g (value_list (as_items x)))
+sees_all {s} g x i e h = subst (λ (rs : List (Outcome Composite)). Sees s rs) (gathered_all g x i e) h
 
 -- ---- the yoke
 pub all_is : {current : List ℤ} {body : List ℕ} {x : Composite} (row : ℕ) (e : Expression) (vars : Variables) (l : IsList current body x) → all_true (map (λ v. eval e vars (composite l.element v)) (value_list (as_items x.value))) ≡ eval (all_list row e) vars x
@@ -67,4 +69,4 @@ unfolding eval elements_of
 all_is {current} {body} {x} row e vars l =
     sym
     (ap (λ (m : Option Body). (or_fail m list_expected >>= λ b. ok (map (λ v. composite b v) (value_list (as_items x.value)))) >>= λ xs. all_true (map (λ y. eval e vars y) xs)) l.has
-    ∙ ap (λ (rs : List (Result Composite)). all_true rs) (map-map (λ y. eval e vars y) (λ v. composite l.element v) (value_list (as_items x.value))))
+    ∙ ap (λ (rs : List (Outcome Composite)). all_true rs) (map-map (λ y. eval e vars y) (λ v. composite l.element v) (value_list (as_items x.value))))

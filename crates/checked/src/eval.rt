@@ -11,14 +11,14 @@ ghost use Rattle.checked_row.specs.Meaning.{World, Current, Asked, Gives};
 
 use body::make::element;
 use body::walk::{LIST, measure_body};
-use checked_row::answer::{Evaluated, failed, simple_value, truth_of};
+use checked_row::answer::{Evaluated, simple_value, truth_of};
 use checked_row::leaves::{constant, copied, fetch};
 use checked_row::operate::{binary, unary};
-use checked_row::quick::{Quick, pair};
+use checked_row::quick::pair;
 use checked_row::tally::{Tally, concluded, tallied};
 use decoder::decode::ExpressionRow;
 use decoder::tables::Table;
-use lingua::errors::{BOOLEAN_EXPECTED, LIST_EXPECTED, NO_ERROR};
+use lingua::errors::Error;
 use lingua::sizes::{BODY_BYTES, BODY_CELLS};
 use profile::row::expression_row;
 
@@ -34,16 +34,16 @@ pub fn eval(
     current: &[i64],
     body: [u8; BODY_BYTES],
     stack: &mut [i64],
-) -> Evaluated
+) -> Result<Evaluated, Error>
     requires { Asked row rows.now t variables.now cells.now states.now current.now body stack.old }
     ensures { (vs : List Variable) (x : Composite) → World rows.now t variables.now cells.now states.now vs → Current current.now body x
         → Gives result stack.new (meaning (expression_tree rows.now row) (contents vs) x) }
 {
     let says = expression_row(rows, t, row);
     match says {
-        ExpressionRow::Constant(_) => constant(rows, t, row, stack),
+        ExpressionRow::Constant(_) => Ok(constant(rows, t, row, stack)),
         ExpressionRow::Variable(n) => fetch(variables, cells, states, n, stack),
-        ExpressionRow::Current => copied(current, body, stack),
+        ExpressionRow::Current => Ok(copied(current, body, stack)),
         ExpressionRow::Unary(o, a) => {
             let x = eval(
                 a,
@@ -72,35 +72,33 @@ pub fn eval(
                 body,
                 &mut *stack,
             );
-            match quick {
-                Quick::Simple(tag) => simple_value(tag),
-                Quick::Failed(error) => failed(error),
-                Quick::Deeper => {
-                    let x = eval(
-                        a,
-                        rows,
-                        t,
-                        variables,
-                        cells,
-                        states,
-                        current,
-                        body,
-                        &mut *stack,
-                    );
-                    let y = eval(
-                        b,
-                        rows,
-                        t,
-                        variables,
-                        cells,
-                        states,
-                        current,
-                        body,
-                        &mut stack[BODY_CELLS..],
-                    );
-                    binary(o, x, y, stack)
-                }
+            if let Some(answer) = quick {
+                let tag = answer?;
+                return Ok(simple_value(tag));
             }
+            let x = eval(
+                a,
+                rows,
+                t,
+                variables,
+                cells,
+                states,
+                current,
+                body,
+                &mut *stack,
+            );
+            let y = eval(
+                b,
+                rows,
+                t,
+                variables,
+                cells,
+                states,
+                current,
+                body,
+                &mut stack[BODY_CELLS..],
+            );
+            binary(o, x, y, stack)
         }
         ExpressionRow::Lazy(settling, a, b) => {
             lazy(
@@ -135,7 +133,7 @@ fn lazy(
     current: &[i64],
     body: [u8; BODY_BYTES],
     stack: &mut [i64],
-) -> Evaluated
+) -> Result<Evaluated, Error>
     requires asked { Asked row rows.now t variables.now cells.now states.now current.now body stack.old }
     requires a_lt_row { (a < row) × (b < row) }
     ensures { (vs : List Variable) (x : Composite) → World rows.now t variables.now cells.now states.now vs → Current current.now body x
@@ -152,11 +150,8 @@ fn lazy(
         body,
         &mut *stack,
     );
-    let first = truth_of(x, BOOLEAN_EXPECTED, stack);
-    if first.error != NO_ERROR {
-        return failed(first.error);
-    }
-    if first.holds == settling {
+    let first = truth_of(x, Error::BooleanExpected, stack)?;
+    if first == settling {
         return x;
     }
     let y = eval(
@@ -170,10 +165,7 @@ fn lazy(
         body,
         &mut *stack,
     );
-    let second = truth_of(y, BOOLEAN_EXPECTED, stack);
-    if second.error != NO_ERROR {
-        return failed(second.error);
-    }
+    truth_of(y, Error::BooleanExpected, stack)?;
     y
 }
 
@@ -192,7 +184,7 @@ fn choice(
     current: &[i64],
     body: [u8; BODY_BYTES],
     stack: &mut [i64],
-) -> Evaluated
+) -> Result<Evaluated, Error>
     requires asked { Asked row rows.now t variables.now cells.now states.now current.now body stack.old }
     requires test_lt_row { (test < row) × (a < row) × (b < row) }
     ensures { (vs : List Variable) (x : Composite) → World rows.now t variables.now cells.now states.now vs → Current current.now body x
@@ -209,11 +201,7 @@ fn choice(
         body,
         &mut *stack,
     );
-    let truth = truth_of(x, BOOLEAN_EXPECTED, stack);
-    if truth.error != NO_ERROR {
-        return failed(truth.error);
-    }
-    if truth.holds {
+    if truth_of(x, Error::BooleanExpected, stack)? {
         return eval(a, rows, t, variables, cells, states, current, body, stack);
     }
     eval(b, rows, t, variables, cells, states, current, body, stack)
@@ -232,27 +220,25 @@ fn all(
     current: &[i64],
     body: [u8; BODY_BYTES],
     stack: &mut [i64],
-) -> Evaluated
+) -> Result<Evaluated, Error>
     requires asked { Asked row rows.now t variables.now cells.now states.now current.now body stack.old }
     requires a_lt_row { a < row }
     ensures { (vs : List Variable) (x : Composite) → World rows.now t variables.now cells.now states.now vs → Current current.now body x
         → Gives result stack.new (meaning (all_list row (expression_tree rows.now a)) (contents vs) x) }
 {
     if body[0] != LIST {
-        return failed(LIST_EXPECTED);
+        return Err(Error::ListExpected);
     }
     let inner = element(body);
     let m = measure_body(inner);
     let width = m.cells;
     let n = current[0] as usize;
-    let mut seen = Tally {
-        error: NO_ERROR,
+    let mut seen = Ok(Tally {
         booleans: true,
         all: true,
-    };
-    let mut at = 1;
-    let mut i = 0;
-    while i < n {
+    });
+    for i in 0..n {
+        let at = 1 + i * width;
         let x = eval(
             a,
             rows,
@@ -265,8 +251,6 @@ fn all(
             &mut *stack,
         );
         seen = tallied(seen, x, stack);
-        at += width;
-        i += 1;
     }
     concluded(seen, stack)
 }

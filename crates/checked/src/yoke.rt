@@ -13,9 +13,8 @@ use body::make::simple;
 use body::walk::BOOLEAN;
 use checked_row::answer::{Evaluated, boolean, truth_of};
 use decoder::tables::Table;
-use lingua::errors::BOOLEAN_EXPECTED;
+use lingua::errors::Error;
 use lingua::sizes::BODY_BYTES;
-use run::steps::Truth;
 
 // What yoke y gives on a value: 0 is the yoke that is always true, another is the expression of row y - 1.
 pub fn eval_yoke(
@@ -28,7 +27,7 @@ pub fn eval_yoke(
     current: &[i64],
     body: [u8; BODY_BYTES],
     stack: &mut [i64],
-) -> Evaluated
+) -> Result<Evaluated, Error>
     requires ready { Ready rows.now t variables.now cells.now states.now current.now body }
     requires y_le_count { y ≤ t.count }
     requires y_in_bounds { body_cells * (y + 1) ≤ length stack.old }
@@ -36,7 +35,7 @@ pub fn eval_yoke(
         → Gives result stack.new (eval_yoke (yoke_tree rows.now y) (contents vs) x) }
 {
     if y == 0 {
-        return boolean(true, stack);
+        return Ok(boolean(true, stack));
     }
     eval(
         y - 1,
@@ -60,7 +59,7 @@ pub fn eval_plain(
     states: &[u16],
     row: usize,
     stack: &mut [i64],
-) -> Evaluated
+) -> Result<Evaluated, Error>
     requires has_world { HasWorld rows.now t variables.now cells.now states.now }
     requires row_lt_count { row < t.count }
     requires row_in_bounds { body_cells * (row + 2) ≤ length stack.old }
@@ -83,7 +82,7 @@ pub fn eval_test(
     states: &[u16],
     row: usize,
     stack: &mut [i64],
-) -> Truth
+) -> Result<bool, Error>
     requires has_world { HasWorld rows.now t variables.now cells.now states.now }
     requires row_lt_count { row < t.count }
     requires row_in_bounds { body_cells * (row + 2) ≤ length stack.old }
@@ -91,5 +90,5 @@ pub fn eval_test(
         → Tells result (eval_test (expression_tree rows.now row) (contents vs)) }
 {
     let x = eval_plain(rows, t, variables, cells, states, row, &mut *stack);
-    truth_of(x, BOOLEAN_EXPECTED, stack)
+    truth_of(x, Error::BooleanExpected, stack)
 }

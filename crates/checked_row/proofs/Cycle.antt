@@ -7,8 +7,9 @@ use native.Mathlib.Omega.{arith}
 use lib.IntN.{ℤ}
 use Rattle.lingua.specs.Numbers.{expression_section, most_variables}
 use Rattle.lingua.specs.Errors.{boolean_expected}
-use Rattle.std.specs.Prelude.{if◌then◌else◌}
-use Rattle.lingua.specs.Outcome.{ok, fail, Result, ◌>>=◌}
+use Rattle.std.specs.Prelude.{if◌then◌else◌, Result}
+use Rattle.lingua.specs.declared.errors.Error.{Error}
+use Rattle.lingua.specs.Outcome.{ok, fail, Result as Outcome, ◌>>=◌}
 use Rattle.lingua.specs.Value.{Composite}
 use Rattle.lingua.specs.Expression.{Expression, lazy, choice, settled_by}
 use Rattle.lingua.specs.Evaluation.{Variables, truth_or, boolean_of, eval}
@@ -24,8 +25,6 @@ use Rattle.profile.specs.Row.{RowSays}
 use Rattle.profile.specs.Facts.{RowFacts, row_facts, row_tree, row_tree_lem, settled_by_lem}
 use Rattle.decoder.specs.declared.tables.Table.{Table}
 use Rattle.checked_row.specs.declared.answer.Evaluated.{Evaluated}
-use Rattle.run.specs.declared.steps.Truth.{Truth}
-use Rattle.run.specs.Reached.{Tells}
 use Rattle.checked_row.specs.Meaning.{World, Gives}
 use Rattle.checked_row.proofs.Giving.{gives_as, told_boolean}
 
@@ -42,62 +41,57 @@ module _ {rows : List ℕ} {t : Table} {variables : List ℕ} {cells : List ℤ}
   unfolding RowFacts
   few_named s = omega (arith, facts s, few_variables rows w.accepted (expression_scope rows row) (use_at_most rows row))
 
-  pub by_row : {d : CodeRow} {r : Evaluated} {stack : List ℤ} (x : Composite) → RowSays rows row d → Gives r stack (eval (row_tree rows row d) (contents vs) x) → Gives r stack (eval (expression_tree rows row) (contents vs) x)
+  pub by_row : {d : CodeRow} {r : Result Evaluated Error} {stack : List ℤ} (x : Composite) → RowSays rows row d → Gives r stack (eval (row_tree rows row d) (contents vs) x) → Gives r stack (eval (expression_tree rows row) (contents vs) x)
   by_row {d} {r} {stack} x s g = gives_as (ap (λ (e : Expression). eval e (contents vs) x) (sym (row_tree_lem rows row d s (facts s)))) g
 
 -- ---- tests
-tested : (o : Result Composite) (g : Bool → Result Composite) → (o >>= λ x. truth_or boolean_expected x >>= λ t. g t) ≡ ((o >>= truth_or boolean_expected) >>= g)
+tested : (o : Outcome Composite) (g : Bool → Outcome Composite) → (o >>= λ x. truth_or boolean_expected x >>= λ t. g t) ≡ ((o >>= truth_or boolean_expected) >>= g)
 tested (ok x) g = refl
 tested (fail n) g = refl
 
 module _ (row : ℕ) (settling : Bool) (e f : Expression) (vars : Variables) (cur : Composite) where
-  rest : Bool → Result Composite
+  rest : Bool → Outcome Composite
   rest t = if beq t (settled_by (connective settling)) then ok (boolean_of t) else (eval f vars cur >>= λ y. truth_or boolean_expected y >>= λ u. ok (boolean_of u))
 
   lazy_is : eval (lazy row (connective settling) e f) vars cur ≡ ((eval e vars cur >>= truth_or boolean_expected) >>= rest)
   unfolding eval rest
   lazy_is = tested (eval e vars cur) (λ t. if beq t (settled_by (connective settling)) then ok (boolean_of t) else (eval f vars cur >>= λ y. truth_or boolean_expected y >>= λ u. ok (boolean_of u)))
 
-  pub lazy_error : (p : Truth) → Tells p (eval e vars cur >>= truth_or boolean_expected) → (p.error ≡ 0 → ⊥) → eval (lazy row (connective settling) e f) vars cur ≡ fail p.error
-  lazy_error p t g = lazy_is ∙ ap (λ (q : Result Bool). q >>= rest) (t.error g)
+  module _ (h : Bool) (t : ok h ≡ (eval e vars cur >>= truth_or boolean_expected)) where
+    lazy_told : eval (lazy row (connective settling) e f) vars cur ≡ rest h
+    lazy_told = lazy_is ∙ sym (ap (λ (q : Outcome Bool). q >>= rest) t)
 
-  lazy_told : (p : Truth) → Tells p (eval e vars cur >>= truth_or boolean_expected) → p.error ≡ 0 → eval (lazy row (connective settling) e f) vars cur ≡ rest p.holds
-  lazy_told p t g = lazy_is ∙ ap (λ (q : Result Bool). q >>= rest) (t.answer g)
+    pub lazy_settled : {x : Result Evaluated Error} {s : List ℤ} → Gives x s (eval e vars cur) → beq h settling ≡ true → Gives x s (eval (lazy row (connective settling) e f) vars cur)
+    unfolding rest
+    lazy_settled g b =
+        gives_as
+        (sym (lazy_told ∙ ap (λ (b : Bool). if b then ok (boolean_of h) else (eval f vars cur >>= λ y. truth_or boolean_expected y >>= λ u. ok (boolean_of u))) (settled_by_lem h settling true b)))
+        (told_boolean boolean_expected g h t)
 
-  pub lazy_settled : {x : Evaluated} {s : List ℤ} (p : Truth) → Gives x s (eval e vars cur) → Tells p (eval e vars cur >>= truth_or boolean_expected) → p.error ≡ 0 → beq p.holds settling ≡ true → Gives x s (eval (lazy row (connective settling) e f) vars cur)
-  unfolding rest
-  lazy_settled p g t z h =
-      gives_as
-      (sym (lazy_told p t z ∙ ap (λ (b : Bool). if b then ok (boolean_of p.holds) else (eval f vars cur >>= λ y. truth_or boolean_expected y >>= λ u. ok (boolean_of u))) (settled_by_lem p.holds settling true h)))
-      (told_boolean boolean_expected g p t z)
+    lazy_second : beq h settling ≡ false → eval (lazy row (connective settling) e f) vars cur ≡ ((eval f vars cur >>= truth_or boolean_expected) >>= λ u. ok (boolean_of u))
+    unfolding rest
+    lazy_second b =
+        lazy_told
+        ∙ ap (λ (b : Bool). if b then ok (boolean_of h) else (eval f vars cur >>= λ y. truth_or boolean_expected y >>= λ u. ok (boolean_of u))) (settled_by_lem h settling false b)
+        ∙ tested (eval f vars cur) (λ u. ok (boolean_of u))
 
-  lazy_second : (p : Truth) → Tells p (eval e vars cur >>= truth_or boolean_expected) → p.error ≡ 0 → beq p.holds settling ≡ false → eval (lazy row (connective settling) e f) vars cur ≡ ((eval f vars cur >>= truth_or boolean_expected) >>= λ u. ok (boolean_of u))
-  unfolding rest
-  lazy_second p t z h =
-      lazy_told p t z
-      ∙ ap (λ (b : Bool). if b then ok (boolean_of p.holds) else (eval f vars cur >>= λ y. truth_or boolean_expected y >>= λ u. ok (boolean_of u))) (settled_by_lem p.holds settling false h)
-      ∙ tested (eval f vars cur) (λ u. ok (boolean_of u))
+    module _ (b : beq h settling ≡ false) where
+      pub lazy_second_error : (n : ℕ) → (eval f vars cur >>= truth_or boolean_expected) ≡ fail n → eval (lazy row (connective settling) e f) vars cur ≡ fail n
+      lazy_second_error n u = lazy_second b ∙ ap (λ (o : Outcome Bool). o >>= λ b. ok (boolean_of b)) u
 
-  module _ (p q : Truth) (t : Tells p (eval e vars cur >>= truth_or boolean_expected)) (z : p.error ≡ 0) (h : beq p.holds settling ≡ false) (u : Tells q (eval f vars cur >>= truth_or boolean_expected)) where
-    pub lazy_second_error : (q.error ≡ 0 → ⊥) → eval (lazy row (connective settling) e f) vars cur ≡ fail q.error
-    lazy_second_error g = lazy_second p t z h ∙ ap (λ (o : Result Bool). o >>= λ b. ok (boolean_of b)) (u.error g)
+      pub lazy_second_told : {y : Result Evaluated Error} {s : List ℤ} (t : Bool) → Gives y s (eval f vars cur) → ok t ≡ (eval f vars cur >>= truth_or boolean_expected) → Gives y s (eval (lazy row (connective settling) e f) vars cur)
+      lazy_second_told t g u = gives_as (sym (lazy_second b ∙ sym (ap (λ (o : Outcome Bool). o >>= λ b. ok (boolean_of b)) u))) (told_boolean boolean_expected g t u)
 
-    pub lazy_second_told : {y : Evaluated} {s : List ℤ} → Gives y s (eval f vars cur) → q.error ≡ 0 → Gives y s (eval (lazy row (connective settling) e f) vars cur)
-    lazy_second_told g i = gives_as (sym (lazy_second p t z h ∙ ap (λ (o : Result Bool). o >>= λ b. ok (boolean_of b)) (u.answer i))) (told_boolean boolean_expected g q u i)
+  pub lazy_error : (n : ℕ) → (eval e vars cur >>= truth_or boolean_expected) ≡ fail n → eval (lazy row (connective settling) e f) vars cur ≡ fail n
+  lazy_error n t = lazy_is ∙ ap (λ (q : Outcome Bool). q >>= rest) t
 
-module _ (row : ℕ) (p e f : Expression) (vars : Variables) (cur : Composite) (t : Truth) (h : Tells t (eval p vars cur >>= truth_or boolean_expected)) where
+module _ (row : ℕ) (p e f : Expression) (vars : Variables) (cur : Composite) where
   choice_is : eval (choice row p e f) vars cur ≡ ((eval p vars cur >>= truth_or boolean_expected) >>= λ b. if b then eval e vars cur else eval f vars cur)
   unfolding eval
   choice_is = tested (eval p vars cur) (λ b. if b then eval e vars cur else eval f vars cur)
 
-  pub choice_error : (t.error ≡ 0 → ⊥) → eval (choice row p e f) vars cur ≡ fail t.error
-  choice_error g = choice_is ∙ ap (λ (o : Result Bool). o >>= λ b. if b then eval e vars cur else eval f vars cur) (h.error g)
+  pub choice_error : (n : ℕ) → (eval p vars cur >>= truth_or boolean_expected) ≡ fail n → eval (choice row p e f) vars cur ≡ fail n
+  choice_error n t = choice_is ∙ ap (λ (o : Outcome Bool). o >>= λ b. if b then eval e vars cur else eval f vars cur) t
 
-  choice_told : t.error ≡ 0 → eval (choice row p e f) vars cur ≡ (if t.holds then eval e vars cur else eval f vars cur)
-  choice_told z = choice_is ∙ ap (λ (o : Result Bool). o >>= λ b. if b then eval e vars cur else eval f vars cur) (h.answer z)
-
-  pub choice_yes : t.error ≡ 0 → t.holds ≡ true → eval e vars cur ≡ eval (choice row p e f) vars cur
-  choice_yes z b = sym (choice_told z ∙ ap (λ (c : Bool). if c then eval e vars cur else eval f vars cur) b)
-
-  pub choice_no : t.error ≡ 0 → t.holds ≡ false → eval f vars cur ≡ eval (choice row p e f) vars cur
-  choice_no z b = sym (choice_told z ∙ ap (λ (c : Bool). if c then eval e vars cur else eval f vars cur) b)
+  pub choice_told : (h : Bool) → ok h ≡ (eval p vars cur >>= truth_or boolean_expected) → (if h then eval e vars cur else eval f vars cur) ≡ eval (choice row p e f) vars cur
+  choice_told h t = sym (choice_is ∙ sym (ap (λ (o : Outcome Bool). o >>= λ b. if b then eval e vars cur else eval f vars cur) t))

@@ -1,20 +1,20 @@
 -- Constants, variables and the current value: their cells at the stack's front. Assumes nothing.
 use mathlib.Core.Path.{◌≡◌, refl, sym, ap, ◌∙◌, subst}
 use mathlib.Core.Bool.{true, false}
-use mathlib.Core.List.{List, [], ◌∷◌, ◌++◌}
+use mathlib.Core.List.{List}
 use mathlib.Core.Logic.{⊎_elim}
 use mathlib.Core.Option.{Option, some, none}
 use Prim.Native.Nat.{ℕ, ◌+◌, ◌*◌, ◌≤◌, ◌<◌}
-use native.Mathlib.Numerals.{add-one}
 use native.Mathlib.Omega.{arith}
-use lib.ListN.{length, take, drop, get_or, set, length-drop, get_or-eq_default}
-use lib.Seq.{get_or-drop, take-suc, take-suc-set, paste}
+use lib.ListN.{length, take, drop, set, get_or-eq_default}
+use lib.Seq.{paste}
 use lib.IntN.{ℤ}
 use lib.Dec.{eqb}
 use borrow.Author.Tests.{eqb-false, not-true}
 use Rattle.lingua.specs.Numbers.{body_cells, body_bytes, most_variables}
 use Rattle.lingua.specs.Errors.{not_filled}
-use Rattle.lingua.specs.Outcome.{ok, fail, Result, or_fail}
+use Rattle.std.specs.Prelude.{Ok}
+use Rattle.lingua.specs.Outcome.{ok, fail, Result as Outcome, or_fail}
 use Rattle.lingua.specs.Body.{Body, size}
 use Rattle.lingua.specs.Value.{Composite}
 use Rattle.lingua.specs.Store.{Variable, no_variable, variable_at, present_of, present_body, contents, flag_place, flag_at, filled_at}
@@ -37,23 +37,12 @@ use Rattle.checked_row.specs.declared.answer.Evaluated.{Evaluated}
 use Rattle.checked_row.specs.Meaning.{Stored, Current, Gives}
 use Rattle.checked_row.proofs.Giving.{gives_answer}
 
--- ---- one turn of each loop
-pub bytes_turn : (out from : List ℕ) (at i : ℕ) → i < length out → at + i < length from → take i out ≡ take i (drop at from) → take (i + 1) (set out i (get_or from (at + i) 0)) ≡ take (i + 1) (drop at from)
-bytes_turn out from at i h k e =
-    let l : i < length (drop at from) = omega (arith, length-drop at from) in
-    ap (λ (n : ℕ). take n (set out i (get_or from (at + i) 0))) (add-one i)
-    ∙ take-suc-set out i (get_or from (at + i) 0) h
-    ∙ ap (λ (x : List ℕ). x ++ (get_or from (at + i) 0 ∷ [])) e
-    ∙ ap (λ (x : ℕ). take i (drop at from) ++ (x ∷ [])) (sym (get_or-drop at from i 0))
-    ∙ sym (take-suc (drop at from) i 0 l)
-    ∙ ap (λ (n : ℕ). take n (drop at from)) (sym (add-one i))
-
 -- ---- a constant
-pub gives_constant : (rows : List ℕ) (k : ℕ) (s : List ℤ) (z : ℤ) (r : Evaluated) → ConstantRow rows k → IsCell z (constant_of rows k) → 0 < length s → r.error ≡ 0 → Holds r.body (constant_of rows k).body → r.cells ≡ 1 → Gives r (set s 0 z) (ok (constant_of rows k))
-gives_constant rows k s z r c i h e b n =
+pub gives_constant : (rows : List ℕ) (k : ℕ) (s : List ℤ) (z : ℤ) (r : Evaluated) → ConstantRow rows k → IsCell z (constant_of rows k) → 0 < length s → Holds r.body (constant_of rows k).body → r.cells ≡ 1 → Gives (Ok r) (set s 0 z) (ok (constant_of rows k))
+gives_constant rows k s z r c i h b n =
     let x = constant_of rows k in
     let one : size x.body ≡ 1 = sym (length_cells c.fits) ∙ ap (λ (l : List ℤ). length l) i.is in
-    gives_answer e (record {
+    gives_answer (record {
       value = x;
       is = refl;
       holds = b;
@@ -65,9 +54,9 @@ gives_constant rows k s z r c i h e b n =
 pub current_room : {current : List ℤ} {body : List ℕ} {x : Composite} (n : ℕ) → Current current body x → n ≡ size x.body → (0 + n ≤ length current) × (n ≤ body_cells)
 current_room n h e = (omega (arith, lies_long h.lies, e), omega (arith, h.holds.few_cells, e))
 
-pub gives_current : {current : List ℤ} {body : List ℕ} {x : Composite} (s after : List ℤ) (n : ℕ) (r : Evaluated) → Current current body x → n ≡ size x.body → after ≡ paste s 0 (drop 0 current) n → r.error ≡ 0 → r.body ≡ body → r.cells ≡ n → Gives r after (ok x)
-gives_current {current} {body} {x} s after n r h z q e b m =
-    gives_answer e (record {
+pub gives_current : {current : List ℤ} {body : List ℕ} {x : Composite} (s after : List ℤ) (n : ℕ) (r : Evaluated) → Current current body x → n ≡ size x.body → after ≡ paste s 0 (drop 0 current) n → r.body ≡ body → r.cells ≡ n → Gives (Ok r) after (ok x)
+gives_current {current} {body} {x} s after n r h z q b m =
+    gives_answer (record {
       value = x;
       is = refl;
       holds = subst (λ (l : List ℕ). Holds l x.body) (sym b) h.holds;
@@ -107,7 +96,7 @@ module _ {variables : List ℕ} {cells : List ℤ} {states : List ℕ} {vs : Lis
         ⊎_elim (λ (l : n < length vs). unfilled_is (memory_of h) n l e) (λ (l : length vs ≤ n). ap (λ (v : Variable). v.content) (get_or-eq_default vs no_variable l)) (below_or n (length vs))
 
     pub not_filled_is : filled_at states n ≡ false → or_fail (contents vs n) not_filled ≡ fail not_filled
-    not_filled_is e = ap {B = Result Composite} (λ (c : Option Composite). or_fail c not_filled) (no_value e)
+    not_filled_is e = ap {B = Outcome Composite} (λ (c : Option Composite). or_fail c not_filled) (no_value e)
 
   module _ (n : ℕ) (lt : n < length vs) where
     pub body_room : body_bytes * n + body_bytes ≤ length variables
@@ -125,13 +114,13 @@ module _ {variables : List ℕ} {cells : List ℤ} {states : List ℕ} {vs : Lis
     value_held x q body e = subst (λ (b : Body). Holds body b) (sym (present_is (variable_at vs n) x q)) (present_held body e)
 
     pub gives_variable : (s after : List ℤ) (body : List ℕ) (m : ℕ) (r : Evaluated) → filled_at states n ≡ true → body ≡ take body_bytes (drop (body_bytes * n) variables) → m ≡ size (present_body (variable_at vs n))
-        → after ≡ paste s 0 (drop (body_cells * n) cells) m → r.error ≡ 0 → r.body ≡ body → r.cells ≡ m → Gives r after (or_fail (contents vs n) not_filled)
-    gives_variable s after body m r g b z q e rb rc =
+        → after ≡ paste s 0 (drop (body_cells * n) cells) m → r.body ≡ body → r.cells ≡ m → Gives (Ok r) after (or_fail (contents vs n) not_filled)
+    gives_variable s after body m r g b z q rb rc =
         let x = filled_is (memory_of h) n lt g in
         let w : m ≡ size x.0.body = z ∙ ap size (sym (present_is (variable_at vs n) x.0 x.1)) in
-        gives_answer e (record {
+        gives_answer (record {
           value = x.0;
-          is = ap {B = Result Composite} (λ (c : Option Composite). or_fail c not_filled) x.1;
+          is = ap {B = Outcome Composite} (λ (c : Option Composite). or_fail c not_filled) x.1;
           holds = subst (λ (l : List ℕ). Holds l x.0.body) (sym rb) (value_held x.0 x.1 body b);
           lies = copied_lies s cells (body_cells * n) m x.0.body x.0.value q w (omega (arith, cells_room (memory_of h) n lt, z, (h.holdable n lt).few_cells)) (content_at (memory_of h) n lt x.0 x.1) (h.fits n x.0 x.1);
           cells = rc ∙ w;

@@ -1,9 +1,10 @@
 -- What the code of the checked run holds and gives. Assumes nothing: these are definitions.
-use Rattle.std.specs.Prelude.{◌≡◌, true, List, [], ◌∷◌, ℕ, ◌+◌, ◌*◌, ◌≤◌, ◌<◌, ℤ, length}
+use Rattle.std.specs.Prelude.{◌≡◌, true, List, [], ◌∷◌, ℕ, ◌+◌, ◌*◌, ◌≤◌, ◌<◌, ℤ, length, Option, Some, None, Result, Ok, Err, IfSome}
 use Rattle.std.proofs.Math.Option.{some}
 use Rattle.lingua.specs.Numbers.{body_cells, body_nodes, expression_section, most_variables, body_bytes}
-use Rattle.lingua.specs.Errors.{no_error}
-use Rattle.lingua.specs.Outcome.{ok, fail, Result, all_answers}
+use Rattle.lingua.specs.declared.errors.Error.{Error}
+use Rattle.lingua.specs.Faults.{error_number}
+use Rattle.lingua.specs.Outcome.{ok, fail, Result as Outcome, all_answers}
 use Rattle.lingua.specs.Body.{Body, size, nodes, is_boolean}
 use Rattle.lingua.specs.Value.{Composite, all_of, as_truth, pad}
 use Rattle.lingua.specs.Store.{Variable, variable_at, present_body, cells_in, states_in, bodies_in}
@@ -14,8 +15,6 @@ use Rattle.decoder.specs.declared.tables.Table.{Table}
 use Rattle.body.specs.Encode.{Holds}
 use Rattle.cells.specs.Stack.{Lies, first_place}
 use Rattle.checked_row.specs.declared.answer.Evaluated.{Evaluated}
-use Rattle.checked_row.specs.declared.quick.Quick.{Quick}
-use Rattle.checked_row.specs.declared.quick.Quick.TheVariants.{Simple, Failed, Deeper}
 use Rattle.checked_row.specs.declared.tally.Tally.{Tally}
 
 -- ---- what is given
@@ -73,53 +72,53 @@ pub record Asked (row : ℕ) (rows : List ℕ) (t : Table) (variables : List ℕ
 
 -- ---- what evaluation gives
 -- the value lies at the stack's front, and its body and the number of its cells are given
-pub record Answers (r : Evaluated) (stack : List ℤ) (o : Result Composite) : Type 0 where
+pub record Answers (r : Evaluated) (stack : List ℤ) (o : Outcome Composite) : Type 0 where
   pub value : Composite
   pub is : o ≡ ok value
   pub holds : Holds r.body value.body
   pub lies : Lies stack first_place value.body value.value
   pub cells : r.cells ≡ size value.body
 
-pub record Gives (r : Evaluated) (stack : List ℤ) (o : Result Composite) : Type 0 where
-  pub answer : r.error ≡ no_error → Answers r stack o
-  pub error : (r.error ≡ no_error → ⊥) → o ≡ fail r.error
+pub record Gives (r : Result Evaluated Error) (stack : List ℤ) (o : Outcome Composite) : Type 0 where
+  pub answer : (x : Evaluated) → r ≡ Ok x → Answers x stack o
+  pub error : (e : Error) → r ≡ Err e → o ≡ fail (error_number e)
 
 -- some such result
-pub record Given (r : Evaluated) (stack : List ℤ) : Type 0 where
-  pub outcome : Result Composite
+pub record Given (r : Result Evaluated Error) (stack : List ℤ) : Type 0 where
+  pub outcome : Outcome Composite
   pub gives : Gives r stack outcome
 
 -- ---- simple values, whose body is told by its tag
 abbrev pub simple_evaluated : ℕ → Evaluated
-simple_evaluated tag = record { error = 0; body = pad body_bytes 0 (tag ∷ []); cells = 1 }
+simple_evaluated tag = record { body = pad body_bytes 0 (tag ∷ []); cells = 1 }
 
--- a tag that is no 0 is that of a simple body, and stands for its bytes
-pub record IsSimple (tag : ℕ) (bytes : List ℕ) (b : Body) : Type 0 where
-  pub is : 1 ≤ tag → bytes ≡ pad body_bytes 0 (tag ∷ [])
-  pub one_cell : 1 ≤ tag → size b ≡ 1
+-- the tag of a simple body stands for its bytes
+pub record Simple (tag : ℕ) (bytes : List ℕ) (b : Body) : Type 0 where
+  pub is : bytes ≡ pad body_bytes 0 (tag ∷ [])
+  pub one_cell : size b ≡ 1
 
--- a tag that is no 0 stands for what evaluation gives; 0 says nothing
-pub record SimpleGives (tag : ℕ) (stack : List ℤ) (o : Result Composite) : Type 0 where
-  pub gives : 1 ≤ tag → Gives (simple_evaluated tag) stack o
+-- a tag that is told is that of a simple body
+abbrev pub IsSimple : Option ℕ → List ℕ → Body → Type 0
+IsSimple tag bytes b = IfSome tag (λ t. Simple t bytes b)
 
-unfoldable pub QuickGives : Quick → List ℤ → Result Composite → Type 0
-QuickGives (Simple tag) stack o = Gives (simple_evaluated tag) stack o
-QuickGives (Failed e) stack o = (1 ≤ e) × (o ≡ fail e)
-QuickGives Deeper stack o = Unit {0}
+-- a tag that is told stands for what evaluation gives; none says nothing
+abbrev pub SimpleGives : Option ℕ → List ℤ → Outcome Composite → Type 0
+SimpleGives tag stack o = IfSome tag (λ t. Gives (Ok (simple_evaluated t)) stack o)
 
--- a simple value, or an error
-pub record SimpleAnswer (r : Evaluated) (tag error : ℕ) : Type 0 where
-  pub answer : error ≡ 0 → r ≡ simple_evaluated tag
-  pub failed : (error ≡ 0 → ⊥) → r.error ≡ error
+-- a simple value by its tag, or an error; none says nothing
+abbrev pub QuickGives : Option (Result ℕ Error) → List ℤ → Outcome Composite → Type 0
+QuickGives (Some (Ok tag)) stack o = Gives (Ok (simple_evaluated tag)) stack o
+QuickGives (Some (Err e)) stack o = o ≡ fail (error_number e)
+QuickGives None stack o = Unit {0}
 
 -- ---- what is seen of the results of an all-list yoke
 -- whether all are Booleans, and, where they are, whether all are true
-pub record AllSeen (s : Tally) (rs : List (Result Composite)) : Type 0 where
+pub record AllSeen (s : Tally) (rs : List (Outcome Composite)) : Type 0 where
   pub values : List Composite
   pub are : all_answers rs ≡ ok values
   pub booleans : s.booleans ≡ all_of (λ x. is_boolean x.body) values
   pub all : s.booleans ≡ true → s.all ≡ all_of (λ x. as_truth x.value) values
 
-pub record Sees (s : Tally) (rs : List (Result Composite)) : Type 0 where
-  pub answers : s.error ≡ no_error → AllSeen s rs
-  pub error : (s.error ≡ no_error → ⊥) → all_answers rs ≡ fail s.error
+pub record Sees (s : Result Tally Error) (rs : List (Outcome Composite)) : Type 0 where
+  pub answers : (t : Tally) → s ≡ Ok t → AllSeen t rs
+  pub error : (e : Error) → s ≡ Err e → all_answers rs ≡ fail (error_number e)

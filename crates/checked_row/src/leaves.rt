@@ -1,5 +1,5 @@
 // Expressions without operands: a constant, a variable, the current value. Each puts its cells at the stack's front.
-ghost use Rattle.std.specs.Prelude.{◌≡◌, List, ◌+◌, ◌*◌, ◌<◌, ◌≤◌, length, take, drop};
+ghost use Rattle.std.specs.Prelude.{◌≡◌, List, ◌+◌, ◌*◌, ◌<◌, ◌≤◌, length, take, drop, Ok};
 ghost use Rattle.lingua.specs.Numbers.{expression_section, body_cells, body_bytes};
 ghost use Rattle.lingua.specs.Errors.{not_filled};
 ghost use Rattle.lingua.specs.Outcome.{ok, or_fail};
@@ -10,10 +10,10 @@ ghost use Rattle.profile.specs.Row.{constant_of};
 ghost use Rattle.profile.specs.Constants.{ConstantRow};
 ghost use Rattle.checked_row.specs.Meaning.{Stored, HasStored, Current, HasCurrent, Gives};
 
-use crate::answer::{Evaluated, failed};
+use crate::answer::Evaluated;
 use body::walk::measure_body;
 use decoder::tables::Table;
-use lingua::errors::{NO_ERROR, NOT_FILLED};
+use lingua::errors::Error;
 use lingua::sizes::{BODY_BYTES, BODY_CELLS};
 use profile::constants::{constant_body, constant_cell};
 use run::copies::copy;
@@ -25,11 +25,8 @@ pub fn present(variables: &[u8], n: usize) -> [u8; BODY_BYTES]
     ensures { result ≡ take body_bytes (drop (body_bytes * n) variables.now) }
 {
     let mut out = [0u8; BODY_BYTES];
-    let mut i = 0;
-    while i < BODY_BYTES {
-        out[i] = variables[BODY_BYTES * n + i];
-        i += 1;
-    }
+    let at = BODY_BYTES * n;
+    out.copy_from_slice(&variables[at..at + BODY_BYTES]);
     out
 }
 
@@ -38,16 +35,11 @@ pub fn constant(rows: &[u8], t: Table, r: usize, stack: &mut [i64]) -> Evaluated
     requires table { IsTable rows.now expression_section t }
     requires r_lt_count { r < t.count }
     requires constant_row { ConstantRow rows.now r × (0 < length stack.old) }
-    ensures { Gives result stack.new (ok (constant_of rows.now r)) }
+    ensures { Gives (Ok result) stack.new (ok (constant_of rows.now r)) }
 {
     let body = constant_body(rows, t, r);
-    let cell = constant_cell(rows, t, r);
-    stack[0] = cell;
-    Evaluated {
-        error: NO_ERROR,
-        body: body,
-        cells: 1,
-    }
+    stack[0] = constant_cell(rows, t, r);
+    Evaluated { body, cells: 1 }
 }
 
 // The value of variable n, which has its present body. A variable behind the store's is not filled.
@@ -57,35 +49,33 @@ pub fn fetch(
     states: &[u16],
     n: usize,
     stack: &mut [i64],
-) -> Evaluated
+) -> Result<Evaluated, Error>
     requires has_stored { HasStored variables.now cells.now states.now n }
     requires body_cells_in_bounds { body_cells ≤ length stack.old }
     ensures { (vs : List Variable) → Stored variables.now cells.now states.now vs
         → Gives result stack.new (or_fail (contents vs n) not_filled) }
 {
     if !is_filled(states, n) {
-        return failed(NOT_FILLED);
+        return Err(Error::NotFilled);
     }
     let body = present(variables, n);
     let m = measure_body(body);
     copy(cells, BODY_CELLS * n, m.cells, stack);
-    Evaluated {
-        error: NO_ERROR,
-        body: body,
+    Ok(Evaluated {
+        body,
         cells: m.cells,
-    }
+    })
 }
 
 pub fn copied(current: &[i64], body: [u8; BODY_BYTES], stack: &mut [i64]) -> Evaluated
     requires has_current { HasCurrent current.now body }
     requires body_cells_in_bounds { body_cells ≤ length stack.old }
-    ensures { (x : Composite) → Current current.now body x → Gives result stack.new (ok x) }
+    ensures { (x : Composite) → Current current.now body x → Gives (Ok result) stack.new (ok x) }
 {
     let m = measure_body(body);
     copy(current, 0, m.cells, stack);
     Evaluated {
-        error: NO_ERROR,
-        body: body,
+        body,
         cells: m.cells,
     }
 }

@@ -1,9 +1,9 @@
 // Operations on two leaves of simple bodies, at once. Most operations are such: the leaves' cells go to the stack, a body is told by its first byte,
 // and no 96 bytes are handed about. Whatever is not so simple is left to the evaluation, which finds its error too.
-ghost use Rattle.std.specs.Prelude.{◌≡◌, List, ℕ, ◌+◌, ◌≤◌, length, drop, get_or};
+ghost use Rattle.std.specs.Prelude.{◌≡◌, List, ℕ, ◌+◌, ◌≤◌, length, drop, get_or, Ok};
 ghost use Rattle.lingua.specs.Numbers.{body_cells};
 ghost use Rattle.lingua.specs.Body.{Body};
-ghost use Rattle.lingua.specs.Outcome.{Result, ◌>>=◌ as bind};
+ghost use Rattle.lingua.specs.Outcome.{Result as Outcome, ◌>>=◌ as bind};
 ghost use Rattle.lingua.specs.Value.{Composite};
 ghost use Rattle.lingua.specs.Store.{Variable, contents};
 ghost use Rattle.lingua.specs.Trees.{expression_tree};
@@ -17,32 +17,24 @@ use body::walk::WORD;
 use body_half::operation::simple_binary;
 use decoder::decode::ExpressionRow;
 use decoder::tables::Table;
-use lingua::errors::NO_ERROR;
+use lingua::errors::Error;
 use lingua::operations::BinaryOperation;
 use lingua::sizes::{BODY_BYTES, BODY_CELLS};
 use profile::constants::{constant_body, constant_cell};
 use profile::row::expression_row;
 use run::words::is_filled;
 
-// A simple value on the stack, by its tag; an error; or neither.
-#[derive(Clone, Copy)]
-pub enum Quick {
-    Simple(u8),
-    Failed(u8),
-    Deeper,
-}
-
-// The tag of a simple body by its first byte, 0 of any other.
-fn simple_tag(first: u8) -> u8
+// The tag of a simple body by its first byte, none of any other.
+fn simple_tag(first: u8) -> Option<u8>
     ensures { (body : List ℕ) (b : Body) → Holds body b → get_or body 0 0 ≡ first → IsSimple result body b }
 {
     if WORD < first {
-        return 0;
+        return None;
     }
-    first
+    Some(first)
 }
 
-// The tag of a leaf's simple body, its cell at the stack's front; 0 of any other row.
+// The tag of a leaf's simple body, its cell at the stack's front; none of any other row.
 fn leaf(
     row: usize,
     rows: &[u8],
@@ -53,7 +45,7 @@ fn leaf(
     current: &[i64],
     body: [u8; BODY_BYTES],
     stack: &mut [i64],
-) -> u8
+) -> Option<u8>
     requires { Asked row rows.now t variables.now cells.now states.now current.now body stack.old }
     ensures { (vs : List Variable) (x : Composite) → World rows.now t variables.now cells.now states.now vs → Current current.now body x
         → SimpleGives result stack.new (meaning (expression_tree rows.now row) (contents vs) x) }
@@ -62,58 +54,39 @@ fn leaf(
     match says {
         ExpressionRow::Constant(_) => {
             let own = constant_body(rows, t, row);
-            let tag = simple_tag(own[0]);
-            if tag == 0 {
-                return 0;
-            }
+            let tag = simple_tag(own[0])?;
             stack[0] = constant_cell(rows, t, row);
-            tag
+            Some(tag)
         }
         ExpressionRow::Variable(n) => {
             if !is_filled(states, n) {
-                return 0;
+                return None;
             }
-            let tag = simple_tag(variables[BODY_BYTES * n]);
-            if tag == 0 {
-                return 0;
-            }
+            let tag = simple_tag(variables[BODY_BYTES * n])?;
             stack[0] = cells[BODY_CELLS * n];
-            tag
+            Some(tag)
         }
         ExpressionRow::Current => {
-            let tag = simple_tag(body[0]);
-            if tag == 0 {
-                return 0;
-            }
+            let tag = simple_tag(body[0])?;
             stack[0] = current[0];
-            tag
+            Some(tag)
         }
-        ExpressionRow::Unary(_, _) => 0,
-        ExpressionRow::Binary(_, _, _) => 0,
-        ExpressionRow::Lazy(_, _, _) => 0,
-        ExpressionRow::Choice(_, _, _) => 0,
-        ExpressionRow::AllList(_) => 0,
+        _ => None,
     }
 }
 
-// An operation on two simple values, by their tags.
-fn apply(o: BinaryOperation, p: u8, q: u8, stack: &mut [i64]) -> Quick
-    requires given { Given (simple_evaluated p) stack.old × Given (simple_evaluated q) (drop body_cells stack.old) }
+// An operation on two simple values, by their tags: the result's tag or the error; none where that is not so simple.
+fn apply(o: BinaryOperation, p: u8, q: u8, stack: &mut [i64]) -> Option<Result<u8, Error>>
+    requires given { Given (Ok (simple_evaluated p)) stack.old × Given (Ok (simple_evaluated q)) (drop body_cells stack.old) }
     requires body_cells_in_bounds { body_cells + body_cells ≤ length stack.old }
-    ensures { (u v : Result Composite) → Gives (simple_evaluated p) stack.old u → Gives (simple_evaluated q) (drop body_cells stack.old) v
+    ensures { (u v : Outcome Composite) → Gives (Ok (simple_evaluated p)) stack.old u → Gives (Ok (simple_evaluated q)) (drop body_cells stack.old) v
         → QuickGives result stack.new (bind u (λ a. bind v (λ b. apply_binary (binary_meaning o) a b))) }
 {
-    let first = simple(p);
-    let second = simple(q);
-    let tag = simple_binary(o, first, second);
-    if tag == 0 {
-        return Quick::Deeper;
+    let tag = simple_binary(o, simple(p), simple(q))?;
+    match cells::apply::binary(o, stack, 1, 1, 0) {
+        Ok(()) => Some(Ok(tag)),
+        Err(error) => Some(Err(error)),
     }
-    let error = cells::apply::binary(o, stack, 1, 1, 0);
-    if error != NO_ERROR {
-        return Quick::Failed(error);
-    }
-    Quick::Simple(tag)
 }
 
 // An operation on the expressions of two rows; the second's value lies 64 cells up the stack.
@@ -129,7 +102,7 @@ pub fn pair(
     current: &[i64],
     body: [u8; BODY_BYTES],
     stack: &mut [i64],
-) -> Quick
+) -> Option<Result<u8, Error>>
     requires asked { Asked a rows.now t variables.now cells.now states.now current.now body stack.old }
     requires asked_2 { Asked b rows.now t variables.now cells.now states.now current.now body (drop body_cells stack.old) }
     ensures { (vs : List Variable) (x : Composite) → World rows.now t variables.now cells.now states.now vs → Current current.now body x
@@ -145,10 +118,7 @@ pub fn pair(
         current,
         body,
         &mut *stack,
-    );
-    if p == 0 {
-        return Quick::Deeper;
-    }
+    )?;
     let q = leaf(
         b,
         rows,
@@ -159,9 +129,6 @@ pub fn pair(
         current,
         body,
         &mut stack[BODY_CELLS..],
-    );
-    if q == 0 {
-        return Quick::Deeper;
-    }
+    )?;
     apply(o, p, q, stack)
 }

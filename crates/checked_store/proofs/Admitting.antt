@@ -8,7 +8,10 @@ use lib.IntN.{ℤ, pos}
 use lib.ListN.{length, take, drop, get_or}
 use Rattle.lingua.specs.Numbers.{body_bytes}
 use Rattle.lingua.specs.Errors.{no_coherence, yoke_expected, yoke_not_satisfied}
-use Rattle.lingua.specs.Outcome.{Result, require, ◌>>=◌, ◌>>◌}
+use Rattle.std.specs.Prelude.{Result, Ok, Err}
+use Rattle.lingua.specs.declared.errors.Error.{Error}
+use Rattle.lingua.specs.Faults.{error_number}
+use Rattle.lingua.specs.Outcome.{fail, ok, Result as Outcome, require, ◌>>=◌, ◌>>◌}
 use Rattle.lingua.specs.Body.{Body, boolean, number, word, hundredths, list_of, record_of, size, is_number, is_hundredths, is_quantity, is_boolean, coherent}
 use Rattle.lingua.specs.Value.{Value, Fits, fit_truth, fit_whole, fit_hundredths, fit_text, fit_items, fit_fields, as_whole, as_truth, Composite}
 use Rattle.lingua.specs.Expression.{Yoke, always}
@@ -23,11 +26,10 @@ use Rattle.body.proofs.Tags as tags
 use Rattle.cells.proofs.Operands.{lies_long}
 use Rattle.cells.proofs.Singles.{quantity_cell}
 use Rattle.checked_row.specs.declared.answer.Evaluated.{Evaluated}
-use Rattle.run.specs.declared.steps.Truth.{Truth}
-use Rattle.run.specs.Reached.{lent, Tells}
+use Rattle.run.specs.Reached.{lent}
 use Rattle.run.specs.Memory.{Admits}
 use Rattle.run.proofs.Parts
-use Rattle.run.proofs.Admitting.{admits_error}
+use Rattle.run.proofs.Admitting.{admits_error, admits_fault}
 use Rattle.checked_row.specs.Meaning.{Current, Gives}
 use Rattle.checked_store.specs.Meaning.{Bounds, Running}
 use Rattle.checked_row.proofs.Storing.{memory_of}
@@ -115,42 +117,42 @@ module _ (vs : List Variable) (v : Variable) (x : Composite) (free : v.yoke ≡ 
     free_passes k = record { answer = λ j. free_within ∙ ap (λ (t : Bool). require t yoke_not_satisfied) k; error = λ j. absurd (j refl) }
 
 -- ---- the checks
-module _ (vs : List Variable) (v : Variable) (x : Composite) {y : Evaluated} {s : List ℤ} (g : Gives y s (eval_yoke v.yoke (contents vs) x)) where
-  pub yoke_error : (y.error ≡ 0 → ⊥) → Admits y.error (admitted vs v x)
+module _ (vs : List Variable) (v : Variable) (x : Composite) {y : Result Evaluated Error} {s : List ℤ} (g : Gives y s (eval_yoke v.yoke (contents vs) x)) where
+  pub yoke_error : (e : Error) → y ≡ Err e → Admits (error_number e) (admitted vs v x)
   unfolding admitted
-  yoke_error f = admits_error f (ap (λ (o : Result Composite). o >>= λ w. require (coherent (present_body v) x.body) no_coherence >> (truth_or yoke_expected w >>= λ t. require (t && within v.limit (as_whole x.value)) yoke_not_satisfied)) (g.error f))
+  yoke_error e f = admits_fault e (ap (λ (o : Outcome Composite). o >>= λ w. require (coherent (present_body v) x.body) no_coherence >> (truth_or yoke_expected w >>= λ t. require (t && within v.limit (as_whole x.value)) yoke_not_satisfied)) (g.error e f))
 
-  module _ (z : y.error ≡ 0) (b : Bool) (same : b ≡ coherent (present_body v) x.body) where
-    reached : admitted vs v x ≡ (require b no_coherence >> (truth_or yoke_expected (g.answer z).value >>= λ t. require (t && within v.limit (as_whole x.value)) yoke_not_satisfied))
+  module _ (u : Evaluated) (z : y ≡ Ok u) (b : Bool) (same : b ≡ coherent (present_body v) x.body) where
+    reached : admitted vs v x ≡ (require b no_coherence >> (truth_or yoke_expected (g.answer u z).value >>= λ t. require (t && within v.limit (as_whole x.value)) yoke_not_satisfied))
     unfolding admitted
     reached =
-        ap (λ (o : Result Composite). o >>= λ w. require (coherent (present_body v) x.body) no_coherence >> (truth_or yoke_expected w >>= λ t. require (t && within v.limit (as_whole x.value)) yoke_not_satisfied)) (g.answer z).is
-        ∙ ap (λ (c : Bool). require c no_coherence >> (truth_or yoke_expected (g.answer z).value >>= λ t. require (t && within v.limit (as_whole x.value)) yoke_not_satisfied)) (sym same)
+        ap (λ (o : Outcome Composite). o >>= λ w. require (coherent (present_body v) x.body) no_coherence >> (truth_or yoke_expected w >>= λ t. require (t && within v.limit (as_whole x.value)) yoke_not_satisfied)) (g.answer u z).is
+        ∙ ap (λ (c : Bool). require c no_coherence >> (truth_or yoke_expected (g.answer u z).value >>= λ t. require (t && within v.limit (as_whole x.value)) yoke_not_satisfied)) (sym same)
 
     pub other_body : b ≡ false → Admits no_coherence (admitted vs v x)
-    other_body f = admits_error (λ e. omega arith) (reached ∙ ap (λ (c : Bool). require c no_coherence >> (truth_or yoke_expected (g.answer z).value >>= λ t. require (t && within v.limit (as_whole x.value)) yoke_not_satisfied)) f)
+    other_body f = admits_error (λ e. omega arith) (reached ∙ ap (λ (c : Bool). require c no_coherence >> (truth_or yoke_expected (g.answer u z).value >>= λ t. require (t && within v.limit (as_whole x.value)) yoke_not_satisfied)) f)
 
-    module _ (f : b ≡ true) (p : Truth) (tells : Tells p (eval_yoke v.yoke (contents vs) x >>= truth_or yoke_expected)) where
+    module _ (f : b ≡ true) where
       asked : admitted vs v x ≡ ((eval_yoke v.yoke (contents vs) x >>= truth_or yoke_expected) >>= λ t. require (t && within v.limit (as_whole x.value)) yoke_not_satisfied)
       asked =
           reached
-          ∙ ap (λ (c : Bool). require c no_coherence >> (truth_or yoke_expected (g.answer z).value >>= λ t. require (t && within v.limit (as_whole x.value)) yoke_not_satisfied)) f
-          ∙ ap (λ (o : Result Composite). (o >>= truth_or yoke_expected) >>= λ t. require (t && within v.limit (as_whole x.value)) yoke_not_satisfied) (sym (g.answer z).is)
+          ∙ ap (λ (c : Bool). require c no_coherence >> (truth_or yoke_expected (g.answer u z).value >>= λ t. require (t && within v.limit (as_whole x.value)) yoke_not_satisfied)) f
+          ∙ ap (λ (o : Outcome Composite). (o >>= truth_or yoke_expected) >>= λ t. require (t && within v.limit (as_whole x.value)) yoke_not_satisfied) (sym (g.answer u z).is)
 
-      pub no_truth : (p.error ≡ 0 → ⊥) → Admits p.error (admitted vs v x)
-      no_truth e = admits_error e (asked ∙ ap (λ (o : Result Bool). o >>= λ t. require (t && within v.limit (as_whole x.value)) yoke_not_satisfied) (tells.error e))
+      pub no_truth : (e : Error) → fail (error_number e) ≡ (eval_yoke v.yoke (contents vs) x >>= truth_or yoke_expected) → Admits (error_number e) (admitted vs v x)
+      no_truth e q = admits_fault e (asked ∙ sym (ap (λ (o : Outcome Bool). o >>= λ t. require (t && within v.limit (as_whole x.value)) yoke_not_satisfied) q))
 
-      told_is : p.error ≡ 0 → admitted vs v x ≡ require (p.holds && within v.limit (as_whole x.value)) yoke_not_satisfied
-      told_is e = asked ∙ ap (λ (o : Result Bool). o >>= λ t. require (t && within v.limit (as_whole x.value)) yoke_not_satisfied) (tells.answer e)
+      told_is : (h : Bool) → ok h ≡ (eval_yoke v.yoke (contents vs) x >>= truth_or yoke_expected) → admitted vs v x ≡ require (h && within v.limit (as_whole x.value)) yoke_not_satisfied
+      told_is h e = asked ∙ sym (ap (λ (o : Outcome Bool). o >>= λ t. require (t && within v.limit (as_whole x.value)) yoke_not_satisfied) e)
 
-      pub not_satisfied : p.error ≡ 0 → p.holds ≡ false → Admits yoke_not_satisfied (admitted vs v x)
-      not_satisfied e q = admits_error (λ k. omega arith) (told_is e ∙ ap (λ (t : Bool). require (t && within v.limit (as_whole x.value)) yoke_not_satisfied) q)
+      pub not_satisfied : (h : Bool) → ok h ≡ (eval_yoke v.yoke (contents vs) x >>= truth_or yoke_expected) → h ≡ false → Admits yoke_not_satisfied (admitted vs v x)
+      not_satisfied h e q = admits_error (λ k. omega arith) (told_is h e ∙ ap (λ (t : Bool). require (t && within v.limit (as_whole x.value)) yoke_not_satisfied) q)
 
-      within_is : p.error ≡ 0 → p.holds ≡ true → (c : Bool) → c ≡ within v.limit (as_whole x.value) → admitted vs v x ≡ require c yoke_not_satisfied
-      within_is e q c w = told_is e ∙ ap (λ (t : Bool). require (t && within v.limit (as_whole x.value)) yoke_not_satisfied) q ∙ ap (λ (t : Bool). require t yoke_not_satisfied) (sym w)
+      within_is : (h : Bool) → ok h ≡ (eval_yoke v.yoke (contents vs) x >>= truth_or yoke_expected) → h ≡ true → (c : Bool) → c ≡ within v.limit (as_whole x.value) → admitted vs v x ≡ require c yoke_not_satisfied
+      within_is h e q c w = told_is h e ∙ ap (λ (t : Bool). require (t && within v.limit (as_whole x.value)) yoke_not_satisfied) q ∙ ap (λ (t : Bool). require t yoke_not_satisfied) (sym w)
 
-      pub out_of_limits : p.error ≡ 0 → p.holds ≡ true → (c : Bool) → c ≡ within v.limit (as_whole x.value) → c ≡ false → Admits yoke_not_satisfied (admitted vs v x)
-      out_of_limits e q c w k = admits_error (λ j. omega arith) (within_is e q c w ∙ ap (λ (t : Bool). require t yoke_not_satisfied) k)
+      pub out_of_limits : (h : Bool) → ok h ≡ (eval_yoke v.yoke (contents vs) x >>= truth_or yoke_expected) → h ≡ true → (c : Bool) → c ≡ within v.limit (as_whole x.value) → c ≡ false → Admits yoke_not_satisfied (admitted vs v x)
+      out_of_limits h e q c w k = admits_error (λ j. omega arith) (within_is h e q c w ∙ ap (λ (t : Bool). require t yoke_not_satisfied) k)
 
-      pub passes : p.error ≡ 0 → p.holds ≡ true → (c : Bool) → c ≡ within v.limit (as_whole x.value) → c ≡ true → Admits 0 (admitted vs v x)
-      passes e q c w k = record { answer = λ j. within_is e q c w ∙ ap (λ (t : Bool). require t yoke_not_satisfied) k; error = λ j. absurd (j refl) }
+      pub passes : (h : Bool) → ok h ≡ (eval_yoke v.yoke (contents vs) x >>= truth_or yoke_expected) → h ≡ true → (c : Bool) → c ≡ within v.limit (as_whole x.value) → c ≡ true → Admits 0 (admitted vs v x)
+      passes h e q c w k = record { answer = λ j. within_is h e q c w ∙ ap (λ (t : Bool). require t yoke_not_satisfied) k; error = λ j. absurd (j refl) }

@@ -6,7 +6,10 @@ use native.Mathlib.Omega.{arith}
 use lib.IntN.{ℤ}
 use lib.ListN.{length, drop, set}
 use lib.Seq.{paste}
-use Rattle.lingua.specs.Outcome.{ok, fail, Result, ◌>>=◌, ◌>>◌}
+use Rattle.std.specs.Prelude.{Result, Err}
+use Rattle.lingua.specs.declared.errors.Error.{Error}
+use Rattle.lingua.specs.Faults.{error_number}
+use Rattle.lingua.specs.Outcome.{ok, fail, Result as Outcome, ◌>>=◌, ◌>>◌}
 use Rattle.lingua.specs.Value.{Composite}
 use Rattle.lingua.specs.Store.{Variable, variable_at, with_content, admitted, assigned}
 use Rattle.safety.specs.Stored.{admitted_shows}
@@ -22,25 +25,25 @@ use Rattle.checked_store.specs.Meaning.{Bounds, Running, Assigns, StoresValue}
 use Rattle.checked_row.proofs.Storing.{present_held}
 
 -- the value, where it lies and by itself, is a current value
-pub here_current : {x : Evaluated} {s : List ℤ} {o : Result Composite} (a : Answers x s o) → Current s x.body a.value
+pub here_current : {x : Evaluated} {s : List ℤ} {o : Outcome Composite} (a : Answers x s o) → Current s x.body a.value
 here_current a = record { lies = a.lies; holds = a.holds }
 
-pub copied_current : {x : Evaluated} {s : List ℤ} {o : Result Composite} (a : Answers x s o) (from value : List ℤ) → value ≡ paste from 0 (drop 0 s) x.cells → Current value x.body a.value
+pub copied_current : {x : Evaluated} {s : List ℤ} {o : Outcome Composite} (a : Answers x s o) (from value : List ℤ) → value ≡ paste from 0 (drop 0 s) x.cells → Current value x.body a.value
 copied_current {x} {s} a from value e = record {
   lies = copied_lies from s 0 x.cells a.value.body a.value.value e a.cells (omega (arith, lies_long a.lies, a.cells)) a.lies.cells a.lies.fit;
   holds = a.holds;
 }
 
-pub operand_error : {x : Evaluated} {s : List ℤ} {o : Result Composite} (vs : List Variable) (n : ℕ) → Gives x s o → (x.error ≡ 0 → ⊥) → (o >>= assigned vs n) ≡ fail x.error
-operand_error vs n h f = ap (λ (p : Result Composite). p >>= assigned vs n) (h.error f)
+pub operand_error : {x : Result Evaluated Error} {s : List ℤ} {o : Outcome Composite} (vs : List Variable) (n : ℕ) (e : Error) → Gives x s o → x ≡ Err e → (o >>= assigned vs n) ≡ fail (error_number e)
+operand_error vs n e h f = ap (λ (p : Outcome Composite). p >>= assigned vs n) (h.error e f)
 
-module _ {x : Evaluated} {s : List ℤ} {o : Result Composite} (vs : List Variable) (n : ℕ) (a : Answers x s o) (e : ℕ) (admits : Admits e (admitted vs (variable_at vs n) a.value)) where
+module _ {x : Evaluated} {s : List ℤ} {o : Outcome Composite} (vs : List Variable) (n : ℕ) (a : Answers x s o) (e : ℕ) (admits : Admits e (admitted vs (variable_at vs n) a.value)) where
   assigned_is : (o >>= assigned vs n) ≡ (admitted vs (variable_at vs n) a.value >> ok (set vs n (with_content (variable_at vs n) a.value)))
   unfolding assigned
-  assigned_is = ap (λ (p : Result Composite). p >>= assigned vs n) a.is
+  assigned_is = ap (λ (p : Outcome Composite). p >>= assigned vs n) a.is
 
   pub not_admitted : (e ≡ 0 → ⊥) → (o >>= assigned vs n) ≡ fail e
-  not_admitted f = assigned_is ∙ ap (λ (p : Result (Unit {0})). p >> ok (set vs n (with_content (variable_at vs n) a.value))) (admits.error f)
+  not_admitted f = assigned_is ∙ ap (λ (p : Outcome (Unit {0})). p >> ok (set vs n (with_content (variable_at vs n) a.value))) (admits.error f)
 
   pub stores : {rows : List ℕ} {t : Table} {limits : List ℤ} {l after : Lent} → Running rows t limits l vs → n < length vs → e ≡ 0
       → (value : List ℤ) → Current value x.body a.value → StoresValue l after n value x.cells x.body
@@ -48,7 +51,7 @@ module _ {x : Evaluated} {s : List ℤ} {o : Result Composite} (vs : List Variab
   stores {rows} {t} {limits} w lt z value cur kept =
       let g = admits.answer z in
       stores_as (set vs n (with_content (variable_at vs n) a.value))
-      (assigned_is ∙ ap (λ (p : Result (Unit {0})). p >> ok (set vs n (with_content (variable_at vs n) a.value))) g)
+      (assigned_is ∙ ap (λ (p : Outcome (Unit {0})). p >> ok (set vs n (with_content (variable_at vs n) a.value))) g)
       (kept.running rows t limits vs a.value w lt cur a.cells (admitted_shows vs (variable_at vs n) a.value g).is_coherent)
 
 -- what the code keeps of a variable of the store

@@ -8,6 +8,7 @@ use lib.Dec.{eqb}
 use lib.IntN.{ℤ}
 use lib.ListN.{length, set, get_or}
 use Rattle.lingua.specs.Numbers.{body_bytes}
+use Rattle.std.specs.Prelude.{Ok}
 use Rattle.lingua.specs.Outcome.{ok}
 use Rattle.lingua.specs.Body.{is_hundredths, size, nodes}
 use Rattle.lingua.specs.Value.{in_range_of, quantity_body, pad}
@@ -44,11 +45,11 @@ unfolding size
 quantity_one true = refl
 quantity_one false = refl
 
-pub puts_reading : {r : Evaluated} (h : Bool) (s : List ℤ) (z y : ℤ) (t : Bool) → y ≡ z → t ≡ in_range_of h z → t ≡ true → 0 < length s → r.error ≡ 0 → Holds r.body (quantity_body h) → r.cells ≡ 1
-    → Gives r (set s 0 y) (ok (reading_value h z))
-puts_reading {r} h s z y t k q e l re rb rc =
-    subst (λ (w : ℤ). Gives r (set s 0 w) (ok (reading_value h z))) (sym k)
-    (gives_answer re (record {
+pub puts_reading : {r : Evaluated} (h : Bool) (s : List ℤ) (z y : ℤ) (t : Bool) → y ≡ z → t ≡ in_range_of h z → t ≡ true → 0 < length s → Holds r.body (quantity_body h) → r.cells ≡ 1
+    → Gives (Ok r) (set s 0 y) (ok (reading_value h z))
+puts_reading {r} h s z y t k q e l rb rc =
+    subst (λ (w : ℤ). Gives (Ok r) (set s 0 w) (ok (reading_value h z))) (sym k)
+    (gives_answer (record {
       value = reading_value h z;
       is = refl;
       holds = rb;

@@ -9,16 +9,16 @@ use lib.IntN.{ℤ}
 use lib.ListN.{take, drop}
 use Rattle.lingua.specs.Numbers.{body_cells}
 use Rattle.lingua.specs.Errors.{yoke_expected, yoke_not_satisfied}
-use Rattle.lingua.specs.Outcome.{ok, fail, Result, require, ◌>>=◌}
+use Rattle.lingua.specs.declared.errors.Error.{Error}
+use Rattle.lingua.specs.Faults.{error_number}
+use Rattle.lingua.specs.Outcome.{ok, fail, Result as Outcome, require, ◌>>=◌}
 use Rattle.lingua.specs.Value.{Composite}
 use Rattle.lingua.specs.Expression.{Yoke}
 use Rattle.lingua.specs.Evaluation.{truth_or, eval_yoke}
 use Rattle.lingua.specs.Store.{Variable, variable_at, contents, yoke_holds, filled_at}
-use Rattle.run.specs.declared.steps.Truth.{Truth}
-use Rattle.run.specs.Reached.{Tells}
 use Rattle.run.specs.Memory.{Admits}
 use Rattle.run.proofs.Parts.{filled_is, part_lies}
-use Rattle.run.proofs.Admitting.{admits_error}
+use Rattle.run.proofs.Admitting.{admits_error, admits_fault}
 use Rattle.checked_row.specs.Meaning.{Stored, Current}
 use Rattle.checked_row.proofs.Storing.{memory_of, filled_there, no_value, value_held}
 
@@ -45,23 +45,24 @@ pub none_holds : (variables : List ℕ) (cells : List ℤ) (states : List ℕ) (
 unfolding yoke_holds
 none_holds variables cells states vs n h y e = subst (λ (c : Option Composite). Admits 0 (yoke_holds vs y c)) (sym (no_value h n e)) (record { answer = λ z. refl; error = λ f. absurd (f refl) })
 
-tested : (o : Result Composite) → (o >>= λ r. truth_or yoke_expected r >>= λ t. require t yoke_not_satisfied) ≡ ((o >>= truth_or yoke_expected) >>= λ t. require t yoke_not_satisfied)
+tested : (o : Outcome Composite) → (o >>= λ r. truth_or yoke_expected r >>= λ t. require t yoke_not_satisfied) ≡ ((o >>= truth_or yoke_expected) >>= λ t. require t yoke_not_satisfied)
 tested (ok x) = refl
 tested (fail n) = refl
 
-module _ (vs : List Variable) (y : Yoke) (c : Option Composite) (x : Composite) (is : c ≡ some x) (p : Truth) (tells : Tells p (eval_yoke y (contents vs) x >>= truth_or yoke_expected)) where
+module _ (vs : List Variable) (y : Yoke) (c : Option Composite) (x : Composite) (is : c ≡ some x) where
   holds_is : yoke_holds vs y c ≡ ((eval_yoke y (contents vs) x >>= truth_or yoke_expected) >>= λ t. require t yoke_not_satisfied)
   unfolding yoke_holds
   holds_is = ap (λ (d : Option Composite). yoke_holds vs y d) is ∙ tested (eval_yoke y (contents vs) x)
 
-  pub holds_error : (p.error ≡ 0 → ⊥) → Admits p.error (yoke_holds vs y c)
-  holds_error f = admits_error f (holds_is ∙ ap (λ (o : Result Bool). o >>= λ t. require t yoke_not_satisfied) (tells.error f))
+  pub holds_error : (e : Error) → fail (error_number e) ≡ (eval_yoke y (contents vs) x >>= truth_or yoke_expected) → Admits (error_number e) (yoke_holds vs y c)
+  holds_error e q = admits_fault e (holds_is ∙ sym (ap (λ (o : Outcome Bool). o >>= λ t. require t yoke_not_satisfied) q))
 
-  told : p.error ≡ 0 → yoke_holds vs y c ≡ require p.holds yoke_not_satisfied
-  told e = holds_is ∙ ap (λ (o : Result Bool). o >>= λ t. require t yoke_not_satisfied) (tells.answer e)
+  module _ (h : Bool) (q : ok h ≡ (eval_yoke y (contents vs) x >>= truth_or yoke_expected)) where
+    told : yoke_holds vs y c ≡ require h yoke_not_satisfied
+    told = holds_is ∙ sym (ap (λ (o : Outcome Bool). o >>= λ t. require t yoke_not_satisfied) q)
 
-  pub holds_not : p.error ≡ 0 → p.holds ≡ false → Admits yoke_not_satisfied (yoke_holds vs y c)
-  holds_not e q = admits_error (λ k. omega arith) (told e ∙ ap (λ (t : Bool). require t yoke_not_satisfied) q)
+    pub holds_not : h ≡ false → Admits yoke_not_satisfied (yoke_holds vs y c)
+    holds_not k = admits_error (λ k. omega arith) (told ∙ ap (λ (t : Bool). require t yoke_not_satisfied) k)
 
-  pub holds_true : p.error ≡ 0 → p.holds ≡ true → Admits 0 (yoke_holds vs y c)
-  holds_true e q = record { answer = λ z. told e ∙ ap (λ (t : Bool). require t yoke_not_satisfied) q; error = λ f. absurd (f refl) }
+    pub holds_true : h ≡ true → Admits 0 (yoke_holds vs y c)
+    holds_true k = record { answer = λ z. told ∙ ap (λ (t : Bool). require t yoke_not_satisfied) k; error = λ f. absurd (f refl) }

@@ -1,7 +1,8 @@
 -- What the stores of the checked run ask of the memory and leave in it. Assumes nothing: these are definitions.
-use Rattle.std.specs.Prelude.{◌≡◌, true, List, ℕ, ◌+◌, ◌*◌, ◌≤◌, ◌<◌, ℤ, length, take, drop, set}
+use Rattle.std.specs.Prelude.{◌≡◌, true, List, ℕ, ◌+◌, ◌*◌, ◌≤◌, ◌<◌, ℤ, length, take, drop, set, Result}
 use Rattle.lingua.specs.Numbers.{body_cells, body_bytes, limit_cells}
-use Rattle.lingua.specs.Outcome.{Result}
+use Rattle.lingua.specs.declared.errors.Error.{Error}
+use Rattle.lingua.specs.Outcome.{Result as Outcome}
 use Rattle.lingua.specs.Body.{size, coherent}
 use Rattle.lingua.specs.Value.{Composite}
 use Rattle.lingua.specs.Store.{Variable, variable_at, present_body, with_content, flag_place}
@@ -48,14 +49,14 @@ pub record Checkable (rows : List ℕ) (t : Table) (limits : List ℤ) (l : Lent
 
 -- ---- what an assignment gives
 -- a store of a run, and an evaluated value for its variable n
-pub record Assignable (rows : List ℕ) (t : Table) (limits : List ℤ) (l : Lent) (n : ℕ) (x : Evaluated) (stack : List ℤ) : Type 0 where
+pub record Assignable (rows : List ℕ) (t : Table) (limits : List ℤ) (l : Lent) (n : ℕ) (x : Result Evaluated Error) (stack : List ℤ) : Type 0 where
   pub store : List Variable
   pub running : Running rows t limits l store
   pub there : n < length store
   pub given : Given x stack
 
 -- the new store in the memory, or the error and the memory as it was
-abbrev pub Assigns : ℕ → List ℕ → Table → List ℤ → Lent → Lent → Result (List Variable) → Type 0
+abbrev pub Assigns : ℕ → List ℕ → Table → List ℤ → Lent → Lent → Outcome (List Variable) → Type 0
 Assigns r rows t limits l after p = Settles r (Running rows t limits) l after p
 
 -- ---- what a store asks and gives

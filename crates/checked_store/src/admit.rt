@@ -4,6 +4,7 @@ ghost use Rattle.std.specs.Prelude.{◌≡◌, List, ◌+◌, ◌*◌, ◌<◌, 
 ghost use Rattle.lingua.specs.Numbers.{body_cells};
 ghost use Rattle.lingua.specs.Value.{Composite, as_whole};
 ghost use Rattle.lingua.specs.Expression.{always};
+ghost use Rattle.lingua.specs.Faults.{number_of};
 ghost use Rattle.lingua.specs.Store.{Variable, variable_at, admitted as checks};
 ghost use Rattle.run.specs.Reached.{lent};
 ghost use Rattle.run.specs.Memory.{Admits};
@@ -16,7 +17,7 @@ use checked::yoke::eval_yoke;
 use checked_row::answer::truth_of;
 use checked_row::leaves::present;
 use decoder::tables::Table;
-use lingua::errors::{NO_COHERENCE, NO_ERROR, YOKE_EXPECTED, YOKE_NOT_SATISFIED};
+use lingua::errors::Error;
 use lingua::sizes::BODY_BYTES;
 use run::limits::in_limits;
 use run::words::yoke_of;
@@ -37,20 +38,26 @@ fn whole(body: [u8; BODY_BYTES], value: &[i64]) -> i64
 }
 
 // Whether variable n, whose yoke is always true, may take a value of a body.
-pub fn unyoked(bodies: &[u8], kept: &[i64], n: usize, value: &[i64], body: [u8; BODY_BYTES]) -> u8
+pub fn unyoked(
+    bodies: &[u8],
+    kept: &[i64],
+    n: usize,
+    value: &[i64],
+    body: [u8; BODY_BYTES],
+) -> Result<(), Error>
     requires { HasBounds bodies.now kept.now n value.now body }
     ensures { (vs : List Variable) (v : Variable) (x : Composite) → Bounds bodies.now kept.now n v → v.yoke ≡ always → Current value.now body x
-        → Admits result (checks vs v x) }
+        → Admits (number_of result) (checks vs v x) }
 {
     let own = present(bodies, n);
     if !coherent(own, body) {
-        return NO_COHERENCE;
+        return Err(Error::NoCoherence);
     }
     let z = whole(body, value);
     if !in_limits(kept, n, z) {
-        return YOKE_NOT_SATISFIED;
+        return Err(Error::YokeNotSatisfied);
     }
-    NO_ERROR
+    Ok(())
 }
 
 // Whether variable n may take a value of a body, which lies outside the stack: its yoke is evaluated there.
@@ -65,11 +72,11 @@ pub fn admitted(
     value: &[i64],
     body: [u8; BODY_BYTES],
     stack: &mut [i64],
-) -> u8
+) -> Result<(), Error>
     requires checkable { Checkable rows.now t kept.now (lent cells.now states.now bodies.now) n value.now body }
     requires count_in_bounds { body_cells * (t.count + 1) ≤ length stack.old }
     ensures { (vs : List Variable) (x : Composite) → Running rows.now t kept.now (lent cells.now states.now bodies.now) vs → n < length vs → Current value.now body x
-        → Admits result (checks vs (variable_at vs n) x) }
+        → Admits (number_of result) (checks vs (variable_at vs n) x) }
 {
     let yoke = yoke_of(states, n);
     let given = eval_yoke(
@@ -83,23 +90,17 @@ pub fn admitted(
         body,
         &mut *stack,
     );
-    if given.error != NO_ERROR {
-        return given.error;
-    }
+    given?;
     let own = present(bodies, n);
     if !coherent(own, body) {
-        return NO_COHERENCE;
+        return Err(Error::NoCoherence);
     }
-    let truth = truth_of(given, YOKE_EXPECTED, stack);
-    if truth.error != NO_ERROR {
-        return truth.error;
-    }
-    if !truth.holds {
-        return YOKE_NOT_SATISFIED;
+    if !truth_of(given, Error::YokeExpected, stack)? {
+        return Err(Error::YokeNotSatisfied);
     }
     let z = whole(body, value);
     if !in_limits(kept, n, z) {
-        return YOKE_NOT_SATISFIED;
+        return Err(Error::YokeNotSatisfied);
     }
-    NO_ERROR
+    Ok(())
 }

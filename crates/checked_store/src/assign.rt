@@ -1,8 +1,9 @@
 // Assignment: the new value's checks, and then the store.
 ghost use Rattle.std.specs.Prelude.{List, ◌+◌, ◌*◌, ◌<◌, ◌≤◌, length};
 ghost use Rattle.lingua.specs.Numbers.{body_cells};
-ghost use Rattle.lingua.specs.Outcome.{Result, ◌>>=◌ as bind};
+ghost use Rattle.lingua.specs.Outcome.{Result as Outcome, ◌>>=◌ as bind};
 ghost use Rattle.lingua.specs.Value.{Composite};
+ghost use Rattle.lingua.specs.Faults.{number_of};
 ghost use Rattle.lingua.specs.Store.{Variable, assigned};
 ghost use Rattle.run.specs.Reached.{lent};
 ghost use Rattle.checked_row.specs.Meaning.{Gives};
@@ -12,7 +13,7 @@ use crate::admit::{admitted, unyoked};
 use crate::keep::keep;
 use checked_row::answer::Evaluated;
 use decoder::tables::Table;
-use lingua::errors::NO_ERROR;
+use lingua::errors::Error;
 use lingua::sizes::BODY_CELLS;
 use run::copies::copy;
 use run::words::yoke_of;
@@ -27,33 +28,25 @@ pub fn assign(
     cells: &mut [i64],
     states: &mut [u16],
     n: usize,
-    x: Evaluated,
+    x: Result<Evaluated, Error>,
     stack: &mut [i64],
-) -> u8
+) -> Result<(), Error>
     requires assignable { Assignable rows.now t kept.now (lent cells.old states.old bodies.old) n x stack.old }
     requires count_in_bounds { body_cells * (t.count + 1) ≤ length stack.old }
-    ensures { (vs : List Variable) (o : Result Composite) → Running rows.now t kept.now (lent cells.old states.old bodies.old) vs → n < length vs → Gives x stack.old o
-        → Assigns result rows.now t kept.now (lent cells.old states.old bodies.old) (lent cells.new states.new bodies.new) (bind o (assigned vs n)) }
+    ensures { (vs : List Variable) (o : Outcome Composite) → Running rows.now t kept.now (lent cells.old states.old bodies.old) vs → n < length vs → Gives x stack.old o
+        → Assigns (number_of result) rows.now t kept.now (lent cells.old states.old bodies.old) (lent cells.new states.new bodies.new) (bind o (assigned vs n)) }
 {
-    if x.error != NO_ERROR {
-        return x.error;
-    }
+    let x = x?;
     let body = x.body;
     let width = x.cells;
     if yoke_of(states, n) == 0 {
-        let wrong = unyoked(bodies, kept, n, stack, body);
-        if wrong != NO_ERROR {
-            return wrong;
-        }
+        unyoked(bodies, kept, n, stack, body)?;
         keep(bodies, cells, states, n, stack, width, body);
-        return NO_ERROR;
+        return Ok(());
     }
     let mut value = [0i64; BODY_CELLS];
     copy(stack, 0, width, &mut value);
-    let error = admitted(rows, t, bodies, kept, cells, states, n, &value, body, stack);
-    if error != NO_ERROR {
-        return error;
-    }
+    admitted(rows, t, bodies, kept, cells, states, n, &value, body, stack)?;
     keep(bodies, cells, states, n, &value, width, body);
-    NO_ERROR
+    Ok(())
 }

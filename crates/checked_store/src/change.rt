@@ -1,6 +1,7 @@
 // Yoke change: the value that the variable has must satisfy the new yoke, which is then noted in its state word.
 ghost use Rattle.std.specs.Prelude.{List, ◌+◌, ◌*◌, ◌<◌, ◌≤◌, length};
 ghost use Rattle.lingua.specs.Numbers.{body_cells};
+ghost use Rattle.lingua.specs.Faults.{number_of};
 ghost use Rattle.lingua.specs.Store.{Variable, yoke_changed};
 ghost use Rattle.lingua.specs.Trees.{yoke_tree};
 ghost use Rattle.run.specs.Reached.{lent};
@@ -8,7 +9,7 @@ ghost use Rattle.checked_store.specs.Meaning.{Running, HasRunning, Assigns};
 
 use crate::holds::yoke_holds;
 use decoder::tables::Table;
-use lingua::errors::NO_ERROR;
+use lingua::errors::Error;
 use run::words::set_yoke;
 
 pub fn change_yoke(
@@ -21,17 +22,14 @@ pub fn change_yoke(
     n: usize,
     y: u16,
     stack: &mut [i64],
-) -> u8
+) -> Result<(), Error>
     requires has_running { HasRunning rows.now t kept.now (lent cells.now states.old bodies.now) n }
     requires y_le_count { y ≤ t.count }
     requires y_in_bounds { body_cells * (y + 1) ≤ length stack.old }
     ensures { (vs : List Variable) → Running rows.now t kept.now (lent cells.now states.old bodies.now) vs → n < length vs
-        → Assigns result rows.now t kept.now (lent cells.now states.old bodies.now) (lent cells.now states.new bodies.now) (yoke_changed vs n (yoke_tree rows.now y)) }
+        → Assigns (number_of result) rows.now t kept.now (lent cells.now states.old bodies.now) (lent cells.now states.new bodies.now) (yoke_changed vs n (yoke_tree rows.now y)) }
 {
-    let error = yoke_holds(rows, t, bodies, cells, states, n, y as usize, stack);
-    if error != NO_ERROR {
-        return error;
-    }
+    yoke_holds(rows, t, bodies, cells, states, n, y as usize, stack)?;
     set_yoke(states, n, y);
-    NO_ERROR
+    Ok(())
 }

@@ -1,6 +1,7 @@
 // Whether a variable's value satisfies a new yoke; one that is not filled takes any.
 ghost use Rattle.std.specs.Prelude.{List, ◌+◌, ◌*◌, ◌<◌, ◌≤◌, length};
 ghost use Rattle.lingua.specs.Numbers.{body_cells, most_variables};
+ghost use Rattle.lingua.specs.Faults.{number_of};
 ghost use Rattle.lingua.specs.Store.{Variable, variable_at, yoke_holds};
 ghost use Rattle.lingua.specs.Trees.{yoke_tree};
 ghost use Rattle.run.specs.Memory.{Admits};
@@ -10,7 +11,7 @@ use checked::yoke::eval_yoke;
 use checked_row::answer::truth_of;
 use checked_row::leaves::present;
 use decoder::tables::Table;
-use lingua::errors::{NO_ERROR, YOKE_EXPECTED, YOKE_NOT_SATISFIED};
+use lingua::errors::Error;
 use lingua::sizes::BODY_CELLS;
 use run::words::is_filled;
 
@@ -24,15 +25,15 @@ pub fn yoke_holds(
     n: usize,
     y: usize,
     stack: &mut [i64],
-) -> u8
+) -> Result<(), Error>
     requires has_world { HasWorld rows.now t variables.now cells.now states.now }
     requires n_lt_most_variables { n < most_variables }
     requires y_le_count { (y ≤ t.count) × (body_cells * (y + 1) ≤ length stack.old) }
     ensures { (vs : List Variable) → World rows.now t variables.now cells.now states.now vs
-        → Admits result (yoke_holds vs (yoke_tree rows.now y) (variable_at vs n).content) }
+        → Admits (number_of result) (yoke_holds vs (yoke_tree rows.now y) (variable_at vs n).content) }
 {
     if !is_filled(states, n) {
-        return NO_ERROR;
+        return Ok(());
     }
     let body = present(variables, n);
     let at = BODY_CELLS * n;
@@ -48,12 +49,8 @@ pub fn yoke_holds(
         body,
         &mut *stack,
     );
-    let truth = truth_of(given, YOKE_EXPECTED, stack);
-    if truth.error != NO_ERROR {
-        return truth.error;
+    if !truth_of(given, Error::YokeExpected, stack)? {
+        return Err(Error::YokeNotSatisfied);
     }
-    if !truth.holds {
-        return YOKE_NOT_SATISFIED;
-    }
-    NO_ERROR
+    Ok(())
 }

@@ -2,6 +2,7 @@
 // a count.
 ghost use Rattle.std.specs.Prelude.{List, ◌+◌, ◌*◌, ◌<◌, ◌≤◌, length};
 ghost use Rattle.lingua.specs.Numbers.{body_cells};
+ghost use Rattle.lingua.specs.Faults.{number_of};
 ghost use Rattle.lingua.specs.Store.{Variable, reading_taken};
 ghost use Rattle.lingua.specs.Value.{quantity_body};
 ghost use Rattle.body.specs.Encode.{Holds};
@@ -15,7 +16,7 @@ use body::make::simple;
 use body::walk::{HUNDREDTHS, NUMBER};
 use checked_row::answer::Evaluated;
 use decoder::tables::Table;
-use lingua::errors::{NO_ERROR, OVERFLOW};
+use lingua::errors::Error;
 use lingua::sizes::BODY_BYTES;
 
 fn quantity_body(hundredths: bool) -> [u8; BODY_BYTES]
@@ -38,22 +39,18 @@ pub fn take_reading(
     n: usize,
     z: i64,
     stack: &mut [i64],
-) -> u8
+) -> Result<(), Error>
     requires has_running { HasRunning rows.now t kept.now (lent cells.old states.old bodies.old) n }
     requires count_in_bounds { body_cells * (t.count + 1) ≤ length stack.old }
     ensures { (vs : List Variable) → Running rows.now t kept.now (lent cells.old states.old bodies.old) vs → n < length vs
-        → Assigns result rows.now t kept.now (lent cells.old states.old bodies.old) (lent cells.new states.new bodies.new) (reading_taken vs (reading n z)) }
+        → Assigns (number_of result) rows.now t kept.now (lent cells.old states.old bodies.old) (lent cells.new states.new bodies.new) (reading_taken vs (reading n z)) }
 {
     let hundredths = bodies[BODY_BYTES * n] == HUNDREDTHS;
     if !in_range(hundredths, z) {
-        return OVERFLOW;
+        return Err(Error::Overflow);
     }
     let body = quantity_body(hundredths);
     stack[0] = z;
-    let x = Evaluated {
-        error: NO_ERROR,
-        body: body,
-        cells: 1,
-    };
-    assign(rows, t, bodies, kept, cells, states, n, x, stack)
+    let x = Evaluated { body, cells: 1 };
+    assign(rows, t, bodies, kept, cells, states, n, Ok(x), stack)
 }

@@ -41,20 +41,20 @@ pub bit_small : (t : Bool) → (if t then 1 else 0) ≤ 1
 bit_small true = omega arith
 bit_small false = omega arith
 
+-- ---- a row of section 6
+module _ (rows : List ℕ) (i k s : ℕ) (es : s ≡ section_at rows i) where
+  pub kind_elsewhere : (s ≡ procedure_section → ⊥) → false ≡ procedure_kind k rows i
+  unfolding procedure_kind
+  kind_elsewhere n = sym (ap (λ (t : Bool). t && eqb (kind_at rows i) k) (ne_eqb (section_at rows i) procedure_section (λ e. n (es ∙ e))))
+
+  pub kind_told : (m : ℕ) → s ≡ procedure_section → m ≡ kind_at rows i → eqb m k ≡ procedure_kind k rows i
+  unfolding procedure_kind
+  kind_told m e q =
+      ap (λ (n : ℕ). eqb n k) q
+      ∙ sym (ap (λ (t : Bool). t && eqb (kind_at rows i) k) (eq-eqb (section_at rows i) procedure_section (sym es ∙ e)))
+
 -- ---- a row's table
 module _ (rows : List ℕ) (i : ℕ) where
-  pub begins_not : (s : ℕ) → s ≡ section_at rows i → (s ≡ procedure_section → ⊥) → ◌≡◌ {A = ℕ} 0 (if begins_procedure rows i then 1 else 0)
-  unfolding begins_procedure procedure_kind
-  begins_not s e n = sym (ap (λ (t : Bool). if t && eqb (kind_at rows i) 2 then 1 else 0) (ne_eqb (section_at rows i) procedure_section (λ q. n (e ∙ q))))
-
-  pub begins_by : (s k : ℕ) (t : Bool) → s ≡ section_at rows i → s ≡ procedure_section → k ≡ kind_at rows i → eqb k 2 ≡ t → ◌≡◌ {A = ℕ} (if t then 1 else 0) (if begins_procedure rows i then 1 else 0)
-  unfolding begins_procedure procedure_kind
-  begins_by s k t e n q h =
-      sym
-      (ap (λ (u : Bool). if u && eqb (kind_at rows i) 2 then 1 else 0) (eq-eqb (section_at rows i) procedure_section (sym e ∙ n))
-      ∙ ap (λ (m : ℕ). if eqb m 2 then 1 else 0) (sym q)
-      ∙ ap (λ (u : Bool). if u then 1 else 0) h)
-
   abbrev behind : ℕ
   behind = procedure_section + (2 * count_below i (λ j. begins_procedure rows j) + (if begins_procedure rows i then 1 else 0))
 

@@ -1,33 +1,24 @@
 -- What decoding a row by its kind gives: a known kind's arm says what the table has for it, and where no arm's kind is the row's, the
 -- table has none. What a decoded row names is what the row names, but for attributes above a byte. Assumes nothing.
-use mathlib.Core.Path.{◌≡◌, refl, sym, ap, ◌∙◌, subst}
+use mathlib.Core.Path.{◌≡◌, refl, sym, ap, ◌∙◌}
 use mathlib.Core.Logic.{◌≢◌, ⊎_elim}
 use mathlib.Core.Bool.{Bool, true, ◌&&◌}
 use mathlib.Core.List.{List, [], ◌∷◌}
-use mathlib.Core.Option.{some, none}
+use mathlib.Core.Option.{Option as Maybe, some, none}
+use Rattle.std.specs.Prelude.{None}
 use Prim.Native.Nat.{ℕ, ◌+◌, ◌<◌, ◌≤◌}
 use native.Mathlib.Omega.{arith}
 use lib.Dec.{ltb}
 use borrow.Author.Tests.{ne_eqb, lt-ltb, le-ltb}
-use Rattle.lingua.specs.Numbers.{type_section, expression_section, instruction_section}
 use Rattle.lingua.specs.Value.{all_of}
 use Rattle.lingua.specs.Operation.{Unary, Binary}
-use Rattle.lingua.specs.Rows.{kind_at, a_at, b_at, c_at, row_in, RowKind, numbered, said, used_of, TypeRow, unknown_type, type_kinds, type_at, type_row, ExpressionRow, constant_row, variable_row, current_row, unary_row, binary_row, lazy_row, choice_row, all_list_row, unknown_expression, expression_kinds, expression_at, expression_row, operands, InstructionRow, unknown_instruction, instruction_kinds, instruction_at, instruction_row}
+use Rattle.lingua.specs.Rows.{kind_at, a_at, b_at, c_at, row_in, RowKind, numbered, said, used_of, ExpressionRow, constant_row, variable_row, current_row, unary_row, binary_row, lazy_row, choice_row, all_list_row, unknown_expression, operands}
 use Rattle.lingua.specs.Rules.{row_constant_fits, attributes_fit, expression_attributes}
 use Rattle.lingua.specs.References.{expression_variables}
 use Rattle.decoder.specs.Tables.{IsTable}
 use Rattle.decoder.specs.Reads.{reads_row}
-use Rattle.decoder.specs.Decoded.{byte, Naming, names_none, names_one_lem, unary_naming, binary_naming, renamed, type_meaning, type_decoded, type_uses, TypeSays, expression_meaning, expression_decoded, expression_uses, unary_in_bytes, binary_in_bytes, in_bytes, ExpressionSays, instruction_meaning, instruction_decoded, instruction_uses, InstructionSays}
+use Rattle.decoder.specs.Decoded.{byte, Naming, names_none, names_one_lem, unary_naming, binary_naming, renamed, Decoded, decoded, uses, Says, unary_in_bytes, binary_in_bytes, in_bytes}
 use Rattle.decoder.specs.declared.tables.Table.{Table}
-use Rattle.decoder.specs.declared.decode.TypeRow.{TypeRow as CodeType}
-use Rattle.decoder.specs.declared.decode.ExpressionRow.{ExpressionRow as CodeRow}
-use Rattle.decoder.specs.declared.decode.InstructionRow.{InstructionRow as CodeInstruction}
-use Rattle.decoder.specs.declared.decode.DecodedType.{DecodedType}
-use Rattle.decoder.specs.declared.decode.DecodedType.TheVariants as decoded_type
-use Rattle.decoder.specs.declared.decode.DecodedExpression.{DecodedExpression}
-use Rattle.decoder.specs.declared.decode.DecodedExpression.TheVariants as decoded
-use Rattle.decoder.specs.declared.decode.DecodedInstruction.{DecodedInstruction}
-use Rattle.decoder.specs.declared.decode.DecodedInstruction.TheVariants as decoded_instruction
 use Rattle.decoder.proofs.Counting.{order}
 
 -- ---- a table's kinds
@@ -46,48 +37,32 @@ none_numbered B k [] h = refl
 none_numbered B k (e ∷ es) h = rw (ne_eqb k e.kind (apart_before (B × (k ≢ e.kind)) k es h).1) (none_numbered (B × (k ≢ e.kind)) k es h)
 
 -- ---- an arm of the decoder: D is what it gives for the fields a, b, c
-module _ (rows : List ℕ) (i k a b c : ℕ) (ek : k ≡ kind_at rows i) (ea : a ≡ a_at rows i) (eb : b ≡ b_at rows i) (ec : c ≡ c_at rows i) where
-  by_fields : {D : Type 0} (P : D → Type 0) (d : ℕ → ℕ → ℕ → D) → P (d (a_at rows i) (b_at rows i) (c_at rows i)) → P (d a b c)
-  by_fields P d h = rw (ea, eb, ec) h
+module _ (rows : List ℕ) (i k a b c : ℕ) (ek : k ≡ kind_at rows i) (ea : a ≡ a_at rows i) (eb : b ≡ b_at rows i) (ec : c ≡ c_at rows i)
+    {C R : Type 0} (unknown : R) (meaning : C → R) (shown : R → R) (kinds : List (RowKind R)) where
+  -- row i as the table's kinds have it
+  abbrev row_said : R
+  row_said = shown (said unknown (numbered (kind_at rows i) kinds) rows i)
 
-  pub type_arm : (n : ℕ) (x : RowKind TypeRow) (d : ℕ → ℕ → ℕ → DecodedType) → k ≡ n → numbered n type_kinds ≡ some x
-      → type_decoded (d (a_at rows i) (b_at rows i) (c_at rows i)) ≡ x.says rows i → type_uses (d (a_at rows i) (b_at rows i) (c_at rows i)) ≡ some x.used → TypeSays rows i (d a b c)
-  unfolding type_at said used_of
-  type_arm n x d e q s u =
-      let m : kind_at rows i ≡ n = sym ek ∙ e in
-      by_fields (TypeSays rows i) d (record { says = rw (m, q) s; uses = rw (m, q) u })
+  abbrev IsSaid : Decoded C → Type 0
+  IsSaid d = Says unknown meaning row_said (used_of (numbered (kind_at rows i) kinds)) d
 
-  pub expression_arm : (n : ℕ) (x : RowKind ExpressionRow) (d : ℕ → ℕ → ℕ → DecodedExpression) → k ≡ n → numbered n expression_kinds ≡ some x
-      → expression_decoded rows i (d (a_at rows i) (b_at rows i) (c_at rows i)) ≡ in_bytes (x.says rows i) → expression_uses (d (a_at rows i) (b_at rows i) (c_at rows i)) ≡ some x.used → ExpressionSays rows i (d a b c)
-  unfolding expression_at said used_of
-  expression_arm n x d e q s u =
-      let m : kind_at rows i ≡ n = sym ek ∙ e in
-      by_fields (ExpressionSays rows i) d (record { says = rw (m, q) s; uses = rw (m, q) u })
+  by_fields : (d : ℕ → ℕ → ℕ → Decoded C) → IsSaid (d (a_at rows i) (b_at rows i) (c_at rows i)) → IsSaid (d a b c)
+  by_fields d h = rw (ea, eb, ec) h
 
-  pub instruction_arm : (n : ℕ) (x : RowKind InstructionRow) (d : ℕ → ℕ → ℕ → DecodedInstruction) → k ≡ n → numbered n instruction_kinds ≡ some x
-      → instruction_decoded (d (a_at rows i) (b_at rows i) (c_at rows i)) ≡ x.says rows i → instruction_uses (d (a_at rows i) (b_at rows i) (c_at rows i)) ≡ some x.used → InstructionSays rows i (d a b c)
-  unfolding instruction_at said used_of
-  instruction_arm n x d e q s u =
+  pub known_arm : (n : ℕ) (x : RowKind R) (d : ℕ → ℕ → ℕ → Decoded C) → k ≡ n → numbered n kinds ≡ some x
+      → decoded unknown meaning (d (a_at rows i) (b_at rows i) (c_at rows i)) ≡ shown (x.says rows i) → uses (d (a_at rows i) (b_at rows i) (c_at rows i)) ≡ some x.used → IsSaid (d a b c)
+  unfolding said used_of
+  known_arm n x d e q s u =
       let m : kind_at rows i ≡ n = sym ek ∙ e in
-      by_fields (InstructionSays rows i) d (record { says = rw (m, q) s; uses = rw (m, q) u })
+      by_fields d (record { says = rw (m, q) s; uses = rw (m, q) u })
 
 -- ---- where no arm's kind is the row's
-module _ (rows : List ℕ) (i k : ℕ) (ek : k ≡ kind_at rows i) where
-  pub type_unknown : (B : Type 0) → Apart B k type_kinds → TypeSays rows i decoded_type.Unknown
-  unfolding type_at said used_of type_decoded type_uses
-  type_unknown B h = let q : numbered (kind_at rows i) type_kinds ≡ none = rw (← ek) (none_numbered B k type_kinds h) in record { says = rw q; uses = rw q }
-
-  pub expression_unknown : (B : Type 0) → Apart B k expression_kinds → ExpressionSays rows i decoded.Unknown
-  unfolding expression_at said used_of expression_decoded expression_uses in_bytes
-  expression_unknown B h = let q : numbered (kind_at rows i) expression_kinds ≡ none = rw (← ek) (none_numbered B k expression_kinds h) in record { says = rw q; uses = rw q }
-
-  pub instruction_unknown : (B : Type 0) → Apart B k instruction_kinds → InstructionSays rows i decoded_instruction.Unknown
-  unfolding instruction_at said used_of instruction_decoded instruction_uses
-  instruction_unknown B h = let q : numbered (kind_at rows i) instruction_kinds ≡ none = rw (← ek) (none_numbered B k instruction_kinds h) in record { says = rw q; uses = rw q }
-
--- the same of an equal attribute
-pub attribute_as : {rows : List ℕ} {i m n : ℕ} (D : ℕ → DecodedExpression) → m ≡ n → ExpressionSays rows i (D n) → ExpressionSays rows i (D m)
-attribute_as {rows} {i} D e h = subst (λ (k : ℕ). ExpressionSays rows i (D k)) (sym e) h
+pub unknown_arm : (rows : List ℕ) (i k : ℕ) (ek : k ≡ kind_at rows i) {C R : Type 0} (unknown : R) (meaning : C → R) (shown : R → R) (kinds : List (RowKind R)) → unknown ≡ shown unknown → (B : Type 0) → Apart B k kinds
+    → Says unknown meaning (shown (said unknown (numbered (kind_at rows i) kinds) rows i)) (used_of (numbered (kind_at rows i) kinds)) None
+unfolding said used_of decoded uses
+unknown_arm rows i k ek unknown meaning shown kinds same B h =
+    let q : numbered (kind_at rows i) kinds ≡ none = rw (← ek) (none_numbered B k kinds h) in
+    record { says = rw q same; uses = rw q }
 
 -- ---- what is said of a row that does not depend on how far its attributes go
 module _ {X : Type 0} (F : ExpressionRow → X) (unary : (o : Unary) (a : ℕ) → F (unary_row (unary_in_bytes o) a) ≡ F (unary_row o a))
@@ -141,52 +116,11 @@ unfolding expression_attributes unary_in_bytes binary_in_bytes
 attributes_in_bytes =
     in_bytes_lem (λ row. attributes_fit (expression_attributes row)) (λ o a. renamed_fits (unary_naming o)) (λ o a b. renamed_fits (binary_naming o))
 
--- ---- a row of a table: what F says of the decoded row, it says of the row
-module _ {X : Type 0} (F : TypeRow → X) (rows : List ℕ) (t : Table) (r : ℕ) (h : IsTable rows type_section t) (d : DecodedType) (s : TypeSays rows (t.start + r) d) where
-  type_of : F (type_decoded d) ≡ F (type_row rows r)
-  unfolding type_row row_in
-  type_of = ap F (s.says ∙ (rw (← h.start)))
-
-  pub type_unknown_of : d ≡ decoded_type.Unknown → F unknown_type ≡ F (type_row rows r)
-  unfolding type_decoded
-  type_unknown_of e = ap (λ (x : DecodedType). F (type_decoded x)) (sym e) ∙ type_of
-
-  pub type_known_of : (n : ℕ) (row : CodeType) → d ≡ decoded_type.Known n row → F (type_meaning row) ≡ F (type_row rows r)
-  unfolding type_decoded
-  type_known_of n row e = ap (λ (x : DecodedType). F (type_decoded x)) (sym e) ∙ type_of
-
-module _ {X : Type 0} (F : ExpressionRow → X) (same : (row : ExpressionRow) → F (in_bytes row) ≡ F row) (rows : List ℕ) (t : Table) (r : ℕ) (h : IsTable rows expression_section t)
-    (d : DecodedExpression) (s : ExpressionSays rows (t.start + r) d) where
-  expression_of_lem : F (expression_decoded rows (t.start + r) d) ≡ F (expression_row rows r)
-  unfolding expression_row row_in
-  expression_of_lem = ap F s.says ∙ (same (expression_at rows (t.start + r)) ∙ (rw (← h.start)))
-
-  pub expression_unknown_of : d ≡ decoded.Unknown → F unknown_expression ≡ F (expression_row rows r)
-  unfolding expression_decoded
-  expression_unknown_of e = ap (λ (x : DecodedExpression). F (expression_decoded rows (t.start + r) x)) (sym e) ∙ expression_of_lem
-
-  pub expression_known_of : (n : ℕ) (row : CodeRow) → d ≡ decoded.Known n row → F (expression_meaning rows (t.start + r) row) ≡ F (expression_row rows r)
-  unfolding expression_decoded
-  expression_known_of n row e = ap (λ (x : DecodedExpression). F (expression_decoded rows (t.start + r) x)) (sym e) ∙ expression_of_lem
-
-module _ {X : Type 0} (F : InstructionRow → X) (rows : List ℕ) (t : Table) (r : ℕ) (h : IsTable rows instruction_section t) (d : DecodedInstruction) (s : InstructionSays rows (t.start + r) d) where
-  instruction_of_lem : F (instruction_decoded d) ≡ F (instruction_row rows r)
-  unfolding instruction_row row_in
-  instruction_of_lem = ap F (s.says ∙ (rw (← h.start)))
-
-  pub instruction_unknown_of : d ≡ decoded_instruction.Unknown → F unknown_instruction ≡ F (instruction_row rows r)
-  unfolding instruction_decoded
-  instruction_unknown_of e = ap (λ (x : DecodedInstruction). F (instruction_decoded x)) (sym e) ∙ instruction_of_lem
-
-  pub instruction_known_of : (n : ℕ) (row : CodeInstruction) → d ≡ decoded_instruction.Known n row → F (instruction_meaning row) ≡ F (instruction_row rows r)
-  unfolding instruction_decoded
-  instruction_known_of n row e = ap (λ (x : DecodedInstruction). F (instruction_decoded x)) (sym e) ∙ instruction_of_lem
-
 -- ---- a row of a table
 pub place : (rows : List ℕ) (s : ℕ) (t : Table) (r : ℕ) → IsTable rows s t → t.start + r ≡ row_in rows s r
 unfolding row_in
 place rows s t r h = rw (← h.start)
 
-pub type_decoded_lem : (rows : List ℕ) (t : Table) (r : ℕ) → IsTable rows type_section t → (d : DecodedType) → TypeSays rows (t.start + r) d → type_decoded d ≡ type_row rows r
-unfolding type_row
-type_decoded_lem rows t r h d s = s.says ∙ ap (type_at rows) (place rows type_section t r h)
+-- what was decoded there means what the definitions have for the table's row
+pub row_decoded : {C R : Type 0} {unknown : R} {meaning : C → R} {used : Maybe ℕ} {d : Decoded C} {i j : ℕ} (at : ℕ → R) → i ≡ j → Says unknown meaning (at i) used d → decoded unknown meaning d ≡ at j
+row_decoded at e s = s.says ∙ ap at e

@@ -66,13 +66,16 @@ unfolding groups
 more zero w h = absurd (let z : ⊥ = omega arith in z)
 more (suc n) w h = ap (λ (m : ℕ). w % 16 ∷ groups m (w / 16)) (let e : n ≡ suc n - 1 = omega arith in e)
 
--- F of all groups is F of what is left
+-- F of all groups is F of what is left, at first
+pub from_start : (F : List ℕ → Bool) (n w : ℕ) → F (groups (n - 0) w) ≡ F (groups n w)
+from_start F n w = ap (λ (m : ℕ). F (groups m w)) (omega arith)
+
 module _ (F : List ℕ → Bool) (n w left rest : ℕ) (inv : F (groups left rest) ≡ F (groups n w)) where
   pub from_first : (b : Bool) → 0 < left → F (rest % 16 ∷ groups (left - 1) (rest / 16)) ≡ b → b ≡ F (groups n w)
   from_first b h e = sym e ∙ ap F (sym (more left rest h)) ∙ inv
 
-  pub from_rest : 0 < left → F (rest % 16 ∷ groups (left - 1) (rest / 16)) ≡ F (groups (left - 1) (rest / 16)) → F (groups (left - 1) (rest / 16)) ≡ F (groups n w)
-  from_rest h e = sym e ∙ ap F (sym (more left rest h)) ∙ inv
+  pub from_rest : (next : ℕ) → next ≡ left - 1 → 0 < left → F (rest % 16 ∷ groups (left - 1) (rest / 16)) ≡ F (groups (left - 1) (rest / 16)) → F (groups next (rest / 16)) ≡ F (groups n w)
+  from_rest next l h e = ap (λ (m : ℕ). F (groups m (rest / 16))) l ∙ sym e ∙ ap F (sym (more left rest h)) ∙ inv
 
   pub from_none : (b : Bool) → left ≡ 0 → F [] ≡ b → b ≡ F (groups n w)
   unfolding groups

@@ -1,50 +1,15 @@
--- Short lists: a test of each of at most three numbers, asked one after another. Assumes nothing.
+-- Short lists: what is asked of each of their numbers. Assumes nothing.
 use mathlib.Core.Path.{◌≡◌, refl, sym, ap, ap₂, ◌∙◌}
-use mathlib.Core.Bool.{Bool, true, false, ◌&&◌, and-true, and_assoc}
+use mathlib.Core.Bool.{Bool, ◌&&◌, and_assoc}
 use mathlib.Core.List.{List, [], ◌∷◌, ◌++◌}
 use Prim.Native.Nat.{ℕ, zero, suc, ◌-◌}
 use native.Mathlib.Omega.{arith}
 use lib.Dec.{leb, ltb, leb-zero}
-use lib.ListN.{take}
-use lib.Seq.{take-nil}
 use Rattle.lingua.specs.Errors.{is_error, error_numbers}
 use Rattle.lingua.specs.Value.{all_of}
 use Rattle.lingua.specs.Rows.{yoke_root}
 use Rattle.lingua.specs.References.{all_below}
 use Rattle.laws.specs.Classes.{error_is}
-
--- ---- a test of all
-module _ (p : ℕ → Bool) (n x y z : ℕ) where
-  pub all_0 : n ≡ 0 → true ≡ all_of p (take n (x ∷ y ∷ z ∷ []))
-  unfolding all_of
-  all_0 e = rw e
-
-  pub all_1 : n ≡ 1 → p x ≡ true → true ≡ all_of p (take n (x ∷ y ∷ z ∷ []))
-  unfolding all_of
-  all_1 e h = rw (e, h)
-
-  pub all_2 : n ≡ 2 → p x ≡ true → p y ≡ true → true ≡ all_of p (take n (x ∷ y ∷ z ∷ []))
-  unfolding all_of
-  all_2 e h k = rw (e, h, k)
-
-module _ (p : ℕ → Bool) where
-  pub all_x : (n x y z : ℕ) → (n ≡ 0 → ⊥) → p x ≡ false → false ≡ all_of p (take n (x ∷ y ∷ z ∷ []))
-  unfolding all_of
-  all_x zero x y z n0 h = absurd (n0 refl)
-  all_x (suc n) x y z n0 h = rw h
-
-  pub all_y : (n x y z : ℕ) → (n ≡ 0 → ⊥) → (n ≡ 1 → ⊥) → p x ≡ true → p y ≡ false → false ≡ all_of p (take n (x ∷ y ∷ z ∷ []))
-  unfolding all_of
-  all_y zero x y z n0 n1 h k = absurd (n0 refl)
-  all_y (suc zero) x y z n0 n1 h k = absurd (n1 refl)
-  all_y (suc (suc n)) x y z n0 n1 h k = rw (h, k)
-
-  pub all_z : (n x y z : ℕ) → (n ≡ 0 → ⊥) → (n ≡ 1 → ⊥) → (n ≡ 2 → ⊥) → p x ≡ true → p y ≡ true → p z ≡ all_of p (take n (x ∷ y ∷ z ∷ []))
-  unfolding all_of
-  all_z zero x y z n0 n1 n2 h k = absurd (n0 refl)
-  all_z (suc zero) x y z n0 n1 n2 h k = absurd (n1 refl)
-  all_z (suc (suc zero)) x y z n0 n1 n2 h k = absurd (n2 refl)
-  all_z (suc (suc (suc n))) x y z n0 n1 n2 h k = rw (h, k, take-nil n) (sym (and-true (p z)))
 
 pub all_ext : (p q : ℕ → Bool) (xs : List ℕ) → ((x : ℕ) → p x ≡ q x) → all_of p xs ≡ all_of q xs
 unfolding all_of

@@ -1,6 +1,6 @@
 -- What the code's rows mean, and when they say what the definitions do. Assumes nothing: these are definitions.
-use Rattle.std.specs.Prelude.{◌≡◌, refl, Bool, true, false, List, [], ◌∷◌, ℕ, min}
-use Rattle.std.proofs.Math.Option.{Option, some, none}
+use Rattle.std.specs.Prelude.{◌≡◌, refl, Bool, true, false, List, [], ◌∷◌, ℕ, min, Option, Some, None}
+use Rattle.std.proofs.Math.Option.{Option as Maybe, some, none}
 use Rattle.lingua.specs.Body.{Body, boolean, number, word, hundredths}
 use Rattle.lingua.specs.Operation.{Unary, negation, make_record, select, make_list, top, pop, remove, to_hundredths, to_number, Binary, add, subtract, multiply, divide, less, equal, glue, expand, change, push}
 use Rattle.lingua.specs.Operations.{unary_meaning, binary_meaning}
@@ -15,12 +15,25 @@ use Rattle.decoder.specs.declared.decode.ExpressionRow.{ExpressionRow as CodeRow
 use Rattle.decoder.specs.declared.decode.ExpressionRow.TheVariants as code
 use Rattle.decoder.specs.declared.decode.InstructionRow.{InstructionRow as CodeInstruction}
 use Rattle.decoder.specs.declared.decode.InstructionRow.TheVariants as does
-use Rattle.decoder.specs.declared.decode.DecodedType.{DecodedType}
-use Rattle.decoder.specs.declared.decode.DecodedType.TheVariants as decoded_type
-use Rattle.decoder.specs.declared.decode.DecodedExpression.{DecodedExpression}
-use Rattle.decoder.specs.declared.decode.DecodedExpression.TheVariants as decoded
-use Rattle.decoder.specs.declared.decode.DecodedInstruction.{DecodedInstruction}
-use Rattle.decoder.specs.declared.decode.DecodedInstruction.TheVariants as decoded_instruction
+
+-- ---- what was decoded: nothing where the kind is unknown, else the bytes that the row uses, and the row
+abbrev pub Decoded : Type 0 → Type 0
+Decoded C = Option (ℕ × C)
+
+-- the row that it means
+unfoldable pub decoded : {C R : Type 0} → R → (C → R) → Decoded C → R
+decoded unknown meaning None = unknown
+decoded unknown meaning (Some d) = meaning d.1
+
+-- the bytes that it uses
+unfoldable pub uses : {C : Type 0} → Decoded C → Maybe ℕ
+uses None = none
+uses (Some d) = some d.0
+
+-- it means a row, and uses what rows of its kind do
+pub record Says {C R : Type 0} (unknown : R) (meaning : C → R) (row : R) (used : Maybe ℕ) (d : Decoded C) : Type 0 where
+  pub says : decoded unknown meaning d ≡ row
+  pub uses : uses d ≡ used
 
 -- ---- types
 unfoldable pub simple_meaning : Simple → Body
@@ -35,18 +48,9 @@ type_meaning (type.List a) = list_type a
 type_meaning (type.Record n a) = record_type n a
 type_meaning (type.Expand a n b) = expand_type a n b
 
-unfoldable pub type_decoded : DecodedType → TypeRow
-type_decoded decoded_type.Unknown = unknown_type
-type_decoded (decoded_type.Known n t) = type_meaning t
-
-unfoldable pub type_uses : DecodedType → Option ℕ
-type_uses decoded_type.Unknown = none
-type_uses (decoded_type.Known n t) = some n
-
 -- row i of the rows is what was decoded, and uses its bytes
-pub record TypeSays (rows : List ℕ) (i : ℕ) (d : DecodedType) : Type 0 where
-  pub says : type_decoded d ≡ type_at rows i
-  pub uses : type_uses d ≡ used_of (numbered (kind_at rows i) type_kinds)
+abbrev pub TypeSays : List ℕ → ℕ → Decoded CodeType → Type 0
+TypeSays rows i d = Says unknown_type type_meaning (type_at rows i) (used_of (numbered (kind_at rows i) type_kinds)) d
 
 -- ---- expressions
 abbrev pub connective : Bool → Connective
@@ -69,14 +73,6 @@ expression_meaning rows i (code.Binary o a b) = binary_row (binary_meaning o) a 
 expression_meaning rows i (code.Lazy t a b) = lazy_row (connective t) a b
 expression_meaning rows i (code.Choice a b c) = choice_row a b c
 expression_meaning rows i (code.AllList a) = all_list_row a
-
-unfoldable pub expression_decoded : List ℕ → ℕ → DecodedExpression → ExpressionRow
-expression_decoded rows i decoded.Unknown = unknown_expression
-expression_decoded rows i (decoded.Known n r) = expression_meaning rows i r
-
-unfoldable pub expression_uses : DecodedExpression → Option ℕ
-expression_uses decoded.Unknown = none
-expression_uses (decoded.Known n r) = some n
 
 -- an attribute takes a byte of the code's row: what is above is 255, and no more an attribute than before
 abbrev pub byte : ℕ → ℕ
@@ -134,9 +130,8 @@ in_bytes (choice_row a b c) = choice_row a b c
 in_bytes (all_list_row a) = all_list_row a
 in_bytes unknown_expression = unknown_expression
 
-pub record ExpressionSays (rows : List ℕ) (i : ℕ) (d : DecodedExpression) : Type 0 where
-  pub says : expression_decoded rows i d ≡ in_bytes (expression_at rows i)
-  pub uses : expression_uses d ≡ used_of (numbered (kind_at rows i) expression_kinds)
+abbrev pub ExpressionSays : List ℕ → ℕ → Decoded CodeRow → Type 0
+ExpressionSays rows i d = Says unknown_expression (expression_meaning rows i) (in_bytes (expression_at rows i)) (used_of (numbered (kind_at rows i) expression_kinds)) d
 
 -- ---- instructions
 unfoldable pub instruction_meaning : CodeInstruction → InstructionRow
@@ -149,14 +144,5 @@ instruction_meaning (does.Loop e i) = loop_row e i
 instruction_meaning (does.Handle n i) = handle_row n i
 instruction_meaning (does.Call k b c) = call_row k b c
 
-unfoldable pub instruction_decoded : DecodedInstruction → InstructionRow
-instruction_decoded decoded_instruction.Unknown = unknown_instruction
-instruction_decoded (decoded_instruction.Known n r) = instruction_meaning r
-
-unfoldable pub instruction_uses : DecodedInstruction → Option ℕ
-instruction_uses decoded_instruction.Unknown = none
-instruction_uses (decoded_instruction.Known n r) = some n
-
-pub record InstructionSays (rows : List ℕ) (i : ℕ) (d : DecodedInstruction) : Type 0 where
-  pub says : instruction_decoded d ≡ instruction_at rows i
-  pub uses : instruction_uses d ≡ used_of (numbered (kind_at rows i) instruction_kinds)
+abbrev pub InstructionSays : List ℕ → ℕ → Decoded CodeInstruction → Type 0
+InstructionSays rows i d = Says unknown_instruction instruction_meaning (instruction_at rows i) (used_of (numbered (kind_at rows i) instruction_kinds)) d

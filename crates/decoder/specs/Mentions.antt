@@ -1,11 +1,12 @@
 -- What the code's short lists hold, and when the code's row names what a row of the definitions does. Assumes nothing: these are definitions.
-use Rattle.std.specs.Prelude.{◌≡◌, Bool, List, [], ◌∷◌, ℕ, take}
+use Rattle.std.specs.Prelude.{◌≡◌, Bool, List, [], ℕ}
 use Rattle.lingua.specs.Rows.{TypeRow, ExpressionRow, InstructionRow, operands, parts, evaluated, yoke_set}
 use Rattle.lingua.specs.Rules.{attributes_fit, type_attributes, expression_attributes, handled_errors}
 use Rattle.lingua.specs.References.{type_parts, expression_variables, instruction_variables, on_call}
 use Rattle.decoder.specs.Decoded.{type_meaning, expression_meaning, instruction_meaning}
 use Rattle.decoder.specs.Reads.{reads_row}
 use Rattle.decoder.specs.declared.mentions.UpToThree.{UpToThree}
+use Rattle.decoder.specs.declared.mentions.UpToThree.TheVariants as up_to
 use Rattle.decoder.specs.declared.mentions.Mention.{Mention}
 use Rattle.decoder.specs.declared.mentions.Mention.TheVariants as mention
 use Rattle.decoder.specs.declared.decode.TypeRow.{TypeRow as CodeType}
@@ -13,7 +14,10 @@ use Rattle.decoder.specs.declared.decode.ExpressionRow.{ExpressionRow as CodeRow
 use Rattle.decoder.specs.declared.decode.InstructionRow.{InstructionRow as CodeInstruction}
 
 unfoldable pub listed : UpToThree → List ℕ
-listed f = take f.count (f.x ∷ f.y ∷ f.z ∷ [])
+listed up_to.None = []
+listed (up_to.One xs) = xs
+listed (up_to.Two xs) = xs
+listed (up_to.Three xs) = xs
 
 -- the rows that an instruction row mentions, in one of three ways
 unfoldable pub mentioned_by : Mention → InstructionRow → List ℕ

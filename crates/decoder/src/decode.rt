@@ -52,37 +52,18 @@ pub enum InstructionRow {
     Call(usize, usize, usize),
 }
 
-// The bytes that a known row uses, and the row.
-#[derive(Clone, Copy)]
-pub enum DecodedType {
-    Unknown,
-    Known(u8, TypeRow),
-}
-
-#[derive(Clone, Copy)]
-pub enum DecodedExpression {
-    Unknown,
-    Known(u8, ExpressionRow),
-}
-
-#[derive(Clone, Copy)]
-pub enum DecodedInstruction {
-    Unknown,
-    Known(u8, InstructionRow),
-}
+// What a row says: nothing where its kind is unknown, else the bytes that it uses, and the row.
+pub type Decoded<R> = Option<(u8, R)>;
 
 // An attribute as a byte. What is above a byte stays out of range: rule 9 lets attributes through below 64.
 fn byte(n: usize) -> u8
     ensures { result ≡ min n 255 }
 {
-    if n < 255 {
-        return n as u8;
-    }
-    255
+    n.min(255) as u8
 }
 
 // Row i, a type's.
-pub fn type_at(rows: &[u8], i: usize) -> DecodedType
+pub fn type_at(rows: &[u8], i: usize) -> Decoded<TypeRow>
     requires { 10 * i + 10 ≤ length rows.now }
     ensures { TypeSays rows.now i result }
 {
@@ -91,19 +72,19 @@ pub fn type_at(rows: &[u8], i: usize) -> DecodedType
     let b = b_at(rows, i);
     let c = c_at(rows, i);
     match kind {
-        1 => DecodedType::Known(0, TypeRow::Simple(Simple::Boolean)),
-        2 => DecodedType::Known(0, TypeRow::Simple(Simple::Number)),
-        3 => DecodedType::Known(0, TypeRow::Simple(Simple::Word)),
-        4 => DecodedType::Known(2, TypeRow::List(a)),
-        5 => DecodedType::Known(4, TypeRow::Record(a, b)),
-        6 => DecodedType::Known(6, TypeRow::Expand(a, b, c)),
-        7 => DecodedType::Known(0, TypeRow::Simple(Simple::Hundredths)),
-        _ => DecodedType::Unknown,
+        1 => Some((0, TypeRow::Simple(Simple::Boolean))),
+        2 => Some((0, TypeRow::Simple(Simple::Number))),
+        3 => Some((0, TypeRow::Simple(Simple::Word))),
+        4 => Some((2, TypeRow::List(a))),
+        5 => Some((4, TypeRow::Record(a, b))),
+        6 => Some((6, TypeRow::Expand(a, b, c))),
+        7 => Some((0, TypeRow::Simple(Simple::Hundredths))),
+        _ => None,
     }
 }
 
 // Row i, an expression's.
-pub fn expression_at(rows: &[u8], i: usize) -> DecodedExpression
+pub fn expression_at(rows: &[u8], i: usize) -> Decoded<ExpressionRow>
     requires { 10 * i + 10 ≤ length rows.now }
     ensures { ExpressionSays rows.now i result }
 {
@@ -112,41 +93,41 @@ pub fn expression_at(rows: &[u8], i: usize) -> DecodedExpression
     let b = b_at(rows, i);
     let c = c_at(rows, i);
     match kind {
-        1 => DecodedExpression::Known(8, ExpressionRow::Constant(Simple::Boolean)),
-        2 => DecodedExpression::Known(8, ExpressionRow::Constant(Simple::Number)),
-        3 => DecodedExpression::Known(8, ExpressionRow::Constant(Simple::Word)),
-        4 => DecodedExpression::Known(2, ExpressionRow::Variable(a)),
-        5 => DecodedExpression::Known(4, ExpressionRow::Binary(Binary::Add, a, b)),
-        6 => DecodedExpression::Known(4, ExpressionRow::Binary(Binary::Subtract, a, b)),
-        7 => DecodedExpression::Known(4, ExpressionRow::Binary(Binary::Multiply, a, b)),
-        8 => DecodedExpression::Known(4, ExpressionRow::Binary(Binary::Divide, a, b)),
-        9 => DecodedExpression::Known(4, ExpressionRow::Binary(Binary::Less, a, b)),
-        10 => DecodedExpression::Known(4, ExpressionRow::Binary(Binary::Equal, a, b)),
-        11 => DecodedExpression::Known(4, ExpressionRow::Lazy(false, a, b)),
-        12 => DecodedExpression::Known(4, ExpressionRow::Lazy(true, a, b)),
-        13 => DecodedExpression::Known(4, ExpressionRow::Binary(Binary::Glue, a, b)),
-        14 => DecodedExpression::Known(2, ExpressionRow::Unary(Unary::Negation, a)),
-        15 => DecodedExpression::Known(6, ExpressionRow::Choice(a, b, c)),
-        16 => DecodedExpression::Known(4, ExpressionRow::Unary(Unary::MakeRecord(byte(a)), b)),
-        17 => DecodedExpression::Known(6, ExpressionRow::Binary(Binary::Expand(byte(b)), a, c)),
-        18 => DecodedExpression::Known(4, ExpressionRow::Unary(Unary::Select(byte(b)), a)),
-        19 => DecodedExpression::Known(6, ExpressionRow::Binary(Binary::Change(byte(b)), a, c)),
-        20 => DecodedExpression::Known(2, ExpressionRow::Unary(Unary::MakeList, a)),
-        21 => DecodedExpression::Known(4, ExpressionRow::Binary(Binary::Push, a, b)),
-        22 => DecodedExpression::Known(2, ExpressionRow::Unary(Unary::Top, a)),
-        23 => DecodedExpression::Known(2, ExpressionRow::Unary(Unary::Pop, a)),
-        24 => DecodedExpression::Known(0, ExpressionRow::Current),
-        25 => DecodedExpression::Known(2, ExpressionRow::AllList(a)),
-        26 => DecodedExpression::Known(4, ExpressionRow::Unary(Unary::Remove(byte(b)), a)),
-        27 => DecodedExpression::Known(8, ExpressionRow::Constant(Simple::Hundredths)),
-        28 => DecodedExpression::Known(2, ExpressionRow::Unary(Unary::ToHundredths, a)),
-        29 => DecodedExpression::Known(2, ExpressionRow::Unary(Unary::ToNumber, a)),
-        _ => DecodedExpression::Unknown,
+        1 => Some((8, ExpressionRow::Constant(Simple::Boolean))),
+        2 => Some((8, ExpressionRow::Constant(Simple::Number))),
+        3 => Some((8, ExpressionRow::Constant(Simple::Word))),
+        4 => Some((2, ExpressionRow::Variable(a))),
+        5 => Some((4, ExpressionRow::Binary(Binary::Add, a, b))),
+        6 => Some((4, ExpressionRow::Binary(Binary::Subtract, a, b))),
+        7 => Some((4, ExpressionRow::Binary(Binary::Multiply, a, b))),
+        8 => Some((4, ExpressionRow::Binary(Binary::Divide, a, b))),
+        9 => Some((4, ExpressionRow::Binary(Binary::Less, a, b))),
+        10 => Some((4, ExpressionRow::Binary(Binary::Equal, a, b))),
+        11 => Some((4, ExpressionRow::Lazy(false, a, b))),
+        12 => Some((4, ExpressionRow::Lazy(true, a, b))),
+        13 => Some((4, ExpressionRow::Binary(Binary::Glue, a, b))),
+        14 => Some((2, ExpressionRow::Unary(Unary::Negation, a))),
+        15 => Some((6, ExpressionRow::Choice(a, b, c))),
+        16 => Some((4, ExpressionRow::Unary(Unary::MakeRecord(byte(a)), b))),
+        17 => Some((6, ExpressionRow::Binary(Binary::Expand(byte(b)), a, c))),
+        18 => Some((4, ExpressionRow::Unary(Unary::Select(byte(b)), a))),
+        19 => Some((6, ExpressionRow::Binary(Binary::Change(byte(b)), a, c))),
+        20 => Some((2, ExpressionRow::Unary(Unary::MakeList, a))),
+        21 => Some((4, ExpressionRow::Binary(Binary::Push, a, b))),
+        22 => Some((2, ExpressionRow::Unary(Unary::Top, a))),
+        23 => Some((2, ExpressionRow::Unary(Unary::Pop, a))),
+        24 => Some((0, ExpressionRow::Current)),
+        25 => Some((2, ExpressionRow::AllList(a))),
+        26 => Some((4, ExpressionRow::Unary(Unary::Remove(byte(b)), a))),
+        27 => Some((8, ExpressionRow::Constant(Simple::Hundredths))),
+        28 => Some((2, ExpressionRow::Unary(Unary::ToHundredths, a))),
+        29 => Some((2, ExpressionRow::Unary(Unary::ToNumber, a))),
+        _ => None,
     }
 }
 
 // Row i, an instruction's.
-pub fn instruction_at(rows: &[u8], i: usize) -> DecodedInstruction
+pub fn instruction_at(rows: &[u8], i: usize) -> Decoded<InstructionRow>
     requires { 10 * i + 10 ≤ length rows.now }
     ensures { InstructionSays rows.now i result }
 {
@@ -155,14 +136,14 @@ pub fn instruction_at(rows: &[u8], i: usize) -> DecodedInstruction
     let b = b_at(rows, i);
     let c = c_at(rows, i);
     match kind {
-        1 => DecodedInstruction::Known(0, InstructionRow::Skip),
-        2 => DecodedInstruction::Known(4, InstructionRow::Assign(a, b)),
-        3 => DecodedInstruction::Known(4, InstructionRow::SetYoke(a, b)),
-        4 => DecodedInstruction::Known(4, InstructionRow::Sequence(a, b)),
-        5 => DecodedInstruction::Known(6, InstructionRow::Branch(a, b, c)),
-        6 => DecodedInstruction::Known(4, InstructionRow::Loop(a, b)),
-        7 => DecodedInstruction::Known(4, InstructionRow::Handle(a, b)),
-        8 => DecodedInstruction::Known(6, InstructionRow::Call(a, b, c)),
-        _ => DecodedInstruction::Unknown,
+        1 => Some((0, InstructionRow::Skip)),
+        2 => Some((4, InstructionRow::Assign(a, b))),
+        3 => Some((4, InstructionRow::SetYoke(a, b))),
+        4 => Some((4, InstructionRow::Sequence(a, b))),
+        5 => Some((6, InstructionRow::Branch(a, b, c))),
+        6 => Some((4, InstructionRow::Loop(a, b))),
+        7 => Some((4, InstructionRow::Handle(a, b))),
+        8 => Some((6, InstructionRow::Call(a, b, c))),
+        _ => None,
     }
 }

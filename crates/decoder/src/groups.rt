@@ -11,10 +11,7 @@ use lingua::sizes::MOST_PARAMETERS;
 pub fn given(parameters: usize) -> usize
     ensures { result ≡ min most_parameters parameters }
 {
-    if parameters < MOST_PARAMETERS {
-        return parameters;
-    }
-    MOST_PARAMETERS
+    parameters.min(MOST_PARAMETERS)
 }
 
 // Group i.
@@ -48,13 +45,11 @@ pub fn groups_below(w: usize, n: usize, end: usize) -> bool
     ensures { result ≡ all_below end (groups n w) }
 {
     let mut rest = w;
-    let mut left = n;
-    while left > 0 {
+    for _i in 0..n {
         if rest % 16 >= end {
             return false;
         }
         rest = rest / 16;
-        left -= 1;
     }
     true
 }
@@ -64,13 +59,11 @@ fn is_group(w: usize, n: usize, g: usize) -> bool
     ensures { result ≡ is_among (groups n w) g }
 {
     let mut rest = w;
-    let mut left = n;
-    while left > 0 {
+    for _i in 0..n {
         if rest % 16 == g {
             return true;
         }
         rest = rest / 16;
-        left -= 1;
     }
     false
 }
@@ -80,12 +73,10 @@ pub fn groups_differ(w: usize, n: usize) -> bool
     ensures { result ≡ all_different (groups n w) }
 {
     let mut rest = w;
-    let mut left = n;
-    while left > 0 {
+    for i in 0..n {
         let g = rest % 16;
         rest = rest / 16;
-        left -= 1;
-        if is_group(rest, left, g) {
+        if is_group(rest, n - i - 1, g) {
             return false;
         }
     }

@@ -11,62 +11,30 @@ ghost use Rattle.decoder.specs.Mentions.{listed, mentioned_by, TypeAlike, Expres
 ghost use Rattle.decoder.specs.Decoded.{type_meaning, expression_meaning, instruction_meaning};
 
 use crate::decode::{
-    DecodedExpression, DecodedInstruction, DecodedType, ExpressionRow, InstructionRow, Simple,
-    TypeRow, expression_at, instruction_at, type_at,
+    ExpressionRow, InstructionRow, Simple, TypeRow, expression_at, instruction_at, type_at,
 };
 use crate::tables::Table;
 use lingua::operations::{BinaryOperation, UnaryOperation};
 
-// At most three numbers: the first of x, y, z.
+// At most three numbers.
 #[derive(Clone, Copy)]
-pub struct UpToThree {
-    pub count: usize,
-    pub x: usize,
-    pub y: usize,
-    pub z: usize,
+pub enum UpToThree {
+    None,
+    One([usize; 1]),
+    Two([usize; 2]),
+    Three([usize; 3]),
 }
 
-pub fn none() -> UpToThree
-    ensures { listed result ≡ [] }
-{
-    UpToThree {
-        count: 0,
-        x: 0,
-        y: 0,
-        z: 0,
-    }
-}
-
-pub fn one(x: usize) -> UpToThree
-    ensures { listed result ≡ x ∷ [] }
-{
-    UpToThree {
-        count: 1,
-        x: x,
-        y: 0,
-        z: 0,
-    }
-}
-
-fn two(x: usize, y: usize) -> UpToThree
-    ensures { listed result ≡ x ∷ y ∷ [] }
-{
-    UpToThree {
-        count: 2,
-        x: x,
-        y: y,
-        z: 0,
-    }
-}
-
-fn three(x: usize, y: usize, z: usize) -> UpToThree
-    ensures { listed result ≡ x ∷ y ∷ z ∷ [] }
-{
-    UpToThree {
-        count: 3,
-        x: x,
-        y: y,
-        z: z,
+impl UpToThree {
+    pub fn numbers(&self) -> &[usize]
+        ensures { result.now ≡ listed self.now }
+    {
+        match self {
+            UpToThree::None => &[],
+            UpToThree::One(numbers) => numbers,
+            UpToThree::Two(numbers) => numbers,
+            UpToThree::Three(numbers) => numbers,
+        }
     }
 }
 
@@ -76,10 +44,9 @@ pub fn type_in(rows: &[u8], t: Table, r: usize) -> TypeRow
     requires r_lt_count { r < t.count }
     ensures { TypeAlike result (type_row rows.now r) }
 {
-    let d = type_at(rows, t.start + r);
-    match d {
-        DecodedType::Unknown => TypeRow::Simple(Simple::Boolean),
-        DecodedType::Known(_, row) => row,
+    match type_at(rows, t.start + r) {
+        Some((_, row)) => row,
+        None => TypeRow::Simple(Simple::Boolean),
     }
 }
 
@@ -89,10 +56,9 @@ pub fn expression_in(rows: &[u8], t: Table, r: usize) -> ExpressionRow
     requires r_lt_count { r < t.count }
     ensures { ExpressionAlike rows.now (t.start + r) result (expression_row rows.now r) }
 {
-    let d = expression_at(rows, t.start + r);
-    match d {
-        DecodedExpression::Unknown => ExpressionRow::Constant(Simple::Boolean),
-        DecodedExpression::Known(_, row) => row,
+    match expression_at(rows, t.start + r) {
+        Some((_, row)) => row,
+        None => ExpressionRow::Constant(Simple::Boolean),
     }
 }
 
@@ -101,10 +67,9 @@ pub fn instruction_in(rows: &[u8], t: Table, r: usize) -> InstructionRow
     requires r_lt_count { r < t.count }
     ensures { InstructionAlike result (instruction_row rows.now r) }
 {
-    let d = instruction_at(rows, t.start + r);
-    match d {
-        DecodedInstruction::Unknown => InstructionRow::Skip,
-        DecodedInstruction::Known(_, row) => row,
+    match instruction_at(rows, t.start + r) {
+        Some((_, row)) => row,
+        None => InstructionRow::Skip,
     }
 }
 
@@ -112,9 +77,9 @@ pub fn type_attributes(row: TypeRow) -> UpToThree
     ensures { listed result ≡ type_attributes (type_meaning row) }
 {
     match row {
-        TypeRow::Record(n, _) => one(n),
-        TypeRow::Expand(_, n, _) => one(n),
-        _ => none(),
+        TypeRow::Record(n, _) => UpToThree::One([n]),
+        TypeRow::Expand(_, n, _) => UpToThree::One([n]),
+        _ => UpToThree::None,
     }
 }
 
@@ -122,10 +87,10 @@ pub fn type_parts(row: TypeRow) -> UpToThree
     ensures { listed result ≡ type_parts (type_meaning row) }
 {
     match row {
-        TypeRow::Simple(_) => none(),
-        TypeRow::List(a) => one(a),
-        TypeRow::Record(_, a) => one(a),
-        TypeRow::Expand(a, _, b) => two(a, b),
+        TypeRow::Simple(_) => UpToThree::None,
+        TypeRow::List(a) => UpToThree::One([a]),
+        TypeRow::Record(_, a) => UpToThree::One([a]),
+        TypeRow::Expand(a, _, b) => UpToThree::Two([a, b]),
     }
 }
 
@@ -133,12 +98,12 @@ pub fn operands(row: ExpressionRow) -> UpToThree
     ensures { (rows : List ℕ) (i : ℕ) → listed result ≡ operands (expression_meaning rows i row) }
 {
     match row {
-        ExpressionRow::Unary(_, a) => one(a),
-        ExpressionRow::Binary(_, a, b) => two(a, b),
-        ExpressionRow::Lazy(_, a, b) => two(a, b),
-        ExpressionRow::Choice(a, b, c) => three(a, b, c),
-        ExpressionRow::AllList(a) => one(a),
-        _ => none(),
+        ExpressionRow::Unary(_, a) => UpToThree::One([a]),
+        ExpressionRow::Binary(_, a, b) => UpToThree::Two([a, b]),
+        ExpressionRow::Lazy(_, a, b) => UpToThree::Two([a, b]),
+        ExpressionRow::Choice(a, b, c) => UpToThree::Three([a, b, c]),
+        ExpressionRow::AllList(a) => UpToThree::One([a]),
+        _ => UpToThree::None,
     }
 }
 
@@ -146,10 +111,10 @@ fn unary_attributes(o: UnaryOperation) -> UpToThree
     ensures { listed result ≡ unary_attribute (unary_meaning o) }
 {
     match o {
-        UnaryOperation::MakeRecord(n) => one(n as usize),
-        UnaryOperation::Select(n) => one(n as usize),
-        UnaryOperation::Remove(n) => one(n as usize),
-        _ => none(),
+        UnaryOperation::MakeRecord(n) => UpToThree::One([n as usize]),
+        UnaryOperation::Select(n) => UpToThree::One([n as usize]),
+        UnaryOperation::Remove(n) => UpToThree::One([n as usize]),
+        _ => UpToThree::None,
     }
 }
 
@@ -157,9 +122,9 @@ fn binary_attributes(o: BinaryOperation) -> UpToThree
     ensures { listed result ≡ binary_attribute (binary_meaning o) }
 {
     match o {
-        BinaryOperation::Expand(n) => one(n as usize),
-        BinaryOperation::Change(n) => one(n as usize),
-        _ => none(),
+        BinaryOperation::Expand(n) => UpToThree::One([n as usize]),
+        BinaryOperation::Change(n) => UpToThree::One([n as usize]),
+        _ => UpToThree::None,
     }
 }
 
@@ -169,7 +134,7 @@ pub fn attributes(row: ExpressionRow) -> UpToThree
     match row {
         ExpressionRow::Unary(o, _) => unary_attributes(o),
         ExpressionRow::Binary(o, _, _) => binary_attributes(o),
-        _ => none(),
+        _ => UpToThree::None,
     }
 }
 
@@ -177,8 +142,8 @@ pub fn variables(row: ExpressionRow) -> UpToThree
     ensures { (rows : List ℕ) (i : ℕ) → listed result ≡ expression_variables (expression_meaning rows i row) }
 {
     match row {
-        ExpressionRow::Variable(n) => one(n),
-        _ => none(),
+        ExpressionRow::Variable(n) => UpToThree::One([n]),
+        _ => UpToThree::None,
     }
 }
 
@@ -186,8 +151,8 @@ pub fn handled(row: InstructionRow) -> UpToThree
     ensures { listed result ≡ handled_errors (instruction_meaning row) }
 {
     match row {
-        InstructionRow::Handle(n, _) => one(n),
-        _ => none(),
+        InstructionRow::Handle(n, _) => UpToThree::One([n]),
+        _ => UpToThree::None,
     }
 }
 
@@ -195,11 +160,11 @@ pub fn parts(row: InstructionRow) -> UpToThree
     ensures { listed result ≡ parts (instruction_meaning row) }
 {
     match row {
-        InstructionRow::Sequence(i, j) => two(i, j),
-        InstructionRow::Branch(_, i, j) => two(i, j),
-        InstructionRow::Loop(_, i) => one(i),
-        InstructionRow::Handle(_, i) => one(i),
-        _ => none(),
+        InstructionRow::Sequence(i, j) => UpToThree::Two([i, j]),
+        InstructionRow::Branch(_, i, j) => UpToThree::Two([i, j]),
+        InstructionRow::Loop(_, i) => UpToThree::One([i]),
+        InstructionRow::Handle(_, i) => UpToThree::One([i]),
+        _ => UpToThree::None,
     }
 }
 
@@ -207,10 +172,10 @@ pub fn evaluated(row: InstructionRow) -> UpToThree
     ensures { listed result ≡ evaluated (instruction_meaning row) }
 {
     match row {
-        InstructionRow::Assign(_, e) => one(e),
-        InstructionRow::Branch(e, _, _) => one(e),
-        InstructionRow::Loop(e, _) => one(e),
-        _ => none(),
+        InstructionRow::Assign(_, e) => UpToThree::One([e]),
+        InstructionRow::Branch(e, _, _) => UpToThree::One([e]),
+        InstructionRow::Loop(e, _) => UpToThree::One([e]),
+        _ => UpToThree::None,
     }
 }
 
@@ -219,9 +184,9 @@ pub fn assigned(row: InstructionRow) -> UpToThree
     ensures { listed result ≡ instruction_variables (instruction_meaning row) }
 {
     match row {
-        InstructionRow::Assign(n, _) => one(n),
-        InstructionRow::SetYoke(n, _) => one(n),
-        _ => none(),
+        InstructionRow::Assign(n, _) => UpToThree::One([n]),
+        InstructionRow::SetYoke(n, _) => UpToThree::One([n]),
+        _ => UpToThree::None,
     }
 }
 
@@ -230,9 +195,9 @@ pub fn yoke_root(yoke: usize) -> UpToThree
     ensures { listed result ≡ yoke_root yoke }
 {
     if yoke == 0 {
-        return none();
+        return UpToThree::None;
     }
-    one(yoke - 1)
+    UpToThree::One([yoke - 1])
 }
 
 pub fn yoke_set(row: InstructionRow) -> UpToThree
@@ -240,7 +205,7 @@ pub fn yoke_set(row: InstructionRow) -> UpToThree
 {
     match row {
         InstructionRow::SetYoke(_, y) => yoke_root(y),
-        _ => none(),
+        _ => UpToThree::None,
     }
 }
 
@@ -272,21 +237,5 @@ pub fn is_within(low: usize, end: usize, n: usize) -> bool
 pub fn all_within(f: UpToThree, low: usize, end: usize) -> bool
     ensures { result ≡ all_of (λ n. leb low n && ltb n end) (listed f) }
 {
-    let count = f.count;
-    if count == 0 {
-        return true;
-    }
-    if !is_within(low, end, f.x) {
-        return false;
-    }
-    if count == 1 {
-        return true;
-    }
-    if !is_within(low, end, f.y) {
-        return false;
-    }
-    if count == 2 {
-        return true;
-    }
-    is_within(low, end, f.z)
+    f.numbers().iter().all(|n| is_within(low, end, *n))
 }

@@ -2,7 +2,7 @@
 // each with the row that begins it and its variables.
 ghost use Rattle.std.specs.Prelude.{◌≡◌, [], ℕ, ◌+◌, ◌*◌, ◌≤◌, ◌<◌, min, length, get_or, if◌then◌else◌};
 ghost use Rattle.lingua.specs.Numbers.{most_procedures, header_table};
-ghost use Rattle.lingua.specs.Rows.{count_below, begins_procedure, table_at, table_start, table_count};
+ghost use Rattle.lingua.specs.Rows.{count_below, procedure_kind, begins_procedure, table_at, table_start, table_count};
 ghost use Rattle.decoder.specs.Tables.{AreCounts, AreTables};
 
 use crate::fields::{kind_at, section_at};
@@ -43,18 +43,20 @@ struct Counted {
     rows: [usize; 24],
 }
 
+// Whether row i is of section 6 and that kind: kind 2 begins a procedure.
+pub fn is_kind(rows: &[u8], i: usize, kind: u8) -> bool
+    requires { 10 * i + 10 ≤ length rows.now }
+    ensures { result ≡ procedure_kind kind rows.now i }
+{
+    section_at(rows, i) == PROCEDURE_SECTION && kind_at(rows, i) == kind
+}
+
 // 1 where the row begins a procedure, else 0.
 fn begins(rows: &[u8], i: usize) -> usize
     requires { 10 * i + 10 ≤ length rows.now }
     ensures { result ≡ (if begins_procedure rows.now i then 1 else 0) }
 {
-    if section_at(rows, i) != PROCEDURE_SECTION {
-        return 0;
-    }
-    if kind_at(rows, i) != 2 {
-        return 0;
-    }
-    1
+    usize::from(is_kind(rows, i, 2))
 }
 
 // The table of a row, where that many procedures were begun before it and its own is the next or not; 23 for all above.
@@ -78,16 +80,13 @@ fn slot(rows: &[u8], i: usize, begun: usize, more: usize) -> usize
 fn table_counts(rows: &[u8]) -> Counted
     ensures { AreCounts rows.now result.begun result.rows }
 {
-    let n = rows.len() / ROW_BYTES;
     let mut counts = [0usize; 24];
     let mut begun = 0;
-    let mut i = 0;
-    while i < n {
+    for i in 0..rows.len() / ROW_BYTES {
         let more = begins(rows, i);
         let s = slot(rows, i, begun, more);
         counts[s] += 1;
         begun += more;
-        i += 1;
     }
     Counted {
         begun: begun,
@@ -102,12 +101,8 @@ fn heads_of(rows: &[u8], counts: &[usize; 24], first: usize) -> [usize; 9]
     ensures { (k : ℕ) → k ≤ most_procedures → get_or result k 0 ≡ table_start rows.now (header_table k) }
 {
     let mut heads = [first; 9];
-    let mut k = 0;
-    while k < MOST_PROCEDURES {
-        let before = heads[k] + counts[7 + 2 * k];
-        let here = before + counts[8 + 2 * k];
-        k += 1;
-        heads[k] = here;
+    for k in 0..MOST_PROCEDURES {
+        heads[k + 1] = heads[k] + counts[7 + 2 * k] + counts[8 + 2 * k];
     }
     heads
 }

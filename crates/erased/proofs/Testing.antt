@@ -19,11 +19,12 @@ use Rattle.safety.specs.ErasedSteps.{test_erased_lem}
 use Rattle.safety.specs.Layout.{HoldsIn}
 use Rattle.decoder.specs.declared.tables.Table.{Table}
 use Rattle.cells.specs.Stack.{Leaves}
-use Rattle.run.specs.declared.steps.Truth.{Truth}
+use Rattle.std.specs.Prelude as std
+use Rattle.lingua.specs.declared.errors.Error.{Error}
 use Rattle.run.specs.Reached.{lent, Tells}
 use Rattle.erased_row.specs.Meaning.{Passed, ReadyPlain, EvaluatesPlain, Running, Tests, TestRow}
 use Rattle.erased_row.proofs.Passing.{row_passed}
-use Rattle.erased_row.proofs.Telling.{told}
+use Rattle.erased_row.proofs.Telling.{truth_in}
 
 -- ---- what the type check found
 tested : {layout : List ℕ} {vars : Bodies} (procs : ℕ → Bodies) (i : Instruction) (e : Expression) → Tests i e → DerivedRow (HoldsIn layout) procs vars i → Derived (HoldsIn layout) vars e no_current_body boolean
@@ -44,8 +45,8 @@ module _ {p : Profile} {a : ℕ} {rows : List ℕ} {t : Table} {layout : List �
   pub test_ready : {e : ℕ} → TestRow rows a e → ReadyPlain rows t layout cells states (expression_tree rows e)
   test_ready r = record { declarations = scope_declarations p a; store = vs; world = w.world; result = boolean; passed = test_passed r }
 
-  pub test_told : {e : ℕ} → TestRow rows a e → {m : ℕ} {s : List ℤ} {r : Truth} → EvaluatesPlain rows t layout cells states (expression_tree rows e) m s → ((o : Result Value) → Leaves m s boolean o → Tells r (told o)) → Tells r (eval_test (expression_tree rows e) (contents vs))
+  pub test_told : {e : ℕ} → TestRow rows a e → {m : ℕ} {s : List ℤ} (r : std.Result Bool Error) → EvaluatesPlain rows t layout cells states (expression_tree rows e) m s → ((o : Result Value) → Leaves m s boolean o → Tells r (truth_in o)) → Tells r (eval_test (expression_tree rows e) (contents vs))
   unfolding test_erased
-  test_told {e} row {r = r} h f =
+  test_told {e} row r h f =
       subst (λ (o : Result Bool). Tells r o) (sym (test_erased_lem (HoldsIn layout) (scope_declarations p a) vs w.kept w.world.fit (expression_tree rows e) (test_passed row)))
       (f _ (h.leaves (scope_declarations p a) vs boolean w.world (test_passed row)))

@@ -1,5 +1,6 @@
 -- The walk of an all_list yoke over the elements of the current value. Assumes nothing.
 use mathlib.Core.Path.{◌≡◌, refl, sym, ◌∙◌, subst}
+use mathlib.Core.Bool.{Bool}
 use mathlib.Core.List.{List, [], ◌∷◌, ◌++◌, map}
 use Prim.Native.Nat.{ℕ, ◌+◌, ◌-◌, ◌*◌, ◌≤◌, ◌<◌}
 use native.Mathlib.Omega.{arith}
@@ -19,7 +20,8 @@ use Rattle.cells.specs.Stack.{Lies, Leaves}
 use Rattle.cells.proofs.Elements.{list_size}
 use Rattle.cells.proofs.Operands.{leaves_as}
 use Rattle.cells.proofs.Walking.{counted, Walked, counted_elements, some_cell, walks, element_at, element_lies, gathered_more, gathered_all}
-use Rattle.run.specs.declared.steps.Truth.{Truth}
+use Rattle.std.specs.Prelude as std
+use Rattle.lingua.specs.declared.errors.Error.{Error}
 use Rattle.run.specs.Reached.{Tells}
 use Rattle.erased_row.specs.Meaning.{World, Current, Passed, Ready, Evaluates, all_told}
 use Rattle.erased_row.proofs.Leaving.{leaves_from}
@@ -80,15 +82,15 @@ module _ {rows : List ℕ} {t : Table} {layout : List ℕ} {cells : List ℤ} {s
     element_ready = record { declarations = ds; store = vs; world = h.world; body = c; value = element_at x i; is = element_current; result = boolean; passed = h.passed }
 
     -- one result more
-    pub sees_more : {n : ℕ} {s : List ℤ} {r : Truth} → Evaluates rows t layout cells states (take (at + width - at) (drop at now)) e n s
+    pub sees_more : {n : ℕ} {s : List ℤ} (r : std.Result Bool Error) → Evaluates rows t layout cells states (take (at + width - at) (drop at now)) e n s
         → ((o : Result Value) → Leaves n s boolean o → Tells r (all_told (first_results e vs x i ++ (o ∷ [])))) → Tells r (all_told (first_results e vs x (i + 1)))
-    sees_more {r = r} k f =
+    sees_more r k f =
         subst (λ (rs : List (Result Value)). Tells r (all_told rs))
         (sym (gathered_more (λ v. eval_erased e (values_of (contents vs)) v) x i more))
         (f _ (k.leaves ds vs c boolean (element_at x i) h.world element_current h.passed))
 
-  sees_all : {r : Truth} (i : ℕ) → i ≡ counted now → Tells r (all_told (first_results e vs x i)) → Tells r (all_told (map (λ v. eval_erased e (values_of (contents vs)) v) (value_list (as_items x))))
-  sees_all {r} i q g = subst (λ (rs : List (Result Value)). Tells r (all_told rs)) (gathered_all (λ v. eval_erased e (values_of (contents vs)) v) x i (q ∙ counted_elements h.lies)) g
+  sees_all : (r : std.Result Bool Error) (i : ℕ) → i ≡ counted now → Tells r (all_told (first_results e vs x i)) → Tells r (all_told (map (λ v. eval_erased e (values_of (contents vs)) v) (value_list (as_items x))))
+  sees_all r i q g = subst (λ (rs : List (Result Value)). Tells r (all_told rs)) (gathered_all (λ v. eval_erased e (values_of (contents vs)) v) x i (q ∙ counted_elements h.lies)) g
 
 -- ---- the yoke
 concluded : (o : Result (List Value)) → ((o >>= λ xs. ok (all_of as_truth xs)) >>= λ b. ok (truth b)) ≡ (o >>= λ xs. ok (truth (all_of as_truth xs)))
@@ -99,11 +101,11 @@ all_is : (row : ℕ) (e : Expression) (vs : List Variable) (x : Value) → (all_
 unfolding eval_erased all_told
 all_is row e vs x = concluded (all_answers (map (λ v. eval_erased e (values_of (contents vs)) v) (value_list (as_items x))))
 
-pub all_evaluates : {rows : List ℕ} {t : Table} {layout : List ℕ} {cells : List ℤ} {states : List ℕ} {now : List ℤ} (row : ℕ) (e : Expression) (width : ℕ) → width ≡ get_or layout (2 * row + 1) 0 → {n : ℕ} {s : List ℤ} {r : Truth} (i : ℕ) → i ≡ counted now
+pub all_evaluates : {rows : List ℕ} {t : Table} {layout : List ℕ} {cells : List ℤ} {states : List ℕ} {now : List ℤ} (row : ℕ) (e : Expression) (width : ℕ) → width ≡ get_or layout (2 * row + 1) 0 → {n : ℕ} {s : List ℤ} (r : std.Result Bool Error) (i : ℕ) → i ≡ counted now
     → ((ds : List Declaration) (vs : List Variable) (c : Body) (x : Value) → Listed rows t layout cells states now e width ds vs c x → Tells r (all_told (first_results e vs x i)))
     → ((rs : List (Result Value)) → Tells r (all_told rs) → Leaves n s boolean (all_told rs >>= λ b. ok (truth b))) → Evaluates rows t layout cells states now (all_list row e) n s
-all_evaluates row e width q i z g f = record {
+all_evaluates row e width q r i z g f = record {
   leaves = λ ds vs cur b x w h d.
       let k = listed width q w h d in
-      leaves_as (sym k.is) (leaves_from (all_is row e vs x) (f _ (sees_all k.listed i z (g ds vs k.element x k.listed))));
+      leaves_as (sym k.is) (leaves_from (all_is row e vs x) (f _ (sees_all k.listed r i z (g ds vs k.element x k.listed))));
 }

@@ -3,6 +3,7 @@
 // value takes is read from the layout table.
 ghost use Rattle.std.specs.Prelude.{◌+◌, ◌*◌, ◌<◌, ◌≤◌, length};
 ghost use Rattle.lingua.specs.Numbers.{body_cells};
+ghost use Rattle.lingua.specs.Faults.{number_of};
 ghost use Rattle.lingua.specs.Trees.{expression_tree};
 ghost use Rattle.lingua.specs.Expression.{lazy as lazyTree, choice as choiceTree, all_list};
 ghost use Rattle.decoder.specs.Decoded.{connective};
@@ -14,14 +15,13 @@ use erased_row::answer::truth_of;
 use erased_row::layout::second_at;
 use erased_row::leaves::{constant, copied, fetch};
 use erased_row::operate::{binary, unary};
-use erased_row::quick::{NO_LEAF, leaf};
+use erased_row::quick::leaf;
 use erased_row::tally::{concluded, tallied};
-use lingua::errors::NO_ERROR;
+use lingua::errors::Error;
 use lingua::sizes::BODY_CELLS;
 use profile::row::expression_row;
-use run::steps::Truth;
 
-// What the expression of a row gives on a current value: 0 and a value at the stack's front, or its error.
+// What the expression of a row gives on a current value: a value at the stack's front, or its error.
 #[cycle(all_choice_eval_lazy)]
 pub fn eval(
     row: usize,
@@ -32,17 +32,23 @@ pub fn eval(
     states: &[u16],
     current: &[i64],
     stack: &mut [i64],
-) -> u8
+) -> Result<(), Error>
     requires ready { Ready rows.now t layout.now cells.now states.now current.now (expression_tree rows.now row) }
     requires row_lt_count { row < t.count }
     requires row_in_bounds { body_cells * (row + 2) ≤ length stack.old }
-    ensures { Evaluates rows.now t layout.now cells.now states.now current.now (expression_tree rows.now row) result stack.new }
+    ensures { Evaluates rows.now t layout.now cells.now states.now current.now (expression_tree rows.now row) (number_of result) stack.new }
 {
     let says = expression_row(rows, t, row);
     match says {
-        ExpressionRow::Constant(_) => constant(rows, t, row, stack),
+        ExpressionRow::Constant(_) => {
+            constant(rows, t, row, stack);
+            Ok(())
+        }
         ExpressionRow::Variable(n) => fetch(layout, cells, states, row, n, stack),
-        ExpressionRow::Current => copied(layout, row, current, stack),
+        ExpressionRow::Current => {
+            copied(layout, row, current, stack);
+            Ok(())
+        }
         ExpressionRow::Unary(o, a) => {
             let x = eval(a, rows, t, layout, cells, states, current, &mut *stack);
             unary(o, x, layout, row, a, stack)
@@ -59,8 +65,8 @@ pub fn eval(
                 current,
                 &mut stack[BODY_CELLS..],
             );
-            if quick != NO_LEAF {
-                return binary(o, x, quick, layout, row, a, b, stack);
+            if let Some(y) = quick {
+                return binary(o, x, y, layout, row, a, b, stack);
             }
             let y = eval(
                 b,
@@ -100,20 +106,17 @@ fn lazy(
     b: usize,
     current: &[i64],
     stack: &mut [i64],
-) -> u8
+) -> Result<(), Error>
     requires ready { Ready rows.now t layout.now cells.now states.now current.now (lazyTree row (connective settling) (expression_tree rows.now a) (expression_tree rows.now b)) }
     requires a_lt_row { (a < row) × (b < row) × (row < t.count) }
     requires row_in_bounds { body_cells * (row + 2) ≤ length stack.old }
     ensures { Evaluates rows.now t layout.now cells.now states.now current.now
-        (lazyTree row (connective settling) (expression_tree rows.now a) (expression_tree rows.now b)) result stack.new }
+        (lazyTree row (connective settling) (expression_tree rows.now a) (expression_tree rows.now b)) (number_of result) stack.new }
 {
     let x = eval(a, rows, t, layout, cells, states, current, &mut *stack);
-    let first = truth_of(x, stack);
-    if first.error != NO_ERROR {
-        return first.error;
-    }
-    if first.holds == settling {
-        return NO_ERROR;
+    let first = truth_of(x, stack)?;
+    if first == settling {
+        return Ok(());
     }
     eval(b, rows, t, layout, cells, states, current, stack)
 }
@@ -132,19 +135,15 @@ fn choice(
     b: usize,
     current: &[i64],
     stack: &mut [i64],
-) -> u8
+) -> Result<(), Error>
     requires ready { Ready rows.now t layout.now cells.now states.now current.now (choiceTree row (expression_tree rows.now test) (expression_tree rows.now a) (expression_tree rows.now b)) }
     requires test_lt_row { (test < row) × (a < row) × (b < row) × (row < t.count) }
     requires row_in_bounds { body_cells * (row + 2) ≤ length stack.old }
     ensures { Evaluates rows.now t layout.now cells.now states.now current.now
-        (choiceTree row (expression_tree rows.now test) (expression_tree rows.now a) (expression_tree rows.now b)) result stack.new }
+        (choiceTree row (expression_tree rows.now test) (expression_tree rows.now a) (expression_tree rows.now b)) (number_of result) stack.new }
 {
     let x = eval(test, rows, t, layout, cells, states, current, &mut *stack);
-    let truth = truth_of(x, stack);
-    if truth.error != NO_ERROR {
-        return truth.error;
-    }
-    if truth.holds {
+    if truth_of(x, stack)? {
         return eval(a, rows, t, layout, cells, states, current, stack);
     }
     eval(b, rows, t, layout, cells, states, current, stack)
@@ -162,21 +161,17 @@ fn all(
     a: usize,
     current: &[i64],
     stack: &mut [i64],
-) -> u8
+) -> Result<(), Error>
     requires ready { Ready rows.now t layout.now cells.now states.now current.now (all_list row (expression_tree rows.now a)) }
     requires a_lt_row { (a < row) × (row < t.count) }
     requires row_in_bounds { body_cells * (row + 2) ≤ length stack.old }
-    ensures { Evaluates rows.now t layout.now cells.now states.now current.now (all_list row (expression_tree rows.now a)) result stack.new }
+    ensures { Evaluates rows.now t layout.now cells.now states.now current.now (all_list row (expression_tree rows.now a)) (number_of result) stack.new }
 {
     let width = second_at(layout, row);
     let n = current[0] as usize;
-    let mut seen = Truth {
-        error: NO_ERROR,
-        holds: true,
-    };
-    let mut at = 1;
-    let mut i = 0;
-    while i < n {
+    let mut seen = Ok(true);
+    for i in 0..n {
+        let at = 1 + i * width;
         let x = eval(
             a,
             rows,
@@ -188,8 +183,6 @@ fn all(
             &mut *stack,
         );
         seen = tallied(seen, x, stack);
-        at += width;
-        i += 1;
     }
     concluded(seen, stack)
 }

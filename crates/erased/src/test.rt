@@ -11,7 +11,7 @@ ghost use Rattle.erased_row.specs.Meaning.{Running, HasStore, TestRow};
 use crate::yoke::eval_plain;
 use decoder::tables::Table;
 use erased_row::answer::truth_of;
-use run::steps::Truth;
+use lingua::errors::Error;
 
 pub fn test(
     rows: &[u8],
@@ -21,7 +21,7 @@ pub fn test(
     states: &[u16],
     e: usize,
     stack: &mut [i64],
-) -> Truth
+) -> Result<bool, Error>
     requires has_store { HasStore rows.now t layout.now (lent cells.now states.now []) (λ a. TestRow rows.now a e) }
     requires e_lt_count { e < t.count }
     requires count_in_bounds { body_cells * (t.count + 1) ≤ length stack.old }

@@ -1,13 +1,14 @@
 // Yokes, and expressions outside yokes.
 ghost use Rattle.std.specs.Prelude.{◌+◌, ◌*◌, ◌<◌, ◌≤◌, length};
 ghost use Rattle.lingua.specs.Numbers.{body_cells};
+ghost use Rattle.lingua.specs.Faults.{number_of};
 ghost use Rattle.lingua.specs.Trees.{expression_tree, yoke_tree};
 ghost use Rattle.erased_row.specs.Meaning.{ReadyYoke, EvaluatesYoke, ReadyPlain, EvaluatesPlain};
 
 use crate::eval::eval;
 use decoder::tables::Table;
 use erased_row::answer::put_truth;
-use lingua::errors::NO_ERROR;
+use lingua::errors::Error;
 
 // What yoke y gives on a value: 0 is the yoke that is always true, another is the expression of row y - 1.
 pub fn eval_yoke(
@@ -19,15 +20,15 @@ pub fn eval_yoke(
     y: usize,
     current: &[i64],
     stack: &mut [i64],
-) -> u8
+) -> Result<(), Error>
     requires ready_yoke { ReadyYoke rows.now t layout.now cells.now states.now current.now (yoke_tree rows.now y) }
     requires y_le_count { y ≤ t.count }
     requires y_in_bounds { body_cells * (y + 1) ≤ length stack.old }
-    ensures { EvaluatesYoke rows.now t layout.now cells.now states.now current.now (yoke_tree rows.now y) result stack.new }
+    ensures { EvaluatesYoke rows.now t layout.now cells.now states.now current.now (yoke_tree rows.now y) (number_of result) stack.new }
 {
     if y == 0 {
         put_truth(true, stack);
-        return NO_ERROR;
+        return Ok(());
     }
     eval(y - 1, rows, t, layout, cells, states, current, stack)
 }
@@ -41,11 +42,11 @@ pub fn eval_plain(
     states: &[u16],
     row: usize,
     stack: &mut [i64],
-) -> u8
+) -> Result<(), Error>
     requires ready_plain { ReadyPlain rows.now t layout.now cells.now states.now (expression_tree rows.now row) }
     requires row_lt_count { row < t.count }
     requires row_in_bounds { body_cells * (row + 2) ≤ length stack.old }
-    ensures { EvaluatesPlain rows.now t layout.now cells.now states.now (expression_tree rows.now row) result stack.new }
+    ensures { EvaluatesPlain rows.now t layout.now cells.now states.now (expression_tree rows.now row) (number_of result) stack.new }
 {
     let current = [0i64; 1];
     eval(row, rows, t, layout, cells, states, &current, stack)

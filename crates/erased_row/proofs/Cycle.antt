@@ -30,12 +30,10 @@ use Rattle.profile.specs.Facts.{RowFacts, row_facts, row_tree, row_tree_lem, set
 use Rattle.decoder.specs.declared.tables.Table.{Table}
 use Rattle.cells.specs.Stack.{Leaves}
 use Rattle.cells.proofs.Operands.{leaves_as}
-use Rattle.run.specs.declared.steps.Truth.{Truth}
-use Rattle.run.specs.Reached.{Tells}
 use Rattle.run.specs.Memory.{Memory}
 use Rattle.erased_row.specs.Meaning.{World, Current, Passed, Ready, Evaluates, HasVariable, HasCurrent, UnaryRow, HasUnary, BinaryRow, HasBinary}
 use Rattle.erased_row.proofs.Leaving.{leaves_ok, leaves_fail, leaves_from}
-use Rattle.erased_row.proofs.Telling.{told, truth_is}
+use Rattle.erased_row.proofs.Telling.{truth_in, truth_is}
 use Rattle.erased_row.proofs.Passing.{PassedUnary, PassedBinary, constant_passed, variable_passed, current_passed, unary_passed, binary_passed, lazy_passed, choice_passed, table_of, sizes}
 use Rattle.erased_row.proofs.Stacking.{first_stays, second_lies}
 
@@ -164,24 +162,24 @@ module _ {rows : List ℕ} {t : Table} {layout : List ℕ} {cells : List ℤ} {s
       }
 
 -- ---- tests
-tested : {A : Type 0} (o : Result Value) (g : Bool → Result A) → (o >>= λ x. g (as_truth x)) ≡ (told o >>= g)
+tested : {A : Type 0} (o : Result Value) (g : Bool → Result A) → (o >>= λ x. g (as_truth x)) ≡ (truth_in o >>= g)
 tested (ok x) g = refl
 tested (fail n) g = refl
 
 -- where a Boolean was told, there was no error
-passed_zero : {s : List ℤ} {o : Result Value} (n : ℕ) (p : Truth) → Leaves n s boolean o → Tells p (told o) → p.error ≡ 0 → n ≡ 0
-passed_zero zero p h g e = refl
-passed_zero {s} {o} (suc k) p h g e =
-    let q : ◌≡◌ {A = Result Bool} (fail (suc k)) (ok p.holds) = ap (λ (r : Result Value). told r) (sym (h.error (λ z. let i : ⊥ = omega arith in i))) ∙ g.answer e in
+passed_zero : {s : List ℤ} {o : Result Value} (n : ℕ) (p : Bool) → Leaves n s boolean o → ok p ≡ truth_in o → n ≡ 0
+passed_zero zero p h g = refl
+passed_zero {s} {o} (suc k) p h g =
+    let q : ◌≡◌ {A = Result Bool} (fail (suc k)) (ok p) = ap (λ (r : Result Value). truth_in r) (sym (h.error (λ z. let i : ⊥ = omega arith in i))) ∙ sym g in
     let z : ◌≡◌ {A = ℕ} 0 1 = cc in
     absurd (let i : ⊥ = omega arith in i)
 
 -- a Boolean that was told is the value
-told_value : {n : ℕ} {s : List ℤ} {o : Result Value} (p : Truth) → Leaves n s boolean o → Tells p (told o) → p.error ≡ 0 → Leaves 0 s boolean (ok (truth p.holds))
-told_value {n} {s} {o} p h g e =
-    let a = h.answer (passed_zero n p h g e) in
-    let q : ◌≡◌ {A = Result Bool} (ok (as_truth a.value)) (ok p.holds) = ap (λ (r : Result Value). told r) (sym a.is) ∙ g.answer e in
-    let r : as_truth a.value ≡ p.holds = cc in
+told_value : {n : ℕ} {s : List ℤ} {o : Result Value} (p : Bool) → Leaves n s boolean o → ok p ≡ truth_in o → Leaves 0 s boolean (ok (truth p))
+told_value {n} {s} {o} p h g =
+    let a = h.answer (passed_zero n p h g) in
+    let q : ◌≡◌ {A = Result Bool} (ok (as_truth a.value)) (ok p) = ap (λ (r : Result Value). truth_in r) (sym a.is) ∙ sym g in
+    let r : as_truth a.value ≡ p = cc in
     leaves_ok a.value refl (ap {B = Result Value} (λ (t : Bool). ok (truth t)) (sym r) ∙ ap {B = Result Value} ok (truth_is a.lies.fit)) a.lies
 
 -- a Boolean's truth is the value
@@ -202,43 +200,44 @@ module _ {rows : List ℕ} {t : Table} {layout : List ℕ} {cells : List ℤ} {s
     pub lazy_next : Ready rows t layout cells states now (lazy row (connective settling) e f) → Ready rows t layout cells states now f
     lazy_next r = ready_with r (lazy_passed r.passed).second
 
-    module _ {n : ℕ} {s : List ℤ} (h : Evaluates rows t layout cells states now e n s) (p : Truth) (g : (o : Result Value) → Leaves n s boolean o → Tells p (told o)) where
+    module _ {n : ℕ} {s : List ℤ} (h : Evaluates rows t layout cells states now e n s) where
       rest : Result Value → Bool → Result Value
       rest q b = if beq b (settled_by (connective settling)) then ok (truth b) else (q >>= λ y. ok (truth (as_truth y)))
 
-      lazy_is : (vs : List Variable) (x : Value) → eval_erased (lazy row (connective settling) e f) (values_of (contents vs)) x ≡ (told (eval_erased e (values_of (contents vs)) x) >>= rest (eval_erased f (values_of (contents vs)) x))
+      lazy_is : (vs : List Variable) (x : Value) → eval_erased (lazy row (connective settling) e f) (values_of (contents vs)) x ≡ (truth_in (eval_erased e (values_of (contents vs)) x) >>= rest (eval_erased f (values_of (contents vs)) x))
       unfolding eval_erased rest
       lazy_is vs x = tested (eval_erased e (values_of (contents vs)) x) (λ b. if beq b (settled_by (connective settling)) then ok (truth b) else (eval_erased f (values_of (contents vs)) x >>= λ y. ok (truth (as_truth y))))
 
-      pub lazy_error : (after : List ℤ) → (p.error ≡ 0 → ⊥) → Evaluates rows t layout cells states now (lazy row (connective settling) e f) p.error after
-      lazy_error after z = record {
+      pub lazy_error : {m : ℕ} → ((o : Result Value) → Leaves n s boolean o → fail m ≡ truth_in o) → (after : List ℤ) → (m ≡ 0 → ⊥) → Evaluates rows t layout cells states now (lazy row (connective settling) e f) m after
+      lazy_error g after z = record {
         leaves = λ ds vs cur b x w c d.
-            leaves_fail z (lazy_is vs x ∙ ap {B = Result Value} (λ (o : Result Bool). o >>= rest (eval_erased f (values_of (contents vs)) x)) ((g _ (h.leaves ds vs cur boolean x w c (lazy_passed d).first)).error z));
+            leaves_fail z (lazy_is vs x ∙ ap {B = Result Value} (λ (o : Result Bool). o >>= rest (eval_erased f (values_of (contents vs)) x)) (sym (g _ (h.leaves ds vs cur boolean x w c (lazy_passed d).first))));
       }
 
       -- what was told decides
-      lazy_told : (vs : List Variable) (x : Value) (b : Bool) → Leaves n s boolean (eval_erased e (values_of (contents vs)) x) → p.error ≡ 0 → beq p.holds settling ≡ b
-          → eval_erased (lazy row (connective settling) e f) (values_of (contents vs)) x ≡ (if b then ok (truth p.holds) else (eval_erased f (values_of (contents vs)) x >>= λ y. ok (truth (as_truth y))))
-      unfolding rest
-      lazy_told vs x b k z q =
-          lazy_is vs x
-          ∙ ap {B = Result Value} (λ (o : Result Bool). o >>= rest (eval_erased f (values_of (contents vs)) x)) ((g _ k).answer z)
-          ∙ ap {B = Result Value} (λ (v : Bool). if v then ok (truth p.holds) else (eval_erased f (values_of (contents vs)) x >>= λ y. ok (truth (as_truth y)))) (settled_by_lem p.holds settling b q)
+      module _ {p : Bool} (g : (o : Result Value) → Leaves n s boolean o → ok p ≡ truth_in o) where
+        lazy_told : (vs : List Variable) (x : Value) (b : Bool) → Leaves n s boolean (eval_erased e (values_of (contents vs)) x) → beq p settling ≡ b
+            → eval_erased (lazy row (connective settling) e f) (values_of (contents vs)) x ≡ (if b then ok (truth p) else (eval_erased f (values_of (contents vs)) x >>= λ y. ok (truth (as_truth y))))
+        unfolding rest
+        lazy_told vs x b k q =
+            lazy_is vs x
+            ∙ ap {B = Result Value} (λ (o : Result Bool). o >>= rest (eval_erased f (values_of (contents vs)) x)) (sym (g _ k))
+            ∙ ap {B = Result Value} (λ (v : Bool). if v then ok (truth p) else (eval_erased f (values_of (contents vs)) x >>= λ y. ok (truth (as_truth y)))) (settled_by_lem p settling b q)
 
-      pub lazy_settled : p.error ≡ 0 → beq p.holds settling ≡ true → Evaluates rows t layout cells states now (lazy row (connective settling) e f) 0 s
-      lazy_settled z q = record {
-        leaves = λ ds vs cur b x w c d.
-            let u = lazy_passed d in
-            let k = h.leaves ds vs cur boolean x w c u.first in
-            leaves_as (sym u.is) (leaves_from (sym (lazy_told vs x true k z q)) (told_value p k (g _ k) z));
-      }
+        pub lazy_settled : beq p settling ≡ true → Evaluates rows t layout cells states now (lazy row (connective settling) e f) 0 s
+        lazy_settled q = record {
+          leaves = λ ds vs cur b x w c d.
+              let u = lazy_passed d in
+              let k = h.leaves ds vs cur boolean x w c u.first in
+              leaves_as (sym u.is) (leaves_from (sym (lazy_told vs x true k q)) (told_value p k (g _ k)));
+        }
 
-      pub lazy_second : {m : ℕ} {after : List ℤ} → p.error ≡ 0 → beq p.holds settling ≡ false → Evaluates rows t layout cells states now f m after → Evaluates rows t layout cells states now (lazy row (connective settling) e f) m after
-      lazy_second z q i = record {
-        leaves = λ ds vs cur b x w c d.
-            let u = lazy_passed d in
-            leaves_as (sym u.is) (leaves_from (sym (lazy_told vs x false (h.leaves ds vs cur boolean x w c u.first) z q)) (as_truth_lem (i.leaves ds vs cur boolean x w c u.second)));
-      }
+        pub lazy_second : {m : ℕ} {after : List ℤ} → beq p settling ≡ false → Evaluates rows t layout cells states now f m after → Evaluates rows t layout cells states now (lazy row (connective settling) e f) m after
+        lazy_second q i = record {
+          leaves = λ ds vs cur b x w c d.
+              let u = lazy_passed d in
+              leaves_as (sym u.is) (leaves_from (sym (lazy_told vs x false (h.leaves ds vs cur boolean x w c u.first) q)) (as_truth_lem (i.leaves ds vs cur boolean x w c u.second)));
+        }
 
   -- ---- choice
   module _ (e f g : Expression) where
@@ -251,40 +250,40 @@ module _ {rows : List ℕ} {t : Table} {layout : List ℕ} {cells : List ℤ} {s
     pub choice_other : Ready rows t layout cells states now (choice row e f g) → Ready rows t layout cells states now g
     choice_other r = ready_with r (choice_passed r.passed).no
 
-    module _ {n : ℕ} {s : List ℤ} (h : Evaluates rows t layout cells states now e n s) (p : Truth) (k : (o : Result Value) → Leaves n s boolean o → Tells p (told o)) where
+    module _ {n : ℕ} {s : List ℤ} (h : Evaluates rows t layout cells states now e n s) where
       chosen : List Variable → Value → Bool → Result Value
       chosen vs x b = if b then eval_erased f (values_of (contents vs)) x else eval_erased g (values_of (contents vs)) x
 
-      choice_is : (vs : List Variable) (x : Value) → eval_erased (choice row e f g) (values_of (contents vs)) x ≡ (told (eval_erased e (values_of (contents vs)) x) >>= chosen vs x)
+      choice_is : (vs : List Variable) (x : Value) → eval_erased (choice row e f g) (values_of (contents vs)) x ≡ (truth_in (eval_erased e (values_of (contents vs)) x) >>= chosen vs x)
       unfolding eval_erased chosen
       choice_is vs x = tested (eval_erased e (values_of (contents vs)) x) (λ b. if b then eval_erased f (values_of (contents vs)) x else eval_erased g (values_of (contents vs)) x)
 
-      pub choice_error : (after : List ℤ) → (p.error ≡ 0 → ⊥) → Evaluates rows t layout cells states now (choice row e f g) p.error after
-      choice_error after z = record {
+      pub choice_error : {m : ℕ} → ((o : Result Value) → Leaves n s boolean o → fail m ≡ truth_in o) → (after : List ℤ) → (m ≡ 0 → ⊥) → Evaluates rows t layout cells states now (choice row e f g) m after
+      choice_error k after z = record {
         leaves = λ ds vs cur b x w c d.
-            leaves_fail z (choice_is vs x ∙ ap {B = Result Value} (λ (o : Result Bool). o >>= chosen vs x) ((k _ (h.leaves ds vs cur boolean x w c (choice_passed d).test)).error z));
+            leaves_fail z (choice_is vs x ∙ ap {B = Result Value} (λ (o : Result Bool). o >>= chosen vs x) (sym (k _ (h.leaves ds vs cur boolean x w c (choice_passed d).test))));
       }
 
       -- what was told decides
-      choice_told : (vs : List Variable) (x : Value) (b : Bool) → Leaves n s boolean (eval_erased e (values_of (contents vs)) x) → p.error ≡ 0 → p.holds ≡ b
-          → eval_erased (choice row e f g) (values_of (contents vs)) x ≡ (if b then eval_erased f (values_of (contents vs)) x else eval_erased g (values_of (contents vs)) x)
-      unfolding chosen
-      choice_told vs x b l z q =
-          choice_is vs x
-          ∙ ap {B = Result Value} (λ (o : Result Bool). o >>= chosen vs x) ((k _ l).answer z)
-          ∙ ap {B = Result Value} (λ (v : Bool). if v then eval_erased f (values_of (contents vs)) x else eval_erased g (values_of (contents vs)) x) q
+      module _ {p : Bool} (k : (o : Result Value) → Leaves n s boolean o → ok p ≡ truth_in o) where
+        choice_told : (vs : List Variable) (x : Value) (b : Bool) → Leaves n s boolean (eval_erased e (values_of (contents vs)) x) → p ≡ b
+            → eval_erased (choice row e f g) (values_of (contents vs)) x ≡ (if b then eval_erased f (values_of (contents vs)) x else eval_erased g (values_of (contents vs)) x)
+        unfolding chosen
+        choice_told vs x b l q =
+            choice_is vs x
+            ∙ ap {B = Result Value} (λ (o : Result Bool). o >>= chosen vs x) (sym (k _ l))
+            ∙ ap {B = Result Value} (λ (v : Bool). if v then eval_erased f (values_of (contents vs)) x else eval_erased g (values_of (contents vs)) x) q
 
-      module _ {m : ℕ} {after : List ℤ} (z : p.error ≡ 0) where
-        pub choice_yes : p.holds ≡ true → Evaluates rows t layout cells states now f m after → Evaluates rows t layout cells states now (choice row e f g) m after
+        pub choice_yes : {m : ℕ} {after : List ℤ} → p ≡ true → Evaluates rows t layout cells states now f m after → Evaluates rows t layout cells states now (choice row e f g) m after
         choice_yes q i = record {
           leaves = λ ds vs cur b x w c d.
               let u = choice_passed d in
-              leaves_from (sym (choice_told vs x true (h.leaves ds vs cur boolean x w c u.test) z q)) (i.leaves ds vs cur b x w c u.yes);
+              leaves_from (sym (choice_told vs x true (h.leaves ds vs cur boolean x w c u.test) q)) (i.leaves ds vs cur b x w c u.yes);
         }
 
-        pub choice_no : p.holds ≡ false → Evaluates rows t layout cells states now g m after → Evaluates rows t layout cells states now (choice row e f g) m after
+        pub choice_no : {m : ℕ} {after : List ℤ} → p ≡ false → Evaluates rows t layout cells states now g m after → Evaluates rows t layout cells states now (choice row e f g) m after
         choice_no q i = record {
           leaves = λ ds vs cur b x w c d.
               let u = choice_passed d in
-              leaves_from (sym (choice_told vs x false (h.leaves ds vs cur boolean x w c u.test) z q)) (i.leaves ds vs cur b x w c u.no);
+              leaves_from (sym (choice_told vs x false (h.leaves ds vs cur boolean x w c u.test) q)) (i.leaves ds vs cur b x w c u.no);
         }

@@ -1,5 +1,11 @@
 -- What a result leaves: an error that is handed on, an answer, and the same of equal results. Assumes nothing.
-use mathlib.Core.Path.{◌≡◌, ap, subst}
+use mathlib.Core.Path.{◌≡◌, sym, ap, subst, ◌∙◌}
+use native.Mathlib.Omega.{arith}
+use Rattle.std.specs.Prelude as std
+use Rattle.std.specs.Prelude.{IsErrAnd}
+use Rattle.lingua.specs.declared.errors.Error.{Error}
+use Rattle.lingua.specs.Faults.{error_number, number_of}
+use Rattle.laws.specs.Faults.{error_number_counted, passed_on}
 use mathlib.Core.List.{List}
 use Prim.Native.Nat.{ℕ}
 use lib.IntN.{ℤ}
@@ -21,3 +27,17 @@ leaves_from {n} {s} {b} e h = subst (λ (q : Result Value). Leaves n s b q) e h
 -- an operand's error is the result's
 pub handed_on : {n : ℕ} {s : List ℤ} {c : Body} {p : Result Value} (after : List ℤ) (b : Body) (f : Value → Result Value) → Leaves n s c p → (n ≡ 0 → ⊥) → Leaves n after b (p >>= f)
 handed_on after b f h e = leaves_fail e (ap (λ (o : Result Value). o >>= f) (h.error e))
+
+-- ---- an error that `?` passes on
+pub no_zero : (e : Error) → error_number e ≡ 0 → ⊥
+no_zero e z = omega (arith, error_number_counted e)
+
+pub some_error : {A : Type 0} {a : std.Result A Error} {e : Error} → a ≡ std.Err e → number_of a ≡ 0 → ⊥
+some_error {e = e} is z = no_zero e (sym (ap number_of is) ∙ z)
+
+pub same_number : {A B : Type 0} {a : std.Result A Error} {e : Error} (r : std.Result B Error) → a ≡ std.Err e → IsErrAnd r (λ x. x ≡ e) → number_of a ≡ number_of r
+same_number {e = e} r is passed = ap number_of is ∙ sym (passed_on r e passed)
+
+-- it is the result's
+pub passes : {s : List ℤ} {c : Body} {p : Result Value} {a : std.Result (Unit {0}) Error} {e : Error} (r : std.Result (Unit {0}) Error) (after : List ℤ) (b : Body) (f : Value → Result Value) → Leaves (number_of a) s c p → a ≡ std.Err e → IsErrAnd r (λ x. x ≡ e) → Leaves (number_of r) after b (p >>= f)
+passes {p = p} r after b f h is passed = subst (λ (n : ℕ). Leaves n after b (p >>= f)) (same_number r is passed) (handed_on after b f h (some_error is))

@@ -1,11 +1,15 @@
 -- A leaf of one cell, put at the stack's front: the same as its cells copied there. Assumes nothing.
-use mathlib.Core.Path.{◌≡◌, refl}
+use mathlib.Core.Path.{◌≡◌, refl, sym, ap, subst, ◌∙◌}
+use Rattle.std.specs.Prelude as std
+use Rattle.lingua.specs.declared.errors.Error.{Error}
+use Rattle.lingua.specs.Faults.{number_of}
 use mathlib.Core.Bool.{true}
 use mathlib.Core.List.{List}
-use Prim.Native.Nat.{ℕ, ◌*◌, ◌<◌}
+use Prim.Native.Nat.{ℕ, ◌+◌, ◌*◌, ◌<◌}
 use native.Mathlib.Omega.{arith}
 use lib.IntN.{ℤ, pos}
-use lib.ListN.{length, get_or, set}
+use lib.ListN.{length, get_or, set, drop, length-drop}
+use lib.Seq.{get_or-drop, paste, paste-zero, paste-suc}
 use Rattle.lingua.specs.Numbers.{body_cells}
 use Rattle.lingua.specs.Errors.{not_filled}
 use Rattle.lingua.specs.Outcome.{ok, or_fail}
@@ -18,20 +22,26 @@ use Rattle.lingua.specs.Erased.{values_of}
 use Rattle.decoder.specs.declared.tables.Table.{Table}
 use Rattle.cells.specs.Stack.{Leaves}
 use Rattle.run.specs.Memory.{Memory}
-use Rattle.run.proofs.Copying.{one_cell}
 use Rattle.run.proofs.Parts.{cells_room}
-use Rattle.erased_row.specs.Meaning.{Current, Evaluates, EvaluatesUnless, no_leaf}
+use Rattle.erased_row.specs.Meaning.{Current, Evaluates, EvaluatesUnless}
 use Rattle.erased_row.proofs.Storing.{current_room, leaves_current, filled_there, leaves_filled}
 
 -- ---- answered, or left to the evaluation
 module _ {rows : List ℕ} {t : Table} {layout : List ℕ} {cells : List ℤ} {states : List ℕ} {now : List ℤ} {e : Expression} {s : List ℤ} where
-  pub at_once : {n : ℕ} → Evaluates rows t layout cells states now e n s → EvaluatesUnless rows t layout cells states now e n s
-  at_once h = record { evaluates = λ f. h }
+  pub at_once : {a : std.Result (Unit {0}) Error} → Evaluates rows t layout cells states now e (number_of a) s → EvaluatesUnless rows t layout cells states now e (std.Some a) s
+  at_once {a} h = record { evaluates = λ b q. let k : a ≡ b = cc in subst (λ (r : std.Result (Unit {0}) Error). Evaluates rows t layout cells states now e (number_of r) s) k h }
 
-  pub left_over : EvaluatesUnless rows t layout cells states now e no_leaf s
-  left_over = record { evaluates = λ f. absurd (f refl) }
+  pub left_over : EvaluatesUnless rows t layout cells states now e std.None s
+  left_over = record { evaluates = λ b q. let k : ⊥ = cc in absurd k }
 
 -- ---- the cell
+one_cell : (s from : List ℤ) (at n : ℕ) (z : ℤ) → z ≡ get_or from at (pos 0) → n ≡ 1 → 0 < length s → at < length from → set s 0 z ≡ paste s 0 (drop at from) n
+one_cell s from at n z e f h k =
+    ap (λ (x : ℤ). set s 0 x) (e ∙ ap (λ (j : ℕ). get_or from j (pos 0)) (let j : at ≡ at + 0 = omega arith in j) ∙ sym (get_or-drop at from 0 (pos 0)))
+    ∙ ap (λ (x : List ℤ). set x 0 (get_or (drop at from) 0 (pos 0))) (paste-zero s 0 (drop at from))
+    ∙ paste-suc s 0 (drop at from) 0 (pos 0) (omega arith) (omega (arith, length-drop at from))
+    ∙ ap (λ (m : ℕ). paste s 0 (drop at from) m) (let m : 1 ≡ n = omega (arith, f) in m)
+
 pub current_cell : {current : List ℤ} {b : Body} {x : Value} → Current current b x → 1 ≡ size b → 0 < length current
 current_cell h m = omega (arith, (current_room 1 h m).0)
 

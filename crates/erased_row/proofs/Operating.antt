@@ -1,5 +1,9 @@
 -- An operation on evaluated operands, from its half on values. Assumes nothing.
-use mathlib.Core.Path.{◌≡◌, sym, ap, ◌∙◌}
+use mathlib.Core.Path.{◌≡◌, sym, ap, subst, ◌∙◌}
+use Rattle.std.specs.Prelude as std
+use Rattle.std.specs.Prelude.{IsErrAnd}
+use Rattle.lingua.specs.declared.errors.Error.{Error}
+use Rattle.lingua.specs.Faults.{number_of}
 use mathlib.Core.List.{List}
 use Prim.Native.Nat.{ℕ, ◌+◌, ◌*◌}
 use lib.ListN.{drop, get_or}
@@ -14,7 +18,7 @@ use Rattle.cells.specs.Stack.{Lies, Leaves}
 use Rattle.cells.proofs.Operands.{lies_above}
 use Rattle.cells.specs.Operands.{Operand, HasOperand, Operands, HasOperands}
 use Rattle.erased_row.specs.Meaning.{UnaryRow, HasUnary, BinaryRow, HasBinary}
-use Rattle.erased_row.proofs.Leaving.{leaves_fail, leaves_from}
+use Rattle.erased_row.proofs.Leaving.{leaves_fail, leaves_from, some_error, same_number}
 
 -- ---- one operand
 module _ {layout : List ℕ} {o : Unary} {row a : ℕ} {s : List ℤ} (cells result offset : ℕ) (ec : cells ≡ get_or layout (2 * a) 0) (er : result ≡ get_or layout (2 * row) 0) (eo : offset ≡ get_or layout (2 * row + 1) 0) where
@@ -54,9 +58,12 @@ module _ {layout : List ℕ} {o : Binary} {row a b : ℕ} {s : List ℤ} (cells 
       (f _ _ _ _ _ (operands_of_lem u k.lies l.lies))
 
 -- the second operand's error, where the first has none
-pub second_error : {n m : ℕ} {s t : List ℤ} {c d : Body} {p q : Result Value} (after : List ℤ) (g : Body) (f : Value → Value → Result Value) → Leaves n s c p → Leaves m t d q → n ≡ 0 → (m ≡ 0 → ⊥) → Leaves m after g (p >>= λ x. q >>= λ y. f x y)
+second_error : {n m : ℕ} {s t : List ℤ} {c d : Body} {p q : Result Value} (after : List ℤ) (g : Body) (f : Value → Value → Result Value) → Leaves n s c p → Leaves m t d q → n ≡ 0 → (m ≡ 0 → ⊥) → Leaves m after g (p >>= λ x. q >>= λ y. f x y)
 second_error {q = q} after g f h k e z =
     let a = h.answer e in
     leaves_fail z
     (ap {B = Result Value} (λ (t : Result Value). t >>= λ x. q >>= λ y. f x y) a.is
     ∙ ap {B = Result Value} (λ (t : Result Value). t >>= λ y. f a.value y) (k.error z))
+
+pub second_passes : {n : ℕ} {s t : List ℤ} {c d : Body} {p q : Result Value} {a : std.Result (Unit {0}) Error} {e : Error} (r : std.Result (Unit {0}) Error) (after : List ℤ) (g : Body) (f : Value → Value → Result Value) → Leaves n s c p → Leaves (number_of a) t d q → n ≡ 0 → a ≡ std.Err e → IsErrAnd r (λ x. x ≡ e) → Leaves (number_of r) after g (p >>= λ x. q >>= λ y. f x y)
+second_passes {p = p} {q = q} r after g f h k z is passed = subst (λ (n : ℕ). Leaves n after g (p >>= λ x. q >>= λ y. f x y)) (same_number r is passed) (second_error after g f h k z (some_error is))

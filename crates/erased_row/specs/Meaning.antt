@@ -1,7 +1,10 @@
 -- What the code of the erased run holds and gives: bare numbers, the layout table, and no body. The bodies stand in the premises alone, as the
 -- type check found them. Assumes nothing: these are definitions.
 use Rattle.std.specs.Prelude.{◌≡◌, Bool, true, List, ℕ, suc, ◌+◌, ◌*◌, ◌≤◌, ◌<◌, ℤ, length, drop, get_or}
+use Rattle.std.specs.Prelude as std
 use Rattle.std.proofs.Math.Option.{some}
+use Rattle.lingua.specs.declared.errors.Error.{Error}
+use Rattle.lingua.specs.Faults.{number_of}
 use Rattle.lingua.specs.Numbers.{body_cells, expression_section, instruction_section, scope_table, layout_length, most_variables, limit_cells, declaration_section}
 use Rattle.lingua.specs.Outcome.{ok, Result, ◌>>=◌, all_answers}
 use Rattle.lingua.specs.Body.{Body, boolean, is_quantity, size}
@@ -101,13 +104,9 @@ pub record EvaluatesPlain (rows : List ℕ) (t : Table) (layout : List ℕ) (cel
   pub leaves : (ds : List Declaration) (vs : List Variable) (b : Body) → World rows t layout cells states ds vs → Passed layout ds e no_current_body b
       → Leaves r stack b (eval_erased e (values_of (contents vs)) no_current.value)
 
--- the number that says: not a leaf of one cell
-abbrev pub no_leaf : ℕ
-no_leaf = 255
-
--- what evaluation gives, of any other number
-pub record EvaluatesUnless (rows : List ℕ) (t : Table) (layout : List ℕ) (cells : List ℤ) (states : List ℕ) (current : List ℤ) (e : Expression) (r : ℕ) (stack : List ℤ) : Type 0 where
-  pub evaluates : (r ≡ no_leaf → ⊥) → Evaluates rows t layout cells states current e r stack
+-- what evaluation gives, where a result is told at all
+pub record EvaluatesUnless (rows : List ℕ) (t : Table) (layout : List ℕ) (cells : List ℤ) (states : List ℕ) (current : List ℤ) (e : Expression) (r : std.Option (std.Result (Unit {0}) Error)) (stack : List ℤ) : Type 0 where
+  pub evaluates : (a : std.Result (Unit {0}) Error) → r ≡ std.Some a → Evaluates rows t layout cells states current e (number_of a) stack
 
 -- the first error of an all-list yoke's results, or whether all are true
 unfoldable pub all_told : List (Result Value) → Result Bool

@@ -1,7 +1,8 @@
 // Expressions without operands: a constant, a variable, the current value. Each puts its cells at the stack's front.
 ghost use Rattle.std.specs.Prelude.{◌≡◌, List, ◌+◌, ◌*◌, ◌<◌, ◌≤◌, length, get_or};
 ghost use Rattle.lingua.specs.Numbers.{expression_section, body_cells};
-ghost use Rattle.lingua.specs.Errors.{not_filled};
+ghost use Rattle.lingua.specs.Errors.{no_error, not_filled};
+ghost use Rattle.lingua.specs.Faults.{number_of};
 ghost use Rattle.lingua.specs.Outcome.{ok, or_fail};
 ghost use Rattle.lingua.specs.Body.{Body, size};
 ghost use Rattle.lingua.specs.Value.{Value};
@@ -17,22 +18,20 @@ ghost use Rattle.erased_row.specs.Meaning.{Current, HasCurrent, HasVariable};
 
 use crate::layout::size_at;
 use decoder::tables::Table;
-use lingua::errors::{NO_ERROR, NOT_FILLED};
+use lingua::errors::Error;
 use lingua::sizes::BODY_CELLS;
 use profile::constants::constant_cell;
 use run::copies::copy;
 use run::words::is_filled;
 
 // A constant takes one cell.
-pub fn constant(rows: &[u8], t: Table, row: usize, stack: &mut [i64]) -> u8
+pub fn constant(rows: &[u8], t: Table, row: usize, stack: &mut [i64])
     requires table { IsTable rows.now expression_section t }
     requires row_lt_count { row < t.count }
     requires constant_row { ConstantRow rows.now row × (0 < length stack.old) }
-    ensures { Leaves result stack.new (constant_of rows.now row).body (ok (constant_of rows.now row).value) }
+    ensures { Leaves no_error stack.new (constant_of rows.now row).body (ok (constant_of rows.now row).value) }
 {
-    let cell = constant_cell(rows, t, row);
-    stack[0] = cell;
-    NO_ERROR
+    stack[0] = constant_cell(rows, t, row);
 }
 
 // The value of variable n, of as many cells as the layout table says. The flag is asked first: one behind the store's variables is not set.
@@ -43,29 +42,28 @@ pub fn fetch(
     row: usize,
     n: usize,
     stack: &mut [i64],
-) -> u8
+) -> Result<(), Error>
     requires has_variable { HasVariable cells.now states.now n (get_or layout.now (2 * row) 0) }
     requires row_in_bounds { 2 * row + 1 < length layout.now }
     requires body_cells_in_bounds { body_cells ≤ length stack.old }
     ensures { (vs : List Variable) (vars : Bodies) → Memory cells.now states.now vs vars → get_or layout.now (2 * row) 0 ≡ size (vars n)
-        → Leaves result stack.new (vars n) (or_fail (values_of (contents vs) n) not_filled) }
+        → Leaves (number_of result) stack.new (vars n) (or_fail (values_of (contents vs) n) not_filled) }
 {
     if !is_filled(states, n) {
-        return NOT_FILLED;
+        return Err(Error::NotFilled);
     }
     let size = size_at(layout, row);
     copy(cells, BODY_CELLS * n, size, stack);
-    NO_ERROR
+    Ok(())
 }
 
 // The current value.
-pub fn copied(layout: &[u16], row: usize, current: &[i64], stack: &mut [i64]) -> u8
+pub fn copied(layout: &[u16], row: usize, current: &[i64], stack: &mut [i64])
     requires has_current { HasCurrent current.now (get_or layout.now (2 * row) 0) }
     requires row_in_bounds { 2 * row + 1 < length layout.now }
     requires body_cells_in_bounds { body_cells ≤ length stack.old }
-    ensures { (b : Body) (x : Value) → Current current.now b x → get_or layout.now (2 * row) 0 ≡ size b → Leaves result stack.new b (ok x) }
+    ensures { (b : Body) (x : Value) → Current current.now b x → get_or layout.now (2 * row) 0 ≡ size b → Leaves no_error stack.new b (ok x) }
 {
     let size = size_at(layout, row);
     copy(current, 0, size, stack);
-    NO_ERROR
 }

@@ -1,6 +1,7 @@
 // An operation on evaluated operands: the first error, or what the values' half gives with the layout table's numbers.
 ghost use Rattle.std.specs.Prelude.{◌+◌, ◌*◌, ◌<◌, ◌≤◌, length, drop};
 ghost use Rattle.lingua.specs.Numbers.{body_cells};
+ghost use Rattle.lingua.specs.Faults.{number_of};
 ghost use Rattle.lingua.specs.Outcome.{Result, ◌>>=◌ as bind};
 ghost use Rattle.lingua.specs.Body.{Body};
 ghost use Rattle.lingua.specs.Value.{Value};
@@ -10,27 +11,25 @@ ghost use Rattle.cells.specs.Stack.{Leaves};
 ghost use Rattle.erased_row.specs.Meaning.{UnaryRow, HasUnary, BinaryRow, HasBinary};
 
 use crate::layout::{second_at, size_at};
-use lingua::errors::NO_ERROR;
+use lingua::errors::Error;
 use lingua::operations::{BinaryOperation, UnaryOperation};
 
 // The operand is that of row a, evaluated.
 pub fn unary(
     o: UnaryOperation,
-    error: u8,
+    operand: Result<(), Error>,
     layout: &[u16],
     row: usize,
     a: usize,
     stack: &mut [i64],
-) -> u8
-    requires has_unary { HasUnary layout.now (unary_meaning o) row a error stack.old }
+) -> Result<(), Error>
+    requires has_unary { HasUnary layout.now (unary_meaning o) row a (number_of operand) stack.old }
     requires row_in_bounds { (2 * row + 1 < length layout.now) × (2 * a + 1 < length layout.now) }
     requires body_cells_in_bounds { body_cells ≤ length stack.old }
-    ensures { (c b : Body) (p : Result Value) → UnaryRow layout.now (unary_meaning o) row a c b → Leaves error stack.old c p
-        → Leaves result stack.new b (bind p (λ x. unary_value (unary_meaning o) x)) }
+    ensures { (c b : Body) (p : Result Value) → UnaryRow layout.now (unary_meaning o) row a c b → Leaves (number_of operand) stack.old c p
+        → Leaves (number_of result) stack.new b (bind p (λ x. unary_value (unary_meaning o) x)) }
 {
-    if error != NO_ERROR {
-        return error;
-    }
+    operand?;
     let size = size_at(layout, a);
     let result = size_at(layout, row);
     let offset = second_at(layout, row);
@@ -40,26 +39,22 @@ pub fn unary(
 // The operands are those of rows a and b, evaluated. The second lies 64 cells up the stack.
 pub fn binary(
     o: BinaryOperation,
-    first: u8,
-    second: u8,
+    first: Result<(), Error>,
+    second: Result<(), Error>,
     layout: &[u16],
     row: usize,
     a: usize,
     b: usize,
     stack: &mut [i64],
-) -> u8
-    requires has_binary { HasBinary layout.now (binary_meaning o) row a b first second stack.old }
+) -> Result<(), Error>
+    requires has_binary { HasBinary layout.now (binary_meaning o) row a b (number_of first) (number_of second) stack.old }
     requires row_in_bounds { (2 * row + 1 < length layout.now) × (2 * a + 1 < length layout.now) × (2 * b + 1 < length layout.now) }
     requires body_cells_in_bounds { body_cells + body_cells ≤ length stack.old }
-    ensures { (c d g : Body) (p q : Result Value) → BinaryRow layout.now (binary_meaning o) row a b c d g → Leaves first stack.old c p → Leaves second (drop body_cells stack.old) d q
-        → Leaves result stack.new g (bind p (λ x. bind q (λ y. binary_value (binary_meaning o) x y))) }
+    ensures { (c d g : Body) (p q : Result Value) → BinaryRow layout.now (binary_meaning o) row a b c d g → Leaves (number_of first) stack.old c p → Leaves (number_of second) (drop body_cells stack.old) d q
+        → Leaves (number_of result) stack.new g (bind p (λ x. bind q (λ y. binary_value (binary_meaning o) x y))) }
 {
-    if first != NO_ERROR {
-        return first;
-    }
-    if second != NO_ERROR {
-        return second;
-    }
+    first?;
+    second?;
     let size = size_at(layout, a);
     let others = size_at(layout, b);
     let place = second_at(layout, row);

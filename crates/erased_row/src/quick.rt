@@ -8,16 +8,13 @@ ghost use Rattle.erased_row.specs.Meaning.{Ready, EvaluatesUnless};
 use crate::layout::size_at;
 use decoder::decode::ExpressionRow;
 use decoder::tables::Table;
-use lingua::errors::{NO_ERROR, NOT_FILLED};
+use lingua::errors::Error;
 use lingua::sizes::BODY_CELLS;
 use profile::constants::constant_cell;
 use profile::row::expression_row;
 use run::words::is_filled;
 
-// Not a leaf of one cell. No error has this number.
-pub const NO_LEAF: u8 = 255;
-
-// What the expression of a row gives, if it is a leaf of one cell: 0 and its cell at the stack's front, or its error.
+// What the expression of a row gives, if it is a leaf of one cell: that cell at the stack's front, or its error. Any other row gives none.
 pub fn leaf(
     row: usize,
     rows: &[u8],
@@ -27,7 +24,7 @@ pub fn leaf(
     states: &[u16],
     current: &[i64],
     stack: &mut [i64],
-) -> u8
+) -> Option<Result<(), Error>>
     requires ready { Ready rows.now t layout.now cells.now states.now current.now (expression_tree rows.now row) }
     requires row_lt_count { row < t.count }
     requires row_in_bounds { body_cells * (row + 2) ≤ length stack.old }
@@ -37,29 +34,25 @@ pub fn leaf(
     match says {
         ExpressionRow::Constant(_) => {
             stack[0] = constant_cell(rows, t, row);
-            NO_ERROR
+            Some(Ok(()))
         }
         ExpressionRow::Variable(n) => {
             if size_at(layout, row) != 1 {
-                return NO_LEAF;
+                return None;
             }
             if !is_filled(states, n) {
-                return NOT_FILLED;
+                return Some(Err(Error::NotFilled));
             }
             stack[0] = cells[BODY_CELLS * n];
-            NO_ERROR
+            Some(Ok(()))
         }
         ExpressionRow::Current => {
             if size_at(layout, row) == 1 {
                 stack[0] = current[0];
-                return NO_ERROR;
+                return Some(Ok(()));
             }
-            NO_LEAF
+            None
         }
-        ExpressionRow::Unary(_, _) => NO_LEAF,
-        ExpressionRow::Binary(_, _, _) => NO_LEAF,
-        ExpressionRow::Lazy(_, _, _) => NO_LEAF,
-        ExpressionRow::Choice(_, _, _) => NO_LEAF,
-        ExpressionRow::AllList(_) => NO_LEAF,
+        _ => None,
     }
 }

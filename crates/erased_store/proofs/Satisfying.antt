@@ -1,5 +1,5 @@
 -- Whether a value satisfies a yoke, by what the yoke was told; and whether a variable takes a new one. Assumes nothing.
-use mathlib.Core.Path.{◌≡◌, refl, sym, ap, ◌∙◌, subst}
+use mathlib.Core.Path.{◌≡◌, refl, sym, ap, subst}
 use mathlib.Core.Bool.{Bool, true, false}
 use mathlib.Core.List.{List}
 use mathlib.Core.Option.{Option, some}
@@ -20,42 +20,37 @@ use Rattle.lingua.specs.Erased.{value_in, values_of, yoke_erased, yoke_holds_era
 use Rattle.decoder.specs.declared.tables.Table.{Table}
 use Rattle.cells.specs.Stack.{Leaves}
 use Rattle.cells.proofs.Operands.{lies_as}
-use Rattle.run.specs.declared.steps.Truth.{Truth}
-use Rattle.run.specs.Reached.{Tells}
 use Rattle.run.specs.Memory.{Admits}
 use Rattle.run.proofs.Admitting.{admits_error, admits_ok}
 use Rattle.run.proofs.Parts.{unfilled_is, filled_is, filled, part_lies}
 use Rattle.erased_row.specs.Meaning.{World, Current, ReadyYoke, EvaluatesYoke}
 use Rattle.erased_store.specs.Meaning.{AdmitsValue, HasChange, AdmitsYoke}
 use Rattle.erased_row.proofs.Cycle.{memory_of}
-use Rattle.erased_row.proofs.Telling.{told}
+use Rattle.erased_row.proofs.Telling.{truth_in}
 
 -- ---- what the yoke was told
-truth_asked : (o : Result Value) → (o >>= λ t. require (as_truth t) yoke_not_satisfied) ≡ (told o >>= λ b. require b yoke_not_satisfied)
+truth_asked : (o : Result Value) → (o >>= λ t. require (as_truth t) yoke_not_satisfied) ≡ (truth_in o >>= λ b. require b yoke_not_satisfied)
 truth_asked (ok v) = refl
 truth_asked (fail n) = refl
 
-module _ {rows : List ℕ} {t : Table} {layout : List ℕ} {cells : List ℤ} {states : List ℕ} {value : List ℤ} {y : Yoke} {n : ℕ} {s : List ℤ} (h : EvaluatesYoke rows t layout cells states value y n s)
-    (p : Truth) (f : (o : Result Value) → Leaves n s boolean o → Tells p (told o)) where
-  by_truth : (r : ℕ) → ((o : Result Bool) → Tells p o → Admits r (o >>= λ b. require b yoke_not_satisfied)) → AdmitsValue rows t layout cells states value y r
+module _ {rows : List ℕ} {t : Table} {layout : List ℕ} {cells : List ℤ} {states : List ℕ} {value : List ℤ} {y : Yoke} {n : ℕ} {s : List ℤ} (h : EvaluatesYoke rows t layout cells states value y n s) where
+  by_truth : (q : Result Bool) (r : ℕ) → ((o : Result Value) → Leaves n s boolean o → q ≡ truth_in o) → Admits r (q >>= λ b. require b yoke_not_satisfied) → AdmitsValue rows t layout cells states value y r
   unfolding yoke_holds_erased
-  by_truth r g = record {
+  by_truth q r f g = record {
     admits = λ ds vs cur x w c d.
         let o = yoke_erased y (values_of (contents vs)) x in
-        subst (λ (u : Result (Unit {0})). Admits r u) (sym (truth_asked o)) (g (told o) (f o (h.leaves ds vs cur x w c d)));
+        subst (λ (u : Result (Unit {0})). Admits r u) (sym (truth_asked o)) (subst (λ (p : Result Bool). Admits r (p >>= λ b. require b yoke_not_satisfied)) (f o (h.leaves ds vs cur x w c d)) g);
   }
 
-  pub yoke_error : (p.error ≡ 0 → ⊥) → AdmitsValue rows t layout cells states value y p.error
-  yoke_error e = by_truth p.error (λ o k. admits_error e (ap (λ (b : Result Bool). b >>= λ b. require b yoke_not_satisfied) (k.error e)))
+  pub yoke_error : {m : ℕ} → ((o : Result Value) → Leaves n s boolean o → fail m ≡ truth_in o) → (m ≡ 0 → ⊥) → AdmitsValue rows t layout cells states value y m
+  yoke_error {m} f e = by_truth (fail m) m f (admits_error e refl)
 
-  asked : p.error ≡ 0 → (o : Result Bool) → Tells p o → (o >>= λ b. require b yoke_not_satisfied) ≡ require p.holds yoke_not_satisfied
-  asked e o k = ap (λ (b : Result Bool). b >>= λ b. require b yoke_not_satisfied) (k.answer e)
+  module _ {b : Bool} (f : (o : Result Value) → Leaves n s boolean o → ok b ≡ truth_in o) where
+    pub not_satisfied : b ≡ false → AdmitsValue rows t layout cells states value y yoke_not_satisfied
+    not_satisfied q = by_truth (ok b) yoke_not_satisfied f (admits_error (λ z. omega arith) (ap (λ (t : Bool). require t yoke_not_satisfied) q))
 
-  pub not_satisfied : p.error ≡ 0 → p.holds ≡ false → AdmitsValue rows t layout cells states value y yoke_not_satisfied
-  not_satisfied e q = by_truth yoke_not_satisfied (λ o k. admits_error (λ z. omega arith) (asked e o k ∙ ap (λ (b : Bool). require b yoke_not_satisfied) q))
-
-  pub satisfied : p.error ≡ 0 → p.holds ≡ true → AdmitsValue rows t layout cells states value y 0
-  satisfied e q = by_truth 0 (λ o k. admits_ok refl (asked e o k ∙ ap (λ (b : Bool). require b yoke_not_satisfied) q))
+    pub satisfied : b ≡ true → AdmitsValue rows t layout cells states value y 0
+    satisfied q = by_truth (ok b) 0 f (admits_ok refl (ap (λ (t : Bool). require t yoke_not_satisfied) q))
 
 -- ---- a variable and a new yoke
 -- its cells, where they lie, are a current value

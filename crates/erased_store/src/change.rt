@@ -1,6 +1,7 @@
 // Yoke change: the value that the variable has must satisfy the new yoke, which is then noted in its state word. Its row is of the scope that
 // the store is of.
 ghost use Rattle.std.specs.Prelude.{List, [], ℕ, ◌+◌, ◌*◌, ◌≤◌, length};
+ghost use Rattle.lingua.specs.Faults.{number_of};
 ghost use Rattle.lingua.specs.Numbers.{body_cells};
 ghost use Rattle.lingua.specs.Store.{Variable, yoke_changed};
 ghost use Rattle.lingua.specs.Run.{Profile};
@@ -11,7 +12,7 @@ ghost use Rattle.erased_store.specs.Meaning.{YokeRow};
 
 use crate::holds::yoke_holds;
 use decoder::tables::Table;
-use lingua::errors::NO_ERROR;
+use lingua::errors::Error;
 use run::words::set_yoke;
 
 pub fn change_yoke(
@@ -24,18 +25,15 @@ pub fn change_yoke(
     n: usize,
     y: u16,
     stack: &mut [i64],
-) -> u8
+) -> Result<(), Error>
     requires has_running { HasRunning rows.now t layout.now kept.now (lent cells.now states.old []) (λ a. YokeRow rows.now a n y) }
     requires y_le_count { y ≤ t.count }
     requires count_in_bounds { body_cells * (t.count + 1) ≤ length stack.old }
     ensures { (p : Profile) (a : ℕ) (vs : List Variable) → Running p a rows.now t layout.now kept.now (lent cells.now states.old []) vs → YokeRow rows.now a n y
-        → Settles result (Running p a rows.now t layout.now kept.now) (lent cells.now states.old []) (lent cells.now states.new [])
+        → Settles (number_of result) (Running p a rows.now t layout.now kept.now) (lent cells.now states.old []) (lent cells.now states.new [])
         (yoke_changed vs n (yoke_tree rows.now y)) }
 {
-    let error = yoke_holds(rows, t, layout, cells, states, n, y as usize, stack);
-    if error != NO_ERROR {
-        return error;
-    }
+    yoke_holds(rows, t, layout, cells, states, n, y as usize, stack)?;
     set_yoke(states, n, y);
-    NO_ERROR
+    Ok(())
 }

@@ -1,5 +1,6 @@
 // Whether a value satisfies a yoke, which is evaluated on the stack; and whether a variable takes a new one.
 ghost use Rattle.std.specs.Prelude.{◌+◌, ◌*◌, ◌≤◌, length};
+ghost use Rattle.lingua.specs.Faults.{number_of};
 ghost use Rattle.lingua.specs.Numbers.{body_cells};
 ghost use Rattle.lingua.specs.Trees.{yoke_tree};
 ghost use Rattle.erased_row.specs.Meaning.{ReadyYoke};
@@ -8,7 +9,7 @@ ghost use Rattle.erased_store.specs.Meaning.{AdmitsValue, HasChange, AdmitsYoke}
 use decoder::tables::Table;
 use erased::yoke::eval_yoke;
 use erased_row::answer::truth_of;
-use lingua::errors::{NO_ERROR, YOKE_NOT_SATISFIED};
+use lingua::errors::Error;
 use lingua::sizes::BODY_CELLS;
 use run::words::is_filled;
 
@@ -22,21 +23,18 @@ pub fn satisfies(
     y: usize,
     value: &[i64],
     stack: &mut [i64],
-) -> u8
+) -> Result<(), Error>
     requires ready_yoke { ReadyYoke rows.now t layout.now cells.now states.now value.now (yoke_tree rows.now y) }
     requires y_le_count { y ≤ t.count }
     requires y_in_bounds { body_cells * (y + 1) ≤ length stack.old }
-    ensures { AdmitsValue rows.now t layout.now cells.now states.now value.now (yoke_tree rows.now y) result }
+    ensures { AdmitsValue rows.now t layout.now cells.now states.now value.now (yoke_tree rows.now y) (number_of result) }
 {
     let x = eval_yoke(rows, t, layout, cells, states, y, value, &mut *stack);
-    let truth = truth_of(x, stack);
-    if truth.error != NO_ERROR {
-        return truth.error;
+    if truth_of(x, stack)? {
+        Ok(())
+    } else {
+        Err(Error::YokeNotSatisfied)
     }
-    if !truth.holds {
-        return YOKE_NOT_SATISFIED;
-    }
-    NO_ERROR
 }
 
 // A variable that is not filled takes any yoke; another's own cells are the current value, where they lie.
@@ -49,14 +47,14 @@ pub fn yoke_holds(
     n: usize,
     y: usize,
     stack: &mut [i64],
-) -> u8
+) -> Result<(), Error>
     requires has_change { HasChange rows.now t layout.now cells.now states.now n (yoke_tree rows.now y) }
     requires y_le_count { y ≤ t.count }
     requires y_in_bounds { body_cells * (y + 1) ≤ length stack.old }
-    ensures { AdmitsYoke rows.now t layout.now cells.now states.now n (yoke_tree rows.now y) result }
+    ensures { AdmitsYoke rows.now t layout.now cells.now states.now n (yoke_tree rows.now y) (number_of result) }
 {
     if !is_filled(states, n) {
-        return NO_ERROR;
+        return Ok(());
     }
     let at = BODY_CELLS * n;
     let end = at + BODY_CELLS;

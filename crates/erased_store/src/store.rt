@@ -1,6 +1,7 @@
 // A value of a variable's declared body: its yoke, its limit, and then the store. A value moves as many cells as it has, or all 64 with zeros
 // behind its own.
 ghost use Rattle.std.specs.Prelude.{List, [], ℕ, ◌+◌, ◌*◌, ◌<◌, ◌≤◌, length};
+ghost use Rattle.lingua.specs.Faults.{number_of};
 ghost use Rattle.lingua.specs.Numbers.{body_cells};
 ghost use Rattle.lingua.specs.Value.{Composite};
 ghost use Rattle.lingua.specs.Store.{Variable, assigned};
@@ -13,7 +14,7 @@ ghost use Rattle.erased_store.specs.Meaning.{ValueFor, Storable, StoreRoom, Sati
 
 use crate::holds::satisfies;
 use decoder::tables::Table;
-use lingua::errors::{NO_ERROR, YOKE_NOT_SATISFIED};
+use lingua::errors::Error;
 use lingua::sizes::BODY_CELLS;
 use run::copies::copy;
 use run::limits::in_limits;
@@ -28,17 +29,17 @@ pub fn store_within(
     n: usize,
     value: &[i64],
     width: usize,
-) -> u8
+) -> Result<(), Error>
     requires { StoreRoom kept.now cells.old states.old n width value.now }
     ensures { (p : Profile) (a : ℕ) (rows : List ℕ) (t : Table) (layout : List ℕ) (vs : List Variable) (x : Composite) → Running p a rows t layout kept.now (lent cells.old states.old []) vs
         → n < length vs → ValueFor (scope_bodies p a n) width value.now x → Satisfies vs n x
-        → Settles result (Running p a rows t layout kept.now) (lent cells.old states.old []) (lent cells.new states.new []) (assigned vs n x) }
+        → Settles (number_of result) (Running p a rows t layout kept.now) (lent cells.old states.old []) (lent cells.new states.new []) (assigned vs n x) }
 {
     if !in_limits(kept, n, value[0]) {
-        return YOKE_NOT_SATISFIED;
+        return Err(Error::YokeNotSatisfied);
     }
     put(cells, states, n, value, width);
-    NO_ERROR
+    Ok(())
 }
 
 // The value lies on the stack. Only a yoke that is run asks for a copy: it is evaluated there.
@@ -52,12 +53,12 @@ pub fn store(
     n: usize,
     width: usize,
     stack: &mut [i64],
-) -> u8
+) -> Result<(), Error>
     requires storable { Storable rows.now t layout.now kept.now (lent cells.old states.old []) n width stack.old }
     requires count_in_bounds { body_cells * (t.count + 1) ≤ length stack.old }
     ensures { (p : Profile) (a : ℕ) (vs : List Variable) (x : Composite) → Running p a rows.now t layout.now kept.now (lent cells.old states.old []) vs
         → n < length vs → ValueFor (scope_bodies p a n) width stack.old x
-        → Settles result (Running p a rows.now t layout.now kept.now) (lent cells.old states.old []) (lent cells.new states.new []) (assigned vs n x) }
+        → Settles (number_of result) (Running p a rows.now t layout.now kept.now) (lent cells.old states.old []) (lent cells.new states.new []) (assigned vs n x) }
 {
     let yoke = yoke_of(states, n);
     if yoke == 0 {
@@ -65,9 +66,6 @@ pub fn store(
     }
     let mut value = [0i64; BODY_CELLS];
     copy(stack, 0, width, &mut value);
-    let error = satisfies(rows, t, layout, cells, states, yoke, &value, stack);
-    if error != NO_ERROR {
-        return error;
-    }
+    satisfies(rows, t, layout, cells, states, yoke, &value, stack)?;
     store_within(kept, cells, states, n, &value, width)
 }

@@ -11,7 +11,10 @@ use Rattle.lingua.specs.Numbers.{layout_length}
 use Rattle.lingua.specs.Errors.{bad_buffer}
 use Rattle.lingua.specs.Value.{all_of}
 use Rattle.lingua.specs.Format.{rows_of}
-use Rattle.lingua.specs.Refusal.{place_in, rank, file_rules, row_rules, whole_file_rules, pair_rules, type_check_refusal}
+use Rattle.std.specs.Prelude.{Ok, Err}
+use Rattle.lingua.specs.declared.errors.Refusal.{Refusal}
+use Rattle.lingua.specs.Faults.{refusal_number}
+use Rattle.lingua.specs.Refusal.{lowest, place_in, rank, file_rules, row_rules, whole_file_rules, pair_rules, type_check_refusal}
 use Rattle.lingua.specs.Trees.{profile_of}
 use Rattle.lingua.specs.Typing.{check_profile}
 use Rattle.lingua.specs.Answers.{type_check_meaning}
@@ -20,6 +23,7 @@ use Rattle.lingua.specs.Calls.{type_check_unless, type_check_call, type_check_re
 use Rattle.laws.specs.Refusals.{lowest_skip, lowest_first, all_above}
 use Rattle.pair.specs.Pair.{PairIs}
 use Rattle.pair.specs.declared.Pair.{Pair}
+use Rattle.pair.proofs.Returns.{some_refusal}
 use Rattle.pair.proofs.Given.{rows_accepted, tables_there, bodies_held}
 use Rattle.typing.specs.Check.{Ready}
 use Rattle.typecheck.specs.declared.verdicts.Verdict.{Verdict}
@@ -40,29 +44,34 @@ check_short prof lims layout h =
     call_refused prof lims layout 1 0
     (lowest_first bad_buffer (not (eqb (length layout) layout_length)) (pair_rules prof lims) (ap not (ne_eqb (length layout) layout_length h)) (above_one prof lims)) refl
 
-module _ (prof lims layout areas others bodies : List ℕ) (p : Pair) (room : length layout ≡ layout_length) (h : PairIs p prof lims areas others bodies) where
-  refusal_is : type_check_refusal prof lims layout ≡ p.refusal
-  unfolding type_check_refusal
-  refusal_is =
-      lowest_skip bad_buffer (not (eqb (length layout) layout_length)) (pair_rules prof lims) (ap not (eq-eqb (length layout) layout_length room)) ∙ sym h.refusal
+-- the files' own rules, where the layout table is as long as it is to be
+after_the_table : (prof lims layout : List ℕ) → length layout ≡ layout_length → type_check_refusal prof lims layout ≡ lowest (pair_rules prof lims)
+unfolding type_check_refusal
+after_the_table prof lims layout room =
+    lowest_skip bad_buffer (not (eqb (length layout) layout_length)) (pair_rules prof lims) (ap not (eq-eqb (length layout) layout_length room))
 
-  pub check_refused : (p.refusal ≡ 0 → ⊥) → type_check_result (check_answer.Refused p.refusal) layout ≡ type_check_call prof lims layout
-  check_refused k = call_refused prof lims layout p.refusal _ refusal_is (sym (suc-pred-eq_of_ne-zero k))
+pub check_refused : {e : Refusal} (prof lims layout areas others bodies : List ℕ) → length layout ≡ layout_length → PairIs (Err e) prof lims areas others bodies
+    → type_check_result (check_answer.Refused (refusal_number e)) layout ≡ type_check_call prof lims layout
+check_refused {e} prof lims layout areas others bodies room h =
+    call_refused prof lims layout (refusal_number e) _ (after_the_table prof lims layout room ∙ sym h.refusal) (sym (suc-pred-eq_of_ne-zero (some_refusal e)))
 
-  module _ (z : p.refusal ≡ 0) where
-    pub ready : Ready (take p.rows areas) p.tables bodies
-    ready =
-        let t = h.taken z in
-        record { accepted = rows_accepted t (sym h.refusal ∙ z); tables = tables_there t; types = bodies_held t }
+module _ (prof lims layout areas others bodies : List ℕ) (p : Pair) (room : length layout ≡ layout_length) (h : PairIs (Ok p) prof lims areas others bodies) where
+  refusal_is : type_check_refusal prof lims layout ≡ 0
+  refusal_is = after_the_table prof lims layout room ∙ sym h.refusal
 
-    module _ (v : Verdict) (exit : List ℕ) (c : (limits : List ℕ) → Concludes v exit (check_profile (profile_of (take p.rows areas) limits))) where
-      concludes : Concludes v exit (check_profile (profile_of (rows_of prof) (rows_of lims)))
-      concludes = subst (λ (rows : List ℕ). Concludes v exit (check_profile (profile_of rows (rows_of lims)))) (h.taken z).rows (c (rows_of lims))
+  pub ready : Ready (take p.rows areas) p.tables bodies
+  ready =
+      let t = h.taken p refl in
+      record { accepted = rows_accepted t (sym h.refusal); tables = tables_there t; types = bodies_held t }
 
-      pub check_passed : v.error ≡ 0 → type_check_result check_answer.Passed exit ≡ type_check_call prof lims layout
-      unfolding type_check_result type_check_call type_check_unless type_check_meaning
-      check_passed e = rw (refusal_is, z) (sym (verdict_passed v exit (check_profile (profile_of (rows_of prof) (rows_of lims))) concludes e))
+  module _ (v : Verdict) (exit : List ℕ) (c : (limits : List ℕ) → Concludes v exit (check_profile (profile_of (take p.rows areas) limits))) where
+    concludes : Concludes v exit (check_profile (profile_of (rows_of prof) (rows_of lims)))
+    concludes = subst (λ (rows : List ℕ). Concludes v exit (check_profile (profile_of rows (rows_of lims)))) (h.taken p refl).rows (c (rows_of lims))
 
-      pub check_failed : (v.error ≡ 0 → ⊥) → type_check_result (check_answer.TypeError v.error v.place) exit ≡ type_check_call prof lims layout
-      unfolding type_check_result type_check_call type_check_unless type_check_meaning
-      check_failed k = rw (refusal_is, z) (sym (verdict_failed v exit (check_profile (profile_of (rows_of prof) (rows_of lims))) concludes k))
+    pub check_passed : v.error ≡ 0 → type_check_result check_answer.Passed exit ≡ type_check_call prof lims layout
+    unfolding type_check_result type_check_call type_check_unless type_check_meaning
+    check_passed e = rw refusal_is (sym (verdict_passed v exit (check_profile (profile_of (rows_of prof) (rows_of lims))) concludes e))
+
+    pub check_failed : (v.error ≡ 0 → ⊥) → type_check_result (check_answer.TypeError v.error v.place) exit ≡ type_check_call prof lims layout
+    unfolding type_check_result type_check_call type_check_unless type_check_meaning
+    check_failed k = rw refusal_is (sym (verdict_failed v exit (check_profile (profile_of (rows_of prof) (rows_of lims))) concludes k))

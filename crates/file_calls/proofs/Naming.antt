@@ -1,5 +1,5 @@
 -- The ways in which the search for a variable by its name ends as a call: refused, found or missing. Assumes nothing.
-use mathlib.Core.Path.{◌≡◌, sym, ap, ◌∙◌, subst}
+use mathlib.Core.Path.{◌≡◌, refl, sym, ap, ◌∙◌, subst}
 use mathlib.Core.List.{List}
 use mathlib.Core.Option.{some, none}
 use Prim.Native.Nat.{ℕ, suc, ◌≤◌, ◌<◌}
@@ -10,6 +10,9 @@ use Rattle.lingua.specs.Numbers.{most_variables, declaration_section}
 use Rattle.lingua.specs.Rows.{pair_count}
 use Rattle.lingua.specs.Lookup.{Lookup, lookup, look_up}
 use Rattle.lingua.specs.Format.{profile}
+use Rattle.std.specs.Prelude.{Ok, Err}
+use Rattle.lingua.specs.declared.errors.Refusal.{Refusal}
+use Rattle.lingua.specs.Faults.{refusal_number}
 use Rattle.lingua.specs.Refusal.{find_refusal}
 use Rattle.lingua.specs.Answers.{answered, find_meaning}
 use Rattle.lingua.specs.declared.FindAnswer.TheVariants as find_answer
@@ -18,10 +21,10 @@ use Rattle.laws.specs.Lookup.{found_first, found_none}
 use Rattle.rules.specs.Accepted.{counts}
 use Rattle.safety.specs.Accepted.{AcceptedRows}
 use Rattle.decoder.specs.Tables.{IsTable}
-use Rattle.pair.specs.Taken.{TakenIs}
+use Rattle.pair.specs.Taken.{RowsTaken, TakenIs}
 use Rattle.pair.specs.declared.file.Taken.{Taken}
 use Rattle.pair.proofs.Pairs.{accepted_file}
-use Rattle.pair.proofs.Returns.{none_of_either}
+use Rattle.pair.proofs.Returns.{none_of_either, some_refusal}
 use Rattle.profile.specs.Find.{found_meaning}
 use Rattle.profile.specs.declared.find.Found.{Found}
 use Rattle.profile.specs.declared.find.Found.TheVariants as found
@@ -30,59 +33,62 @@ call_refused : (file name : List ℕ) (n m : ℕ) → find_refusal file ≡ n �
 unfolding find_meaning find_call find_unless
 call_refused file name n m e s = rw (e, s)
 
-module _ (t : Taken) (file areas bodies : List ℕ) (h : TakenIs t profile file areas bodies) where
-  refusal_is : find_refusal file ≡ t.refusal
+pub find_refused : {e : Refusal} (file areas bodies name : List ℕ) → TakenIs (Err e) profile file areas bodies → find_meaning (find_answer.Refused (refusal_number e)) ≡ find_call file name
+unfolding find_refusal
+find_refused {e} file areas bodies name h = call_refused file name (refusal_number e) _ (sym h.refusal) (sym (suc-pred-eq_of_ne-zero (some_refusal e)))
+
+module _ (t : Taken) (file areas bodies : List ℕ) (h : TakenIs (Ok t) profile file areas bodies) where
+  refusal_is : find_refusal file ≡ 0
   unfolding find_refusal
   refusal_is = sym h.refusal
 
-  pub find_refused : (name : List ℕ) → (t.refusal ≡ 0 → ⊥) → find_meaning (find_answer.Refused t.refusal) ≡ find_call file name
-  find_refused name k = call_refused file name t.refusal _ refusal_is (sym (suc-pred-eq_of_ne-zero k))
+  rows_taken : RowsTaken t profile file areas bodies
+  rows_taken = h.taken t refl
 
-  module _ (z : t.refusal ≡ 0) where
-    rows_accepted : AcceptedRows (take t.length areas)
-    rows_accepted = subst (λ (rows : List ℕ). AcceptedRows rows) (sym (h.taken z).rows) (accepted_file file (none_of_either profile file (sym z ∙ h.refusal)).1)
+  rows_accepted : AcceptedRows (take t.length areas)
+  rows_accepted = subst (λ (rows : List ℕ). AcceptedRows rows) (sym rows_taken.rows) (accepted_file file (none_of_either profile file h.refusal).1)
 
-    pub declarations_there : IsTable (take t.length areas) declaration_section t.tables.declarations
-    declarations_there = subst (λ (rows : List ℕ). IsTable rows declaration_section t.tables.declarations) (sym (h.taken z).rows) (h.taken z).tables.declarations
+  pub declarations_there : IsTable (take t.length areas) declaration_section t.tables.declarations
+  declarations_there = subst (λ (rows : List ℕ). IsTable rows declaration_section t.tables.declarations) (sym rows_taken.rows) rows_taken.tables.declarations
 
-    few : pair_count (take t.length areas) declaration_section ≤ most_variables
-    few = (counts (take t.length areas) rows_accepted.counts).variables.most
+  few : pair_count (take t.length areas) declaration_section ≤ most_variables
+  few = (counts (take t.length areas) rows_accepted.counts).variables.most
 
-    module _ (name : List ℕ) (r : Found) (is : found_meaning r ≡ look_up (take t.length areas) name) where
-      told : (l : Lookup) → found_meaning r ≡ l → look_up (take t.length areas) name ≡ l
-      told l e = sym is ∙ e
+  module _ (name : List ℕ) (r : Found) (is : found_meaning r ≡ look_up (take t.length areas) name) where
+    told : (l : Lookup) → found_meaning r ≡ l → look_up (take t.length areas) name ≡ l
+    told l e = sym is ∙ e
 
-      answers : (l : Lookup) → look_up (take t.length areas) name ≡ l → answered l ≡ find_call file name
-      unfolding find_call find_unless
-      answers l e = rw (refusal_is, z) (ap answered (sym e ∙ ap (λ (rows : List ℕ). look_up rows name) (h.taken z).rows))
+    answers : (l : Lookup) → look_up (take t.length areas) name ≡ l → answered l ≡ find_call file name
+    unfolding find_call find_unless
+    answers l e = rw refusal_is (ap answered (sym e ∙ ap (λ (rows : List ℕ). look_up rows name) rows_taken.rows))
 
-      module _ (d n : ℕ) (e : r ≡ found.At d n) where
-        at : look_up (take t.length areas) name ≡ lookup (some d) n
-        unfolding found_meaning
-        at = told (lookup (some d) n) (ap found_meaning e)
+    module _ (d n : ℕ) (e : r ≡ found.At d n) where
+      at : look_up (take t.length areas) name ≡ lookup (some d) n
+      unfolding found_meaning
+      at = told (lookup (some d) n) (ap found_meaning e)
 
-        -- the two numbers fit the answer's
-        pub at_small : (d < 65536) × (n < 65536)
-        at_small =
-            let f = found_first (take t.length areas) name d (ap (λ (l : Lookup). l.found) at) in
-            let looks : n ≡ suc d = sym (ap (λ (l : Lookup). l.looked) at) ∙ f.1 in
-            (omega (arith, f.0.there, few), omega (arith, f.0.there, few, looks))
+      -- the two numbers fit the answer's
+      pub at_small : (d < 65536) × (n < 65536)
+      at_small =
+          let f = found_first (take t.length areas) name d (ap (λ (l : Lookup). l.found) at) in
+          let looks : n ≡ suc d = sym (ap (λ (l : Lookup). l.looked) at) ∙ f.1 in
+          (omega (arith, f.0.there, few), omega (arith, f.0.there, few, looks))
 
-        pub find_found : find_meaning (find_answer.Found d n) ≡ find_call file name
-        unfolding find_meaning
-        find_found = answers (lookup (some d) n) at
+      pub find_found : find_meaning (find_answer.Found d n) ≡ find_call file name
+      unfolding find_meaning
+      find_found = answers (lookup (some d) n) at
 
-      module _ (n : ℕ) (e : r ≡ found.Nothing n) where
-        missing : look_up (take t.length areas) name ≡ lookup none n
-        unfolding found_meaning
-        missing = told (lookup none n) (ap found_meaning e)
+    module _ (n : ℕ) (e : r ≡ found.Nothing n) where
+      missing : look_up (take t.length areas) name ≡ lookup none n
+      unfolding found_meaning
+      missing = told (lookup none n) (ap found_meaning e)
 
-        pub missing_small : n < 65536
-        missing_small =
-            let f = found_none (take t.length areas) name (ap (λ (l : Lookup). l.found) missing) in
-            let looks : n ≡ pair_count (take t.length areas) declaration_section = sym (ap (λ (l : Lookup). l.looked) missing) ∙ f.1 in
-            omega (arith, few, looks)
+      pub missing_small : n < 65536
+      missing_small =
+          let f = found_none (take t.length areas) name (ap (λ (l : Lookup). l.found) missing) in
+          let looks : n ≡ pair_count (take t.length areas) declaration_section = sym (ap (λ (l : Lookup). l.looked) missing) ∙ f.1 in
+          omega (arith, few, looks)
 
-        pub find_missing : find_meaning (find_answer.Missing n) ≡ find_call file name
-        unfolding find_meaning
-        find_missing = answers (lookup none n) missing
+      pub find_missing : find_meaning (find_answer.Missing n) ≡ find_call file name
+      unfolding find_meaning
+      find_missing = answers (lookup none n) missing

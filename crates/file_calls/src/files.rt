@@ -7,7 +7,7 @@ use blocks::rows::copy_rows;
 use blocks::words::word16_at;
 use blocks::writer::{file_length, write_file};
 use decoder::tables::tables_of;
-use lingua::errors::{BAD_BUFFER, NO_ERROR};
+use lingua::errors::Refusal;
 use lingua::sizes::{AREAS_LENGTH, ROW_BYTES, ROWS_LENGTH, TYPE_BODIES_LENGTH};
 use lingua::{FileKind, ReadAnswer, WriteAnswer};
 use pair::file::take;
@@ -18,20 +18,18 @@ pub fn read(kind: FileKind, file: &[u8], rows: &mut [u8]) -> ReadAnswer
     ensures { read_result result rows.new ≡ read_call (file_meaning kind) file.now rows.old }
 {
     if rows.len() != ROWS_LENGTH {
-        return ReadAnswer::Refused(BAD_BUFFER);
+        return ReadAnswer::Refused(Refusal::BadBuffer.number());
     }
     let mut areas = [0u8; AREAS_LENGTH];
     let mut bodies = [0u8; TYPE_BODIES_LENGTH];
-    let taken = take(kind, file, &mut areas, &mut bodies);
-    let refusal = taken.refusal;
-    if refusal != NO_ERROR {
-        return ReadAnswer::Refused(refusal);
-    }
-    let n = taken.length;
-    copy_rows(&areas[..n], rows);
+    let taken = match take(kind, file, &mut areas, &mut bodies) {
+        Ok(taken) => taken,
+        Err(refusal) => return ReadAnswer::Refused(refusal.number()),
+    };
+    copy_rows(&areas[..taken.length], rows);
     ReadAnswer::Rows {
         model: word16_at(file, 6),
-        count: (n / ROW_BYTES) as u16,
+        count: (taken.length / ROW_BYTES) as u16,
     }
 }
 
@@ -40,17 +38,18 @@ pub fn write(kind: FileKind, model: u16, rows: &[u8], file: &mut [u8]) -> WriteA
     ensures { write_result result file.new ≡ write_call (file_meaning kind) model rows.now file.old }
 {
     if rows.len() % ROW_BYTES != 0 {
-        return WriteAnswer::Refused(BAD_BUFFER);
+        return WriteAnswer::Refused(Refusal::BadBuffer.number());
     }
     if file.len() != file_length(kind, rows) {
-        return WriteAnswer::Refused(BAD_BUFFER);
+        return WriteAnswer::Refused(Refusal::BadBuffer.number());
     }
     let tables = tables_of(rows);
     let mut bodies = [0u8; TYPE_BODIES_LENGTH];
-    let wrong = rows_refusal(kind, rows, tables, &mut bodies);
-    if wrong != NO_ERROR {
-        return WriteAnswer::Refused(wrong);
+    match rows_refusal(kind, rows, tables, &mut bodies) {
+        Ok(()) => {
+            write_file(kind, model, rows, file);
+            WriteAnswer::Written
+        }
+        Err(refusal) => WriteAnswer::Refused(refusal.number()),
     }
-    write_file(kind, model, rows, file);
-    WriteAnswer::Written
 }

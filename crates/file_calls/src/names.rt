@@ -3,7 +3,6 @@ ghost use Rattle.std.specs.Prelude.{◌≡◌};
 ghost use Rattle.lingua.specs.Answers.{find_meaning};
 ghost use Rattle.lingua.specs.Calls.{find_call};
 
-use lingua::errors::NO_ERROR;
 use lingua::sizes::{AREAS_LENGTH, NAME_BYTES, TYPE_BODIES_LENGTH};
 use lingua::{FileKind, FindAnswer};
 use pair::file::take;
@@ -15,15 +14,11 @@ pub fn find_variable(profile: &[u8], name: [u8; NAME_BYTES]) -> FindAnswer
 {
     let mut areas = [0u8; AREAS_LENGTH];
     let mut bodies = [0u8; TYPE_BODIES_LENGTH];
-    let taken = take(FileKind::Profile, profile, &mut areas, &mut bodies);
-    let refusal = taken.refusal;
-    if refusal != NO_ERROR {
-        return FindAnswer::Refused(refusal);
-    }
-    let n = taken.length;
-    let tables = taken.tables;
-    let declarations = tables.declarations;
-    let found = find(&areas[..n], declarations, &name);
+    let taken = match take(FileKind::Profile, profile, &mut areas, &mut bodies) {
+        Ok(taken) => taken,
+        Err(refusal) => return FindAnswer::Refused(refusal.number()),
+    };
+    let found = find(&areas[..taken.length], taken.tables.declarations, &name);
     match found {
         Found::At { index, looked } => FindAnswer::Found {
             index: index as u16,

@@ -3,7 +3,7 @@ ghost use Rattle.std.specs.Prelude.{◌≡◌};
 ghost use Rattle.lingua.specs.Calls.{type_check_call, type_check_result};
 
 use lingua::CheckAnswer;
-use lingua::errors::{BAD_BUFFER, NO_ERROR};
+use lingua::errors::{NO_ERROR, Refusal};
 use lingua::sizes::{AREA_BYTES, AREAS_LENGTH, LAYOUT_LENGTH, TYPE_BODIES_LENGTH};
 use pair::take_pair;
 use typecheck::whole::check_profile;
@@ -13,19 +13,16 @@ pub fn check_types(profile: &[u8], limits: &[u8], layout: &mut [u16]) -> CheckAn
     ensures { type_check_result result layout.new ≡ type_check_call profile.now limits.now layout.old }
 {
     if layout.len() != LAYOUT_LENGTH {
-        return CheckAnswer::Refused(BAD_BUFFER);
+        return CheckAnswer::Refused(Refusal::BadBuffer.number());
     }
     let mut areas = [0u8; AREAS_LENGTH];
     let mut others = [0u8; AREA_BYTES];
     let mut bodies = [0u8; TYPE_BODIES_LENGTH];
-    let pair = take_pair(profile, limits, &mut areas, &mut others, &mut bodies);
-    let refusal = pair.refusal;
-    if refusal != NO_ERROR {
-        return CheckAnswer::Refused(refusal);
-    }
-    let n = pair.rows;
-    let tables = pair.tables;
-    let verdict = check_profile(&areas[..n], tables, &bodies, layout);
+    let pair = match take_pair(profile, limits, &mut areas, &mut others, &mut bodies) {
+        Ok(pair) => pair,
+        Err(refusal) => return CheckAnswer::Refused(refusal.number()),
+    };
+    let verdict = check_profile(&areas[..pair.rows], pair.tables, &bodies, layout);
     let error = verdict.error;
     if error != NO_ERROR {
         return CheckAnswer::TypeError {

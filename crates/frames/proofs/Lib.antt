@@ -4,3 +4,4 @@ pub mod Ways
 pub mod Heads
 pub mod Fronts
 pub mod Fresh
+pub mod Slices

@@ -1,3 +1,4 @@
 pub mod Meaning
 pub mod Kept
 pub mod Begins
+pub mod Lending

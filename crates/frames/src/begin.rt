@@ -4,21 +4,25 @@ ghost use Rattle.lingua.specs.Numbers.{states_length};
 ghost use Rattle.safety.specs.Accepted.{AcceptedRows};
 ghost use Rattle.profile.specs.Variables.{HasScope};
 ghost use Rattle.frames.specs.Meaning.{BeginsBy, Fresh};
+ghost use Rattle.frames.specs.Lending.{SameSlices};
 
+use crate::memory::{Context, Memory};
 use crate::way::Way;
 use decoder::tables::Table;
 use run::bodies::keep_bodies;
 use run::start::keep_yokes;
 
-pub fn begin(way: Way, rows: &[u8], t: Table, types: &[u8], states: &mut [u16], bodies: &mut [u8])
-    requires accepted_rows { AcceptedRows rows.now × HasScope rows.now t }
-    requires states_value { states.old ≡ replicate states_length 0 }
-    requires begins_by { BeginsBy way rows.now types.now bodies.old }
-    ensures { Fresh way rows.now t states.new bodies.new }
+pub fn begin(context: &Context, t: Table, types: &[u8], own: &mut Memory)
+    requires accepted_rows { AcceptedRows context.now.rows.now × HasScope context.now.rows.now t }
+    requires states_value { own.old.states.now ≡ replicate states_length 0 }
+    requires begins_by { BeginsBy context.now.way context.now.rows.now types.now own.old.bodies.now }
+    ensures fresh { Fresh context.now.way context.now.rows.now t own.new.states.now own.new.bodies.now }
+    ensures cells_same { own.new.cells.now ≡ own.old.cells.now }
+    ensures same_slices { SameSlices own.old own.new }
 {
-    keep_yokes(rows, t, states);
-    match way {
-        Way::Checked => keep_bodies(rows, t, types, bodies),
+    keep_yokes(context.rows, t, own.states);
+    match context.way {
+        Way::Checked => keep_bodies(context.rows, t, types, own.bodies),
         Way::Erased => {}
     }
 }

@@ -1,61 +1,36 @@
 // The copies of a call: its caller's variables into its own, and on a clean end those that were given by reference back again.
 ghost use Rattle.std.specs.Prelude.{◌≤◌, length};
 ghost use Rattle.lingua.specs.Numbers.{most_parameters};
-ghost use Rattle.run.specs.Reached.{lent, Going};
-ghost use Rattle.frames.specs.Meaning.{context, HasFacing, AllPairs, AllBack, CopiesIn, CopiesOut};
+ghost use Rattle.run.specs.Reached.{Going};
+ghost use Rattle.frames.specs.Meaning.{HasFacing, AllPairs, AllBack, CopiesIn, CopiesOut};
+ghost use Rattle.frames.specs.Lending.{context_of, lent_in, SameSlices};
 
 use crate::leaves::copy;
-use crate::way::Way;
+use crate::memory::{Context, Memory};
 use decoder::groups::group;
-use decoder::tables::Table;
 use lingua::errors::NO_ERROR;
 use run::steps::{Status, settled};
 
 // The variables of a field, one after the other, to the variables from first on; the first error ends it.
 pub fn copies_in(
-    way: Way,
-    rows: &[u8],
-    t: Table,
-    layout: &[u16],
-    present: &[u8],
-    values: &[i64],
-    flags: &[u16],
+    context: &Context,
+    from: &Memory,
     field: usize,
     count: usize,
     first: usize,
-    kept: &[i64],
-    bodies: &mut [u8],
-    cells: &mut [i64],
-    states: &mut [u16],
+    own: &mut Memory,
     stack: &mut [i64],
 ) -> u8
-    requires has_facing { HasFacing way (lent values.now flags.now present.now) (context rows.now t layout.now kept.now) (lent cells.old states.old bodies.old) (length stack.old) (λ p a b vs ws. AllPairs way p a b vs ws field count first) }
+    requires has_facing { HasFacing context.now.way (lent_in from.now) (context_of context.now) (lent_in own.old) (length stack.old) (λ p a b vs ws. AllPairs context.now.way p a b vs ws field count first) }
     requires count_le_most_parameters { (count ≤ most_parameters) × (first ≤ most_parameters) }
-    ensures { CopiesIn way (lent values.now flags.now present.now) (context rows.now t layout.now kept.now)
-        (lent cells.old states.old bodies.old) (lent cells.new states.new bodies.new) field count first result }
+    ensures copies { CopiesIn context.now.way (lent_in from.now) (context_of context.now) (lent_in own.old) (lent_in own.new) field count first result }
+    ensures same_slices { SameSlices own.old own.new }
 {
-    let mut i = 0;
-    while i < count {
-        let error = copy(
-            way,
-            rows,
-            t,
-            layout,
-            present,
-            values,
-            flags,
-            group(field, i),
-            kept,
-            &mut *bodies,
-            &mut *cells,
-            &mut *states,
-            first + i,
-            &mut *stack,
-        );
+    for i in 0..count {
+        let error = copy(context, from, group(field, i), own, first + i, &mut *stack);
         if error != NO_ERROR {
             return error;
         }
-        i += 1;
     }
     NO_ERROR
 }
@@ -63,56 +38,30 @@ pub fn copies_in(
 // The variables from first on, one after the other, to those of a field, unless an error is recorded; what came back before one stays.
 pub fn copies_out(
     row: u16,
-    way: Way,
-    rows: &[u8],
-    t: Table,
-    layout: &[u16],
-    present: &[u8],
-    values: &[i64],
-    flags: &[u16],
+    context: &Context,
+    own: &Memory,
     field: usize,
     count: usize,
     first: usize,
-    kept: &[i64],
-    bodies: &mut [u8],
-    cells: &mut [i64],
-    states: &mut [u16],
+    memory: &mut Memory,
     m: Status,
     stack: &mut [i64],
 ) -> Status
-    requires has_facing { HasFacing way (lent values.now flags.now present.now) (context rows.now t layout.now kept.now) (lent cells.old states.old bodies.old) (length stack.old) (λ p a b vs ws. AllBack way p a b vs ws field count first) }
+    requires has_facing { HasFacing context.now.way (lent_in own.now) (context_of context.now) (lent_in memory.old) (length stack.old) (λ p a b vs ws. AllBack context.now.way p a b vs ws field count first) }
     requires count_le_most_parameters { (count ≤ most_parameters) × (first ≤ most_parameters) }
     requires going { Going m }
-    ensures { CopiesOut way (lent values.now flags.now present.now) (context rows.now t layout.now kept.now)
-        (lent cells.old states.old bodies.old) (lent cells.new states.new bodies.new) row field count first m result }
+    ensures copies { CopiesOut context.now.way (lent_in own.now) (context_of context.now) (lent_in memory.old) (lent_in memory.new) row field count first m result }
+    ensures same_slices { SameSlices memory.old memory.new }
 {
     if m.error != NO_ERROR {
         return m;
     }
-    let mut i = 0;
-    while i < count {
-        let own = first + i;
-        let to = group(field, i);
-        let wrong = copy(
-            way,
-            rows,
-            t,
-            layout,
-            present,
-            values,
-            flags,
-            own,
-            kept,
-            &mut *bodies,
-            &mut *cells,
-            &mut *states,
-            to,
-            &mut *stack,
-        );
+    for i in 0..count {
+        let given = first + i;
+        let wrong = copy(context, own, given, memory, group(field, i), &mut *stack);
         if wrong != NO_ERROR {
             return settled(m, wrong, row);
         }
-        i += 1;
     }
     m
 }

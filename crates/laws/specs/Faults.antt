@@ -1,10 +1,11 @@
 -- The errors and refusals of the code by their numbers: none is 0, and no two have one. Assumes nothing.
+use Rattle.std.specs.Prelude.{Result, Ok, Err, IsErrAnd}
 use Rattle.std.proofs.Common.{◌≡◌, refl, sym, ap, ◌∙◌, ℕ, ◌≤◌, ◌<◌, [], ◌∷◌, get_or, arith}
 use Rattle.lingua.specs.declared.errors.Error.{Error}
 use Rattle.lingua.specs.declared.errors.Error.TheVariants.{Overflow, DivisionByZero, YokeNotSatisfied, ListEmpty, ListFull, WordTooLong, NotFilled, NumberExpected, BooleanExpected, WordExpected, ListExpected, RecordExpected, NoSuchAttribute, AttributePresent, NoCoherence, YokeExpected, NotComparable, BodyTooLarge, LastAttribute, TooDeep}
 use Rattle.lingua.specs.declared.errors.Refusal.{Refusal}
 use Rattle.lingua.specs.declared.errors.Refusal.TheVariants.{BadBuffer, BadLength, BadMarker, BadHeader, BadCheck, BadForm, BadCount, BadName, BadConstant, BadReference, BadUse, Misplaced, BadType, ModelsDiffer, BadLimit, BadReading, TypeErrorFound, BadParameters, RepeatedReference}
-use Rattle.lingua.specs.Faults.{error_number, refusal_number}
+use Rattle.lingua.specs.Faults.{error_number, refusal_number, number_of}
 
 pub error_number_counted : (e : Error) → (1 ≤ error_number e) × (error_number e < 21)
 error_number_counted Overflow = (omega arith, omega arith)
@@ -107,3 +108,14 @@ refusal_back RepeatedReference = refl
 
 pub same_refusal : (e f : Refusal) → refusal_number e ≡ refusal_number f → e ≡ f
 same_refusal e f h = sym (refusal_back e) ∙ (ap refusal_numbered h ∙ refusal_back f)
+
+pub error_some : (e : Error) → error_number e ≡ 0 → ⊥
+error_some e z = omega (arith, error_number_counted e, z)
+
+-- an error that `?` passes on is the same error
+pub passed : {A : Type 0} (r : Result A Error) (e : Error) → IsErrAnd r (λ x. x ≡ e) → r ≡ Err e
+passed (Ok x) e h = absurd h
+passed {A} (Err x) e h = ap {B = Result A Error} (λ y. Err y) h
+
+pub passed_on : {A : Type 0} (r : Result A Error) (e : Error) → IsErrAnd r (λ x. x ≡ e) → number_of r ≡ error_number e
+passed_on r e h = ap number_of (passed r e h)

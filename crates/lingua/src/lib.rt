@@ -5,6 +5,7 @@
 pub mod errors; // errors.rt: error and refusal numbers
 pub mod operations; // operations.rt: the operations of expression rows
 pub mod sizes; // sizes.rt: sizes, counts and places
+pub mod words; // words.rt: integers in bytes
 
 // Which of the two kinds of file the reader or the writer is told.
 #[derive(Clone, Copy)]

@@ -19,6 +19,10 @@ use Rattle.opening.specs.Meaning.{Setting, Under, AreaOf, CallAt}
 abbrev pub unlimited : Context → Context
 unlimited c = context c.rows c.expressions c.layout (replicate limit_cells_length (pos 0))
 
+-- what a procedure's variables are run with
+abbrev pub alone : Setting → Setting
+alone s = record { context = unlimited s.context; types = s.types; heads = s.heads }
+
 -- the variables of procedure k as a call begins with them
 abbrev pub fresh_of : List ℕ → ℕ → List Variable
 fresh_of rows k = begun (procedure_at (procedures_in rows) k).variables

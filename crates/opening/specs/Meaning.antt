@@ -20,6 +20,8 @@ use Rattle.run.specs.Reached.{Lent, Going, Reached}
 use Rattle.frames.specs.declared.way.Way.{Way}
 use Rattle.frames.specs.declared.way.Way.TheVariants as way
 use Rattle.frames.specs.Meaning.{Context, context, Holds}
+use Rattle.frames.specs.Lending.{context_of}
+use Rattle.opening.specs.declared.setting.Setting.{Setting as SettingRead}
 
 -- ---- what is given
 -- what a run reads and does not change: beside the context the bodies of the type rows and where the procedures begin
@@ -30,6 +32,10 @@ pub record Setting : Type 0 where
 
 abbrev pub setting : List ℕ → Table → List ℕ → List ℤ → List ℕ → List ℕ → Setting
 setting rows t layout limits types heads = record { context = context rows t layout limits; types = types; heads = heads }
+
+-- what the code's struct holds
+abbrev pub setting_of : SettingRead → Setting
+setting_of s = record { context = context_of s.context; types = s.types.now; heads = s.heads.now }
 
 -- ---- the area for the calls that may still be opened
 unfoldable pub AreaBodies : Way → ℕ → List ℕ → Type 0

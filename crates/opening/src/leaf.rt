@@ -1,13 +1,13 @@
 // Instructions that no other is part of.
-ghost use Rattle.std.specs.Prelude.{ℕ, length};
+ghost use Rattle.std.specs.Prelude.{◌≡◌, ℕ, length};
 ghost use Rattle.lingua.specs.Expression.{skip as skipTree};
-ghost use Rattle.run.specs.Reached.{lent, Going, Passes};
-ghost use Rattle.frames.specs.Meaning.{context};
+ghost use Rattle.run.specs.Reached.{Going, Passes};
+ghost use Rattle.frames.specs.Lending.{context_of, lent_in, SameSlices};
 ghost use Rattle.opening.specs.Meaning.{AskedLeaf, AssignAt, SetYokeAt, ExecutesLeaf};
 
-use decoder::tables::Table;
+use crate::setting::Setting;
 use frames::leaves::{assign, change_yoke};
-use frames::way::Way;
+use frames::memory::Memory;
 use lingua::errors::NO_ERROR;
 use run::steps::{Status, settled, stepped};
 
@@ -26,21 +26,15 @@ pub fn assignment(
     row: usize,
     n: usize,
     e: usize,
-    way: Way,
-    rows: &[u8],
-    t: Table,
-    u: Table,
-    bodies: &mut [u8],
-    layout: &[u16],
-    kept: &[i64],
-    cells: &mut [i64],
-    states: &mut [u16],
+    setting: &Setting,
+    memory: &mut Memory,
     m: Status,
     stack: &mut [i64],
 ) -> Status
-    requires asked_leaf { AskedLeaf row way (context rows.now t layout.now kept.now) u (lent cells.old states.old bodies.old) m (length stack.old) }
-    requires assign_at { AssignAt rows.now row n e }
-    ensures { ExecutesLeaf row way (context rows.now t layout.now kept.now) (lent cells.old states.old bodies.old) (lent cells.new states.new bodies.new) m result }
+    requires asked_leaf { AskedLeaf row setting.now.context.way (context_of setting.now.context) setting.now.instructions (lent_in memory.old) m (length stack.old) }
+    requires assign_at { AssignAt setting.now.context.rows.now row n e }
+    ensures executes { ExecutesLeaf row setting.now.context.way (context_of setting.now.context) (lent_in memory.old) (lent_in memory.new) m result }
+    ensures same_slices { SameSlices memory.old memory.new }
 {
     if m.error != NO_ERROR {
         return m;
@@ -49,9 +43,7 @@ pub fn assignment(
     if taken.out {
         return taken;
     }
-    let error = assign(
-        way, rows, t, bodies, layout, kept, cells, states, n, e, stack,
-    );
+    let error = assign(&setting.context, memory, n, e, stack);
     settled(taken, error, row as u16)
 }
 
@@ -60,21 +52,17 @@ pub fn yoke_change(
     row: usize,
     n: usize,
     y: usize,
-    way: Way,
-    rows: &[u8],
-    t: Table,
-    u: Table,
-    bodies: &[u8],
-    layout: &[u16],
-    kept: &[i64],
-    cells: &[i64],
-    states: &mut [u16],
+    setting: &Setting,
+    memory: &mut Memory,
     m: Status,
     stack: &mut [i64],
 ) -> Status
-    requires asked_leaf { AskedLeaf row way (context rows.now t layout.now kept.now) u (lent cells.now states.old bodies.now) m (length stack.old) }
-    requires set_yoke_at { SetYokeAt rows.now row n y }
-    ensures { ExecutesLeaf row way (context rows.now t layout.now kept.now) (lent cells.now states.old bodies.now) (lent cells.now states.new bodies.now) m result }
+    requires asked_leaf { AskedLeaf row setting.now.context.way (context_of setting.now.context) setting.now.instructions (lent_in memory.old) m (length stack.old) }
+    requires set_yoke_at { SetYokeAt setting.now.context.rows.now row n y }
+    ensures executes { ExecutesLeaf row setting.now.context.way (context_of setting.now.context) (lent_in memory.old) (lent_in memory.new) m result }
+    ensures cells_same { memory.new.cells.now ≡ memory.old.cells.now }
+    ensures bodies_same { memory.new.bodies.now ≡ memory.old.bodies.now }
+    ensures same_slices { SameSlices memory.old memory.new }
 {
     if m.error != NO_ERROR {
         return m;
@@ -83,8 +71,6 @@ pub fn yoke_change(
     if taken.out {
         return taken;
     }
-    let error = change_yoke(
-        way, rows, t, bodies, layout, kept, cells, states, n, y as u16, stack,
-    );
+    let error = change_yoke(&setting.context, memory, n, y as u16, stack);
     settled(taken, error, row as u16)
 }

@@ -8,13 +8,15 @@ use lib.Dec.{eqb}
 use lib.ListN.{length, take}
 use borrow.Author.Tests.{eq-eqb, ne_eqb, lt-ltb, le-ltb}
 use Rattle.lingua.specs.Numbers.{most_limits, declaration_section, type_section, limit_section}
+use Rattle.std.specs.Prelude.{Result, Ok, Err}
+use Rattle.lingua.specs.declared.errors.Refusal.{Refusal}
+use Rattle.lingua.specs.Faults.{refusal_number, refusal_of}
 use Rattle.lingua.specs.Errors.{models_differ, bad_limit}
-use Rattle.std.specs.Prelude.{if◌then◌else◌}
 use Rattle.lingua.specs.Value.{all_of}
 use Rattle.lingua.specs.Rows.{table_count, pair_count}
-use Rattle.lingua.specs.Format.{profile, limits, model_of, rows_of}
+use Rattle.lingua.specs.Format.{File, profile, limits, model_of, rows_of}
 use Rattle.lingua.specs.Refusal.{Rule, rule, rank, place_in, lowest, file_rules, row_rules, whole_file_rules, limit_wrong, pair_rules}
-use Rattle.laws.specs.Refusals.{before, lowest_nil, lowest_skip, lowest_first, Decides, first, second, decides}
+use Rattle.laws.specs.Refusals.{lowest_nil, lowest_skip, lowest_first, Decides, first, second, decides}
 use Rattle.laws.specs.Lowest.{lesser, lowest_append}
 use Rattle.laws.specs.Accepted.{few_limits}
 use Rattle.safety.specs.Accepted.{AcceptedRows, accepted_rows}
@@ -25,7 +27,7 @@ use Rattle.decoder.specs.Tables.{IsTable}
 use Rattle.rules.specs.Types.{BodiesBelow}
 use Rattle.profile.specs.Find.{LimitsRead, LimitsOwned, owned_as}
 use Rattle.pair.specs.declared.Pair.{Pair}
-use Rattle.pair.specs.Pair.{PairIs}
+use Rattle.pair.specs.Pair.{TakenPair, PairIs, BothTaken}
 
 -- ---- the earlier of two refusals
 pub lower_first : (a b : ℕ) → (a ≡ 0 → ⊥) → b ≡ 0 → a ≡ lesser a b
@@ -51,16 +53,16 @@ lower_other zero b h k l = absurd (h refl)
 lower_other (suc a) zero h k l = absurd (k refl)
 lower_other (suc a) (suc b) h k l = rw (le-ltb (rank (suc a)) (rank (suc b)) l)
 
--- none of both is none of each
-pub none_of_two : (a b : ℕ) → lesser a b ≡ 0 → (a ≡ 0) × (b ≡ 0)
-unfolding lesser
-none_of_two zero b e = (refl, e)
-none_of_two (suc a) zero e = absurd (let z : ⊥ = omega (arith, e) in z)
-none_of_two (suc a) (suc b) e = absurd (by (before (suc a) (suc b)) e)
-  where
-    by : (t : Bool) → (if t then suc a else suc b) ≡ 0 → ⊥
-    by true e = omega (arith, e)
-    by false e = omega (arith, e)
+-- ---- both files, or the earlier of their refusals
+right : Taken → Result Taken Refusal
+right t = Ok t
+
+pub both_there : (p l : Taken) → BothTaken (Ok (p, l)) (Ok p) (Ok l)
+unfolding lesser right
+both_there p l = record { refusal = refl; taken = λ t q. let e : ◌≡◌ {A = Taken × Taken} (p, l) t = cc in (ap (λ (u : Taken × Taken). right u.0) e, ap (λ (u : Taken × Taken). right u.1) e) }
+
+pub one_refused : (p l : Result Taken Refusal) (e : Refusal) → refusal_number e ≡ lesser (refusal_of p) (refusal_of l) → BothTaken (Err e) p l
+one_refused p l e h = record { refusal = h; taken = λ t q. cc }
 
 -- ---- the rules of both files together
 abbrev both : List ℕ → List ℕ → List Rule
@@ -114,24 +116,29 @@ module _ (prof lims : List ℕ) (p l : ℕ) (hp : p ≡ lowest (whole_file_rules
   pair_fine z e w = sym (past_models z e ∙ lowest_skip bad_limit _ [] w ∙ lowest_nil)
 
 -- ---- the ways in which both files are taken
-pub pair_refused : (t : Pair) (n : ℕ) (prof lims areas others bodies : List ℕ) → t.refusal ≡ n → n ≡ lowest (pair_rules prof lims) → (n ≡ 0 → ⊥) → PairIs t prof lims areas others bodies
-pair_refused t n prof lims areas others bodies e l h = record { refusal = e ∙ l; taken = λ z. absurd (h (sym e ∙ z)) }
+pub pair_refused : {e : Refusal} {prof lims : List ℕ} (areas others bodies : List ℕ) → refusal_number e ≡ lowest (pair_rules prof lims) → PairIs (Err e) prof lims areas others bodies
+pair_refused areas others bodies h = record { refusal = h; taken = λ t q. cc }
 
 pub accepted_file : (prof : List ℕ) → lowest (row_rules profile (rows_of prof)) ≡ 0 → AcceptedRows (rows_of prof)
 accepted_file prof e = accepted_rows (rows_of prof) [] (ap lowest (append-nil (row_rules profile (rows_of prof))) ∙ e)
 
-module _ (p l : Taken) (prof lims areas others bodies front : List ℕ) (hp : TakenIs p profile prof areas bodies) (hl : TakenIs l limits lims others front) (z : lesser p.refusal l.refusal ≡ 0) where
-  none_p : p.refusal ≡ 0
-  none_p = (none_of_two p.refusal l.refusal z).0
+-- what both were asked for
+pub taken_p : {p l : Result Taken Refusal} {prof areas bodies : List ℕ} {f : File} (t : Taken × Taken) → TakenIs p f prof areas bodies → BothTaken (Ok t) p l → TakenIs (Ok t.0) f prof areas bodies
+taken_p {prof = prof} {areas = areas} {bodies = bodies} {f = f} t h b = subst (λ (q : Result Taken Refusal). TakenIs q f prof areas bodies) (b.taken t refl).0 h
 
-  none_l : l.refusal ≡ 0
-  none_l = (none_of_two p.refusal l.refusal z).1
+pub taken_l : {p l : Result Taken Refusal} {lims others front : List ℕ} {f : File} (t : Taken × Taken) → TakenIs l f lims others front → BothTaken (Ok t) p l → TakenIs (Ok t.1) f lims others front
+taken_l {lims = lims} {others = others} {front = front} {f = f} t h b = subst (λ (q : Result Taken Refusal). TakenIs q f lims others front) (b.taken t refl).1 h
 
+module _ (p l : Taken) (prof lims areas others bodies front : List ℕ) (hp : TakenIs (Ok p) profile prof areas bodies) (hl : TakenIs (Ok l) limits lims others front) where
   abbrev tp : RowsTaken p profile prof areas bodies
-  tp = hp.taken none_p
+  tp = hp.taken p refl
 
   abbrev tl : RowsTaken l limits lims others front
-  tl = hl.taken none_l
+  tl = hl.taken l refl
+
+  none_of_two : lesser 0 0 ≡ 0
+  unfolding lesser
+  none_of_two = refl
 
   pub rows_within : p.length ≤ length areas
   rows_within = tp.within
@@ -140,16 +147,14 @@ module _ (p l : Taken) (prof lims areas others bodies front : List ℕ) (hp : Ta
   limits_within = tl.within
 
   pub profile_header : 8 ≤ length prof
-  profile_header = header_there profile prof (none_of_either profile prof (sym none_p ∙ hp.refusal)).0
+  profile_header = header_there profile prof (none_of_either profile prof hp.refusal).0
 
   pub limits_header : 8 ≤ length lims
-  limits_header = header_there limits lims (none_of_either limits lims (sym none_l ∙ hl.refusal)).0
+  limits_header = header_there limits lims (none_of_either limits lims hl.refusal).0
 
   -- what rule 15 is asked of
   pub rows_accepted : AcceptedRows (take p.length areas)
-  rows_accepted =
-      subst (λ (rows : List ℕ). AcceptedRows rows) (sym tp.rows)
-      (accepted_file prof (none_of_either profile prof (sym none_p ∙ hp.refusal)).1)
+  rows_accepted = subst (λ (rows : List ℕ). AcceptedRows rows) (sym tp.rows) (accepted_file prof (none_of_either profile prof hp.refusal).1)
 
   pub declarations_there : IsTable (take p.length areas) declaration_section p.tables.declarations
   declarations_there = subst (λ (rows : List ℕ). IsTable rows declaration_section p.tables.declarations) (sym tp.rows) tp.tables.declarations
@@ -158,7 +163,7 @@ module _ (p l : Taken) (prof lims areas others bodies front : List ℕ) (hp : Ta
   named_there = subst (λ (rows : List ℕ). IsTable rows limit_section l.tables.limits) (sym tl.rows) tl.tables.limits
 
   limits_few : pair_count (take l.length others) limit_section ≤ most_limits
-  limits_few = subst (λ (rows : List ℕ). pair_count rows limit_section ≤ most_limits) (sym tl.rows) (few_limits (rows_of lims) (none_of_either limits lims (sym none_l ∙ hl.refusal)).1)
+  limits_few = subst (λ (rows : List ℕ). pair_count rows limit_section ≤ most_limits) (sym tl.rows) (few_limits (rows_of lims) (none_of_either limits lims hl.refusal).1)
 
   pub limits_read : LimitsRead (take l.length others) l.tables.limits
   limits_read = record { table = named_there; few = limits_few }
@@ -166,25 +171,30 @@ module _ (p l : Taken) (prof lims areas others bodies front : List ℕ) (hp : Ta
   pub bodies_there : BodiesBelow (take p.length areas) bodies (table_count (take p.length areas) type_section)
   bodies_there = subst (λ (rows : List ℕ). BodiesBelow rows bodies (table_count rows type_section)) (sym tp.rows) (tp.held refl)
 
+  pub models_wrong : (model_of prof ≡ model_of lims → ⊥) → models_differ ≡ lowest (pair_rules prof lims)
+  models_wrong h = pair_models prof lims 0 0 hp.refusal hl.refusal none_of_two h
+
   module _ (r : Bool) (wrong : r ≡ limit_wrong (take p.length areas) (take l.length others)) (models : model_of prof ≡ model_of lims) where
     wrong_is : r ≡ limit_wrong (rows_of prof) (rows_of lims)
     wrong_is = wrong ∙ ap₂ limit_wrong tp.rows tl.rows
 
     pub pair_wrong : r ≡ true → bad_limit ≡ lowest (pair_rules prof lims)
-    pair_wrong e = pair_limits prof lims p.refusal l.refusal hp.refusal hl.refusal z models (sym wrong_is ∙ e)
+    pair_wrong e = pair_limits prof lims 0 0 hp.refusal hl.refusal none_of_two models (sym wrong_is ∙ e)
 
     pub pair_done : (owners : List ℕ) → (r ≡ false → LimitsOwned (take p.length areas) (take l.length others) l.tables.limits owners) → r ≡ false
-        → PairIs (record { refusal = 0; rows = p.length; limits = l.length; tables = p.tables; named = l.tables.limits; owners = owners }) prof lims areas others bodies
+        → PairIs (Ok (record { rows = p.length; limits = l.length; tables = p.tables; named = l.tables.limits; owners = owners })) prof lims areas others bodies
     pair_done owners owned e =
+        let pair : Pair = record { rows = p.length; limits = l.length; tables = p.tables; named = l.tables.limits; owners = owners } in
+        let k : TakenPair pair prof lims areas others bodies = record {
+          rows = tp.rows;
+          within = tp.within;
+          tables = tp.tables;
+          limits = tl.rows;
+          within_others = tl.within;
+          limited = owned_as tp.rows tl.rows (owned e);
+          held = tp.held refl;
+        } in
         record {
-          refusal = pair_fine prof lims p.refusal l.refusal hp.refusal hl.refusal z models (sym wrong_is ∙ e);
-          taken = λ k. record {
-            rows = tp.rows;
-            within = tp.within;
-            tables = tp.tables;
-            limits = tl.rows;
-            within_others = tl.within;
-            limited = owned_as tp.rows tl.rows (owned e);
-            held = tp.held refl;
-          };
+          refusal = pair_fine prof lims 0 0 hp.refusal hl.refusal none_of_two models (sym wrong_is ∙ e);
+          taken = λ t q. let s : ◌≡◌ {A = Pair} pair t = cc in subst (λ (x : Pair). TakenPair x prof lims areas others bodies) s k;
         }

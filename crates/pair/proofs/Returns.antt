@@ -10,6 +10,12 @@ use lib.ListN.{length, take}
 use lib.Seq.{length-take-le}
 use borrow.Author.Tests.{eq-eqb, ne_eqb}
 use Rattle.lingua.specs.Numbers.{row_bytes, rows_length, area_bytes, areas_length, type_section}
+use Rattle.std.specs.Prelude.{Result, Ok, Err}
+use Rattle.std.specs.Result.{IsErrAnd}
+use Rattle.std.proofs.lemmas.Result.{err_from_is_err_and}
+use Rattle.lingua.specs.declared.errors.Refusal.{Refusal}
+use Rattle.lingua.specs.Faults.{refusal_number}
+use Rattle.laws.specs.Faults.{refusal_number_counted}
 use Rattle.lingua.specs.Errors.{bad_buffer}
 use Rattle.lingua.specs.Value.{all_of, pad}
 use Rattle.lingua.specs.Rows.{row_count, table_count}
@@ -24,7 +30,8 @@ use Rattle.blocks.specs.Blocks.{Gathered}
 use Rattle.decoder.specs.Tables.{AreTables}
 use Rattle.rules.specs.Types.{BodiesBelow}
 use Rattle.rules.specs.Refusals.{Judged}
-use Rattle.pair.specs.Taken.{room_for, TakenIs}
+use Rattle.decoder.specs.declared.tables.Tables.{Tables}
+use Rattle.pair.specs.Taken.{room_for, RowsTaken, TakenIs}
 use Rattle.pair.specs.declared.file.Taken.{Taken}
 use Rattle.laws.specs.Accepted.{accepted_rows}
 use Rattle.laws.specs.Areas.{count_rows}
@@ -133,22 +140,32 @@ module _ (f : File) (model : ℕ) (rows buffer : List ℕ) (tens : length rows %
   write_done out e p = rw (write_refusal_is 0 e, p)
 
 -- ---- taking a file whole
-pub taken_by_file : (t : Taken) (f : File) (file areas bodies : List ℕ) → t.refusal ≡ lowest (file_rules f file) → (t.refusal ≡ 0 → ⊥) → TakenIs t f file areas bodies
-taken_by_file t f file areas bodies e h =
-    record { refusal = by_file f file t.refusal e h; taken = λ z. absurd (h z) }
+-- what the exit of a `?` returns
+pub passed_on : {A : Type 0} {e : Refusal} (r : Result A Refusal) → IsErrAnd r (λ d. d ≡ e) → r ≡ Err e
+passed_on r h = let p = err_from_is_err_and r h in rw p.2 at p.1
 
-pub taken_by_rows : (t : Taken) (f : File) (file areas bodies : List ℕ) → lowest (file_rules f file) ≡ 0 → Gathered t.length areas file → AreTables (take t.length areas) t.tables
-    → Judged t.refusal f (take t.length areas) bodies → TakenIs t f file areas bodies
-taken_by_rows t f file areas bodies z g a e =
-    record {
-      refusal = by_rows f file t.refusal z (e.refusal ∙ ap (λ (rows : List ℕ). lowest (row_rules f rows)) g.rows);
-      taken = λ k. record {
+pub some_refusal : (e : Refusal) → refusal_number e ≡ 0 → ⊥
+some_refusal e z = let l : 1 ≤ refusal_number e = (refusal_number_counted e).0 in omega arith
+
+pub taken_by_file : (f : File) (file areas bodies : List ℕ) {e : Refusal} → refusal_number e ≡ lowest (file_rules f file) → TakenIs (Err e) f file areas bodies
+taken_by_file f file areas bodies {e} h = record { refusal = by_file f file (refusal_number e) h (some_refusal e); taken = λ t q. cc }
+
+module _ (f : File) (file areas bodies : List ℕ) (n : ℕ) (tables : Tables) (z : lowest (file_rules f file) ≡ 0) (g : Gathered n areas file) {A : Type 0} where
+  pub refused_by_rows : {e : Refusal} → Judged {A = A} (Err e) f (take n areas) bodies → TakenIs (Err e) f file areas bodies
+  refused_by_rows {e} h = record { refusal = by_rows f file (refusal_number e) z (h.refusal ∙ ap (λ (rows : List ℕ). lowest (row_rules f rows)) g.rows); taken = λ t q. cc }
+
+  pub taken_by_rows : {u : A} → AreTables (take n areas) tables → Judged (Ok u) f (take n areas) bodies → TakenIs (Ok (record { length = n; tables = tables })) f file areas bodies
+  taken_by_rows a h =
+      let r : RowsTaken (record { length = n; tables = tables }) f file areas bodies = record {
         rows = g.rows;
         within = g.inside;
-        tables = subst (λ (rows : List ℕ). AreTables rows t.tables) g.rows a;
-        held = λ p. subst (λ (rows : List ℕ). BodiesBelow rows bodies (table_count rows type_section)) g.rows (e.held p k);
-      };
-    }
+        tables = subst (λ (rows : List ℕ). AreTables rows tables) g.rows a;
+        held = λ p. subst (λ (rows : List ℕ). BodiesBelow rows bodies (table_count rows type_section)) g.rows (h.held p refl);
+      } in
+      record {
+        refusal = by_rows f file 0 z (h.refusal ∙ ap (λ (rows : List ℕ). lowest (row_rules f rows)) g.rows);
+        taken = λ t q. let e : ◌≡◌ {A = Taken} (record { length = n; tables = tables }) t = cc in subst (λ (k : Taken). RowsTaken k f file areas bodies) e r;
+      }
 
 -- a limits file's one block, a profile's seventeen: their rows have room
 pub room_enough : (f : File) (file : List ℕ) (n : ℕ) → lowest (file_rules f file) ≡ 0 → room_for f ≤ n → area_bytes * block_count file ≤ n
@@ -171,15 +188,16 @@ header_there limits file e =
     let s = (file_passes limits file e).sized in
     omega (arith, length_whole limits file s, limits_one file s)
 
-pub taken_length : (t : Taken) (f : File) (file areas bodies : List ℕ) → TakenIs t f file areas bodies → t.refusal ≡ 0 → (t.length ≡ row_bytes * row_count (rows_of file)) × (t.length ≤ rows_length)
-taken_length t f file areas bodies h z =
-    let k = h.taken z in
-    let n : t.length ≡ length (rows_of file) = sym (length-take-le t.length areas k.within) ∙ ap length k.rows in
-    let m : row_bytes * row_count (rows_of file) ≤ rows_length = accepted_rows f (rows_of file) (none_of_either f file (sym z ∙ h.refusal)).1 in
-    (n ∙ sym (count_rows file), omega (arith, count_rows file))
+module _ (t : Taken) (f : File) (file areas bodies : List ℕ) (h : TakenIs (Ok t) f file areas bodies) where
+  pub taken_length : (t.length ≡ row_bytes * row_count (rows_of file)) × (t.length ≤ rows_length)
+  taken_length =
+      let k = h.taken t refl in
+      let n : t.length ≡ length (rows_of file) = sym (length-take-le t.length areas k.within) ∙ ap length k.rows in
+      let m : row_bytes * row_count (rows_of file) ≤ rows_length = accepted_rows f (rows_of file) (none_of_either f file h.refusal).1 in
+      (n ∙ sym (count_rows file), omega (arith, count_rows file))
 
-pub rows_written : (t : Taken) (f : File) (file areas bodies out : List ℕ) (n : ℕ) → TakenIs t f file areas bodies → t.refusal ≡ 0 → n ≡ rows_length → out ≡ pad n 0 (take t.length areas) → out ≡ pad rows_length 0 (rows_of file)
-rows_written t f file areas bodies out n h z l e = e ∙ ap₂ (λ (k : ℕ) (rows : List ℕ). pad k 0 rows) l (h.taken z).rows
+  pub rows_written : (out : List ℕ) (n : ℕ) → n ≡ rows_length → out ≡ pad n 0 (take t.length areas) → out ≡ pad rows_length 0 (rows_of file)
+  rows_written out n l e = e ∙ ap₂ (λ (k : ℕ) (rows : List ℕ). pad k 0 rows) l (h.taken t refl).rows
 
 -- the file of accepted rows has at most twenty-two blocks
 pub file_short : (f : File) (rows : List ℕ) → lowest (row_rules f rows) ≡ 0 → file_length f (row_count rows) ≤ 11264

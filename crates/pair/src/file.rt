@@ -6,39 +6,36 @@ ghost use Rattle.pair.specs.Taken.{room_for, TakenIs};
 
 use blocks::rows::gather_rows;
 use blocks::rules::file_refusal;
-use decoder::tables::{Tables, no_tables, tables_of};
+use decoder::tables::{Tables, tables_of};
 use lingua::FileKind;
-use lingua::errors::NO_ERROR;
+use lingua::errors::Refusal;
 use rules::refusal::rows_refusal;
 
-// The lowest of a file's own rules, 0 where none applies; then its rows are so many bytes, in these tables.
+// A file's rows are so many bytes, in these tables.
 #[derive(Clone, Copy)]
 pub struct Taken {
-    pub refusal: u8,
     pub length: usize,
     pub tables: Tables,
 }
 
 // A whole file, its rows gathered to the front of areas, which has room for those of any accepted file of its kind; and the bodies of a
 // profile's type rows.
-pub fn take(kind: FileKind, file: &[u8], areas: &mut [u8], bodies: &mut [u8]) -> Taken
+pub fn take(
+    kind: FileKind,
+    file: &[u8],
+    areas: &mut [u8],
+    bodies: &mut [u8],
+) -> Result<Taken, Refusal>
     requires kind_in_bounds { room_for (file_meaning kind) ≤ length areas.old }
     requires bodies_len { length bodies.old ≡ type_bodies_length }
     ensures { TakenIs result (file_meaning kind) file.now areas.new bodies.new }
 {
-    let first = file_refusal(kind, file);
-    if first != NO_ERROR {
-        return Taken {
-            refusal: first,
-            length: 0,
-            tables: no_tables(),
-        };
-    }
+    file_refusal(kind, file)?;
     let n = gather_rows(file, &mut *areas);
     let tables = tables_of(&areas[..n]);
-    Taken {
-        refusal: rows_refusal(kind, &areas[..n], tables, bodies),
+    rows_refusal(kind, &areas[..n], tables, bodies)?;
+    Ok(Taken {
         length: n,
         tables: tables,
-    }
+    })
 }

@@ -4,23 +4,23 @@
 ghost use Rattle.std.specs.Prelude.{◌≡◌};
 ghost use Rattle.lingua.specs.Refusal.{rank};
 ghost use Rattle.laws.specs.Lowest.{lesser};
-ghost use Rattle.pair.specs.Pair.{Room, PairIs};
+ghost use Rattle.lingua.specs.Faults.{refusal_number};
+ghost use Rattle.pair.specs.Pair.{Room, PairIs, BothTaken};
 
-use crate::file::take;
+use crate::file::{Taken, take};
 use blocks::words::word16_at;
-use decoder::tables::{Table, Tables, no_tables};
+use decoder::tables::{Table, Tables};
 use lingua::FileKind;
-use lingua::errors::{BAD_LIMIT, BAD_PARAMETERS, MODELS_DIFFER, NO_ERROR, REPEATED_REFERENCE};
+use lingua::errors::Refusal;
 use lingua::sizes::MOST_LIMITS;
 use profile::agreement::limit_wrong;
 
 pub mod file; // file.rt: one file
 
-// The first rule of both files, 0 where none applies; then their rows are so many bytes, the profile's in these tables, the limits in this
-// one, and each limit is that of the variable of this number.
+// Both files' rows are so many bytes, the profile's in these tables, the limits in this one, and each limit is that of the variable of this
+// number.
 #[derive(Clone, Copy)]
 pub struct Pair {
-    pub refusal: u8,
     pub rows: usize,
     pub limits: usize,
     pub tables: Tables,
@@ -29,51 +29,42 @@ pub struct Pair {
 }
 
 // Where a refusal stands in the order: 18 and 19 come behind 13, and 14 to 17 behind them.
-fn rank(n: u8) -> u8
-    ensures { result ≡ rank n }
+fn rank(refusal: Refusal) -> u8
+    ensures { result ≡ rank (refusal_number refusal) }
 {
-    if n < MODELS_DIFFER {
-        return n;
+    match refusal {
+        Refusal::BadParameters => 14,
+        Refusal::RepeatedReference => 15,
+        Refusal::ModelsDiffer => 16,
+        Refusal::BadLimit => 17,
+        Refusal::BadReading => 18,
+        Refusal::TypeErrorFound => 19,
+        other => other.number(),
     }
-    if n < BAD_PARAMETERS {
-        return n + 2;
-    }
-    if n <= REPEATED_REFERENCE {
-        return n - 4;
-    }
-    20
 }
 
-// The earlier of two refusals, where 0 is none.
-fn lower(a: u8, b: u8) -> u8
-    ensures { result ≡ lesser a b }
+// The earlier of two refusals.
+fn earlier(a: Refusal, b: Refusal) -> Refusal
+    ensures { refusal_number result ≡ lesser (refusal_number a) (refusal_number b) }
 {
-    if a == 0 {
-        return b;
-    }
-    if b == 0 {
-        return a;
-    }
     if rank(a) < rank(b) {
         return a;
     }
     b
 }
 
-// A refused pair has no rows.
-pub fn refused(number: u8) -> Pair
-    ensures { result.refusal ≡ number }
+// Both files, or the earlier of their refusals.
+fn both_taken(
+    profile: Result<Taken, Refusal>,
+    limits: Result<Taken, Refusal>,
+) -> Result<(Taken, Taken), Refusal>
+    ensures { BothTaken result profile limits }
 {
-    let tables = no_tables();
-    let named = tables.limits;
-    let owners = [0u8; MOST_LIMITS];
-    Pair {
-        refusal: number,
-        rows: 0,
-        limits: 0,
-        tables: tables,
-        named: named,
-        owners: owners,
+    match (profile, limits) {
+        (Ok(p), Ok(l)) => Ok((p, l)),
+        (Err(a), Err(b)) => Err(earlier(a, b)),
+        (Err(a), Ok(_)) => Err(a),
+        (Ok(_), Err(b)) => Err(b),
     }
 }
 
@@ -84,42 +75,34 @@ pub fn take_pair(
     areas: &mut [u8],
     others: &mut [u8],
     bodies: &mut [u8],
-) -> Pair
+) -> Result<Pair, Refusal>
     requires { Room areas.old others.old bodies.old }
     ensures { PairIs result profile.now limits.now areas.new others.new bodies.new }
 {
     let l = take(FileKind::Limits, limits, &mut *others, &mut *bodies);
     let p = take(FileKind::Profile, profile, &mut *areas, &mut *bodies);
-    let own = lower(p.refusal, l.refusal);
-    if own != NO_ERROR {
-        return refused(own);
-    }
+    let taken = both_taken(p, l)?;
+    let (p, l) = taken;
     if word16_at(profile, 6) != word16_at(limits, 6) {
-        return refused(MODELS_DIFFER);
+        return Err(Refusal::ModelsDiffer);
     }
-    let n = p.length;
-    let m = l.length;
-    let tables = p.tables;
-    let declarations = tables.declarations;
-    let others_tables = l.tables;
-    let named = others_tables.limits;
+    let named = l.tables.limits;
     let mut owners = [0u8; MOST_LIMITS];
     if limit_wrong(
-        &areas[..n],
-        declarations,
+        &areas[..p.length],
+        p.tables.declarations,
         bodies,
-        &others[..m],
+        &others[..l.length],
         named,
         &mut owners,
     ) {
-        return refused(BAD_LIMIT);
+        return Err(Refusal::BadLimit);
     }
-    Pair {
-        refusal: NO_ERROR,
-        rows: n,
-        limits: m,
-        tables: tables,
+    Ok(Pair {
+        rows: p.length,
+        limits: l.length,
+        tables: p.tables,
         named: named,
         owners: owners,
-    }
+    })
 }

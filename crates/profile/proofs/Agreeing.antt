@@ -21,7 +21,7 @@ use Rattle.lingua.specs.Lookup.{look_up}
 use Rattle.lingua.specs.Format.{every_below}
 use Rattle.lingua.specs.Refusal.{is_quantity_variable, ends_fit, names_one, limit_fits, limit_wrong, reading_wrong}
 use Rattle.laws.specs.Outcomes.{and_both}
-use Rattle.laws.specs.Tests.{below_suc, every_at, every_more, every_false}
+use Rattle.laws.specs.Tests.{below_suc, every_more, every_false}
 use Rattle.laws.specs.Lookup.{found_first}
 use Rattle.safety.specs.Accepted.{AcceptedRows}
 use Rattle.rules.specs.Accepted.{counts}
@@ -29,8 +29,7 @@ use Rattle.body.specs.Encode.{Holds}
 use Rattle.body.proofs.Tags.{is_hundredths_lem, not_hundredths}
 use Rattle.decoder.specs.declared.tables.Table.{Table}
 use Rattle.profile.specs.Find.{limit, OneNamed, OwnerIs, LimitsRead, OwnersBelow, LimitsOwned}
-use Rattle.profile.specs.declared.agreement.Owner.{Owner}
-use Rattle.profile.specs.declared.agreement.Owner.TheVariants as owner
+use Rattle.std.specs.Prelude.{Option, Some, None}
 use Rattle.profile.proofs.Declaring.{hundredths_first, number_first}
 
 -- ---- order
@@ -80,15 +79,15 @@ module _ (rows limits : List ℕ) (l : ℕ) (low high : ℤ) (el : low ≡ (limi
   unfolding limit_fits ends_fit
   limit_by a d p s = rw (← el, ← eh, p, s)
 
-  pub ends_crossed : lt_z high low ≡ true → OwnerIs owner.Nobody rows limits l
+  pub ends_crossed : lt_z high low ≡ true → OwnerIs None rows limits l
   unfolding OwnerIs
   ends_crossed e = limit_by false _ (order high low ∙ ap not e) refl
 
   -- ends in order: whose the limit is, its name decides
-  pub name_decides : (o : Owner) → lt_z high low ≡ false → OneNamed (ends_fit (limit low high)) o rows (name_at limits limit_section l) → OwnerIs o rows limits l
+  pub name_decides : (o : Option ℕ) → lt_z high low ≡ false → OneNamed (ends_fit (limit low high)) o rows (name_at limits limit_section l) → OwnerIs o rows limits l
   unfolding OneNamed OwnerIs
-  name_decides (owner.Of d) e (s, t) = (s, limit_by true true (order high low ∙ ap not e) t)
-  name_decides owner.Nobody e s = limit_by true false (order high low ∙ ap not e) s
+  name_decides (Some d) e (s, t) = (s, limit_by true true (order high low ∙ ap not e) t)
+  name_decides None e s = limit_by true false (order high low ∙ ap not e) s
 
 -- ---- all limits
 module _ (rows limits : List ℕ) where
@@ -101,16 +100,16 @@ module _ (rows limits : List ℕ) where
   owned_none owners = record { fit = every_begins (λ j. limit_fits rows limits j); owners_are = record { owned = λ l h. absurd (let k : ⊥ = omega arith in k) } }
 
   -- an owner's number fits a byte: it is a variable's
-  pub owner_small : AcceptedRows rows → (o : Owner) (d l : ℕ) → o ≡ owner.Of d → OwnerIs o rows limits l → d < most_variables
+  pub owner_small : AcceptedRows rows → (o : Option ℕ) (d l : ℕ) → o ≡ Some d → OwnerIs o rows limits l → d < most_variables
   unfolding OwnerIs
   owner_small accepted o d l e h =
-      let at = (found_first rows (name_at limits limit_section l) d (subst (λ (q : Owner). OwnerIs q rows limits l) e h).0).0 in
+      let at = (found_first rows (name_at limits limit_section l) d (subst (λ (q : Option ℕ). OwnerIs q rows limits l) e h).0).0 in
       omega (arith, at.there, (counts rows accepted.counts).variables.most)
 
-  pub owned_more : (owners : List ℕ) (l d : ℕ) (o : Owner) → l < length owners → o ≡ owner.Of d → OwnerIs o rows limits l → OwnedTo owners l → OwnedTo (set owners l d) (l + 1)
+  pub owned_more : (owners : List ℕ) (l d : ℕ) (o : Option ℕ) → l < length owners → o ≡ Some d → OwnerIs o rows limits l → OwnedTo owners l → OwnedTo (set owners l d) (l + 1)
   unfolding OwnerIs
   owned_more owners l d o i e h before =
-      let own = subst (λ (q : Owner). OwnerIs q rows limits l) e h in
+      let own = subst (λ (q : Option ℕ). OwnerIs q rows limits l) e h in
       record {
         fit = every_more l (λ j. limit_fits rows limits j) before.fit own.1;
         owners_are = record {
@@ -122,10 +121,10 @@ module _ (rows limits : List ℕ) where
       }
 
   module _ (u : Table) (read : LimitsRead limits u) (count : u.count / 2 ≡ pair_count limits limit_section) where
-    pub limits_wrong : (l : ℕ) (o : Owner) → o ≡ owner.Nobody → OwnerIs o rows limits l → l < u.count / 2 → true ≡ limit_wrong rows limits
+    pub limits_wrong : (l : ℕ) (o : Option ℕ) → o ≡ None → OwnerIs o rows limits l → l < u.count / 2 → true ≡ limit_wrong rows limits
     unfolding limit_wrong OwnerIs
     limits_wrong l o e h k =
-        one_wrong (pair_count limits limit_section) (λ j. limit_fits rows limits j) l (subst (λ (q : Owner). OwnerIs q rows limits l) e h) (omega arith)
+        one_wrong (pair_count limits limit_section) (λ j. limit_fits rows limits j) l (subst (λ (q : Option ℕ). OwnerIs q rows limits l) e h) (omega arith)
 
     module _ (owners : List ℕ) (l : ℕ) (h : OwnedTo owners l) (all : l ≡ u.count / 2) where
       pub limits_right : false ≡ limit_wrong rows limits
@@ -152,12 +151,6 @@ module _ (rows vs : List ℕ) where
   unfolding reading_wrong
   too_many h = rw (lt-ltb most_readings (length vs) h)
 
-  pub reading_fails : (i : ℕ) (b : Bool) → length vs ≤ most_readings → i < length vs → b ≡ is_quantity_variable rows (get_or vs i 0) → b ≡ false → true ≡ reading_wrong rows vs
+  pub readings_told : length vs ≤ most_readings → not (all_of (λ v. is_quantity_variable rows v) vs) ≡ reading_wrong rows vs
   unfolding reading_wrong
-  reading_fails i b n h e f =
-      rw (le-ltb most_readings (length vs) n, all_fails (λ v. is_quantity_variable rows v) vs i h (sym e ∙ f))
-
-  pub readings_right : (i : ℕ) → length vs ≤ most_readings → every_below i (λ k. is_quantity_variable rows (get_or vs k 0)) ≡ true → length vs ≤ i → false ≡ reading_wrong rows vs
-  unfolding reading_wrong
-  readings_right i n h l =
-      rw (le-ltb most_readings (length vs) n, all_by (λ v. is_quantity_variable rows v) vs (λ k q. every_at i (λ j. is_quantity_variable rows (get_or vs j 0)) k h (omega arith)))
+  readings_told n = rw (le-ltb most_readings (length vs) n)

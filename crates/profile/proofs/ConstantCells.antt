@@ -3,6 +3,7 @@ use mathlib.Core.Path.{◌≡◌, refl, sym, ap, ◌∙◌, subst}
 use mathlib.Core.Logic.{◌≢◌}
 use mathlib.Core.Bool.{Bool, true, false, not}
 use mathlib.Core.List.{List, [], ◌∷◌}
+use Rattle.std.specs.Prelude.{Some, None}
 use Prim.Native.Nat.{ℕ, ◌+◌}
 use native.Mathlib.Omega.{arith}
 use lib.Dec.{leb}
@@ -22,13 +23,11 @@ use Rattle.laws.specs.Sound.{fit_word}
 use Rattle.body.specs.Encode.{Holds}
 use Rattle.safety.specs.Constants.{Fitting}
 use Rattle.decoder.specs.Tables.{IsTable}
-use Rattle.decoder.specs.Decoded.{simple_meaning, constant_meaning, expression_meaning, expression_decoded, in_bytes, ExpressionSays}
+use Rattle.decoder.specs.Decoded.{simple_meaning, constant_meaning, expression_meaning, Decoded, decoded, in_bytes, ExpressionSays}
 use Rattle.decoder.specs.declared.tables.Table.{Table}
 use Rattle.decoder.specs.declared.decode.Simple.{Simple}
 use Rattle.decoder.specs.declared.decode.Simple.TheVariants as simple
 use Rattle.decoder.specs.declared.decode.ExpressionRow.{ExpressionRow as CodeRow}
-use Rattle.decoder.specs.declared.decode.DecodedExpression.{DecodedExpression}
-use Rattle.decoder.specs.declared.decode.DecodedExpression.TheVariants as decoded
 use Rattle.profile.specs.Row.{value_of, constant_of}
 use Rattle.profile.specs.Constants.{SimpleIn, ConstantSays, ConstantRow, IsCell}
 use Rattle.decoder.proofs.Decoding.{place}
@@ -74,21 +73,19 @@ simple_in_bytes (all_list_row a) rows i s h = h
 simple_in_bytes unknown_expression rows i s h = h
 
 module _ (rows : List ℕ) (t : Table) (r : ℕ) (h : IsTable rows expression_section t) where
-  simple_at : (d : DecodedExpression) (s : Simple) → ExpressionSays rows (t.start + r) d → SimpleIn (expression_decoded rows (t.start + r) d) rows (t.start + r) s → ConstantSays rows r s
+  simple_at : (d : Decoded CodeRow) (s : Simple) → ExpressionSays rows (t.start + r) d → SimpleIn (decoded unknown_expression (expression_meaning rows (t.start + r)) d) rows (t.start + r) s → ConstantSays rows r s
   unfolding ConstantSays expression_row
   simple_at d s e q =
       let p : SimpleIn (in_bytes (expression_at rows (t.start + r))) rows (t.start + r) s = subst (λ (x : ExpressionRow). SimpleIn x rows (t.start + r) s) e.says q in
       subst (λ (i : ℕ). SimpleIn (expression_at rows i) rows i s) (place rows expression_section t r h) (simple_in_bytes (expression_at rows (t.start + r)) rows (t.start + r) s p)
 
-  pub simple_unknown : (d : DecodedExpression) → ExpressionSays rows (t.start + r) d → d ≡ decoded.Unknown → ConstantSays rows r simple.Boolean
-  unfolding expression_decoded value_of is_constant
-  simple_unknown d e u =
-      simple_at d simple.Boolean e (subst (λ (x : DecodedExpression). SimpleIn (expression_decoded rows (t.start + r) x) rows (t.start + r) simple.Boolean) (sym u) (simple_none unknown_expression rows (t.start + r) refl refl))
+  pub simple_unknown : ExpressionSays rows (t.start + r) None → ConstantSays rows r simple.Boolean
+  unfolding decoded value_of is_constant
+  simple_unknown e = simple_at None simple.Boolean e (simple_none unknown_expression rows (t.start + r) refl refl)
 
-  pub simple_known : (d : DecodedExpression) (s : Simple) (n : ℕ) (row : CodeRow) → ExpressionSays rows (t.start + r) d → d ≡ decoded.Known n row → SimpleIn (expression_meaning rows (t.start + r) row) rows (t.start + r) s → ConstantSays rows r s
-  unfolding expression_decoded
-  simple_known d s n row e u q =
-      simple_at d s e (subst (λ (x : DecodedExpression). SimpleIn (expression_decoded rows (t.start + r) x) rows (t.start + r) s) (sym u) q)
+  pub simple_known : {n : ℕ} {row : CodeRow} (s : Simple) → ExpressionSays rows (t.start + r) (Some (n, row)) → SimpleIn (expression_meaning rows (t.start + r) row) rows (t.start + r) s → ConstantSays rows r s
+  unfolding decoded
+  simple_known {n} {row} s e q = simple_at (Some (n, row)) s e q
 
   -- ---- its composite
   module _ (s : Simple) (says : ConstantSays rows r s) where

@@ -3,22 +3,19 @@ use mathlib.Core.Path.{◌≡◌, refl, sym, ap, ◌∙◌}
 use mathlib.Core.Bool.{Bool, true, false}
 use mathlib.Core.List.{List, [], ◌∷◌}
 use mathlib.Core.Option.{Option, some, none}
+use Rattle.std.specs.Prelude.{Some, None}
 use Prim.Native.Nat.{ℕ, ◌+◌, ◌<◌}
 use native.Mathlib.Omega.{arith}
 use Rattle.lingua.specs.Numbers.{expression_section, instruction_section, attribute_numbers}
 use Rattle.lingua.specs.Operation.{Unary, Binary}
-use Rattle.lingua.specs.Rows.{row_in, ExpressionRow, constant_row, variable_row, current_row, unary_row, binary_row, lazy_row, choice_row, all_list_row, unknown_expression, expression_at, expression_row, instruction_at, instruction_row}
+use Rattle.lingua.specs.Rows.{row_in, ExpressionRow, constant_row, variable_row, current_row, unary_row, binary_row, lazy_row, choice_row, all_list_row, unknown_expression, expression_row, instruction_at, instruction_row}
 use Rattle.lingua.specs.Rules.{attributes_fit, expression_attributes}
 use Rattle.laws.specs.Outcomes.{false_is_true}
 use Rattle.decoder.specs.Tables.{IsTable}
-use Rattle.decoder.specs.Decoded.{byte, Naming, names_none, names_one_lem, unary_naming, binary_naming, renamed, expression_meaning, expression_decoded, expression_uses, unary_in_bytes, binary_in_bytes, in_bytes, ExpressionSays, instruction_meaning, instruction_decoded, instruction_uses, InstructionSays}
+use Rattle.decoder.specs.Decoded.{byte, Naming, names_none, names_one_lem, unary_naming, binary_naming, renamed, expression_meaning, unary_in_bytes, binary_in_bytes, in_bytes, ExpressionSays, instruction_meaning, decoded, uses, InstructionSays}
 use Rattle.decoder.specs.declared.tables.Table.{Table}
 use Rattle.decoder.specs.declared.decode.ExpressionRow.{ExpressionRow as CodeRow}
 use Rattle.decoder.specs.declared.decode.InstructionRow.{InstructionRow as CodeInstruction}
-use Rattle.decoder.specs.declared.decode.DecodedExpression.{DecodedExpression}
-use Rattle.decoder.specs.declared.decode.DecodedExpression.TheVariants as decoded
-use Rattle.decoder.specs.declared.decode.DecodedInstruction.{DecodedInstruction}
-use Rattle.decoder.specs.declared.decode.DecodedInstruction.TheVariants as decoded_instruction
 use Rattle.decoder.proofs.Decoding.{place}
 use Rattle.rules.proofs.TypeRows.{one_fits}
 use Rattle.profile.specs.Row.{KnownExpression, KnownInstruction, RowSays}
@@ -51,25 +48,22 @@ no_bytes {n} p q = false_is_true (ap is_some_lem (p ∙ q))
     is_some_lem none = false
     is_some_lem (some m) = true
 
-module _ (rows : List ℕ) (t : Table) (r : ℕ) (h : IsTable rows expression_section t) (d : DecodedExpression) (s : ExpressionSays rows (t.start + r) d) where
-  pub expression_says : KnownExpression rows r → (n : ℕ) (row : CodeRow) → d ≡ decoded.Known n row → RowSays rows r row
-  unfolding expression_decoded expression_row
-  expression_says k n row e =
-      let q : expression_meaning rows (t.start + r) row ≡ in_bytes (expression_at rows (t.start + r)) = ap (expression_decoded rows (t.start + r)) (sym e) ∙ s.says in
-      let p : expression_meaning rows (row_in rows expression_section r) row ≡ in_bytes (expression_row rows r) = rw (← place rows expression_section t r h) q in
+module _ (rows : List ℕ) (t : Table) (r : ℕ) (h : IsTable rows expression_section t) where
+  pub expression_says : {n : ℕ} {row : CodeRow} → ExpressionSays rows (t.start + r) (Some (n, row)) → KnownExpression rows r → RowSays rows r row
+  unfolding decoded expression_row
+  expression_says {n} {row} s k =
+      let p : expression_meaning rows (row_in rows expression_section r) row ≡ in_bytes (expression_row rows r) = rw (← place rows expression_section t r h) s.says in
       record { says = p ∙ row_same (expression_row rows r) k.attributes }
 
-  pub expression_not_unknown : KnownExpression rows r → d ≡ decoded.Unknown → ⊥
-  unfolding expression_uses
-  expression_not_unknown k e =
-      no_bytes {n = k.kind.bytes} (ap expression_uses (sym e) ∙ s.uses) (rw (place rows expression_section t r h) k.kind.is)
+  pub expression_not_unknown : ExpressionSays rows (t.start + r) None → KnownExpression rows r → ⊥
+  unfolding uses
+  expression_not_unknown s k = no_bytes {n = k.kind.bytes} s.uses (rw (place rows expression_section t r h) k.kind.is)
 
-module _ (rows : List ℕ) (t : Table) (r : ℕ) (h : IsTable rows instruction_section t) (d : DecodedInstruction) (s : InstructionSays rows (t.start + r) d) where
-  pub instruction_says : (n : ℕ) (row : CodeInstruction) → d ≡ decoded_instruction.Known n row → instruction_meaning row ≡ instruction_row rows r
-  unfolding instruction_decoded instruction_row
-  instruction_says n row e = ap instruction_decoded (sym e) ∙ (s.says ∙ ap (instruction_at rows) (place rows instruction_section t r h))
+module _ (rows : List ℕ) (t : Table) (r : ℕ) (h : IsTable rows instruction_section t) where
+  pub instruction_says : {n : ℕ} {row : CodeInstruction} → InstructionSays rows (t.start + r) (Some (n, row)) → instruction_meaning row ≡ instruction_row rows r
+  unfolding decoded instruction_row
+  instruction_says s = s.says ∙ ap (instruction_at rows) (place rows instruction_section t r h)
 
-  pub instruction_not_unknown : KnownInstruction rows r → d ≡ decoded_instruction.Unknown → ⊥
-  unfolding instruction_uses
-  instruction_not_unknown k e =
-      no_bytes {n = k.kind.bytes} (ap instruction_uses (sym e) ∙ s.uses) (rw (place rows instruction_section t r h) k.kind.is)
+  pub instruction_not_unknown : InstructionSays rows (t.start + r) None → KnownInstruction rows r → ⊥
+  unfolding uses
+  instruction_not_unknown s k = no_bytes {n = k.kind.bytes} s.uses (rw (place rows instruction_section t r h) k.kind.is)

@@ -18,21 +18,20 @@ use Rattle.laws.specs.Equal.{same_text_lem, text_same}
 use Rattle.laws.specs.Lookup.{Unnamed, NamedAt, found_first, found_none}
 use Rattle.safety.specs.Answers.{true_is_false}
 use Rattle.safety.specs.Limited.{variable_named}
-use Rattle.profile.specs.Find.{found_meaning, OneNamed}
-use Rattle.profile.specs.declared.find.Found.{Found}
-use Rattle.profile.specs.declared.find.Found.TheVariants.{At, Nothing}
-use Rattle.profile.specs.declared.agreement.Owner.TheVariants as owner
+use Rattle.std.specs.Prelude.{Some, None}
+use Rattle.profile.specs.Find.{found_at, found_meaning, OneNamed}
+use Rattle.profile.specs.declared.find.Search.{Search}
 use Rattle.profile.proofs.Agreeing.{one_wrong}
 
 -- ---- by the case that was found
 module _ (p : Body → Bool) (rows name : List ℕ) where
-  pub is_found : (r : Found) (d n : ℕ) → r ≡ At d n → found_meaning r ≡ look_up rows name → (look_up rows name).found ≡ some d
+  pub is_found : (r : Search) (d : ℕ) → r.index ≡ Some d → found_meaning r ≡ look_up rows name → (look_up rows name).found ≡ some d
   unfolding found_meaning
-  is_found r d n e h = ap (λ (l : Lookup). l.found) (sym h ∙ ap found_meaning e)
+  is_found r d e h = ap (λ (l : Lookup). l.found) (sym h) ∙ ap found_at e
 
-  is_nothing : (r : Found) (n : ℕ) → r ≡ Nothing n → found_meaning r ≡ look_up rows name → (look_up rows name).found ≡ none
+  is_nothing : (r : Search) → r.index ≡ None → found_meaning r ≡ look_up rows name → (look_up rows name).found ≡ none
   unfolding found_meaning
-  is_nothing r n e h = ap (λ (l : Lookup). l.found) (sym h ∙ ap found_meaning e)
+  is_nothing r e h = ap (λ (l : Lookup). l.found) (sym h) ∙ ap found_at e
 
   -- ---- rule 15
   name_missing : Unnamed rows name (pair_count rows declaration_section) → names_one p rows name ≡ false
@@ -60,22 +59,22 @@ module _ (p : Body → Bool) (rows name : List ℕ) where
       by false true e q = true_is_false (sym (variable_named rows right p d h.there name back q) ∙ e)
 
   -- a variable that is found is there
-  pub found_there : (r : Found) (d n : ℕ) → r ≡ At d n → found_meaning r ≡ look_up rows name → d < pair_count rows declaration_section
-  found_there r d n e h = (found_first rows name d (is_found r d n e h)).0.there
+  pub found_there : (r : Search) (d : ℕ) → r.index ≡ Some d → found_meaning r ≡ look_up rows name → d < pair_count rows declaration_section
+  found_there r d e h = (found_first rows name d (is_found r d e h)).0.there
 
   -- ---- the ways in which the variable of a name is found or not
-  pub none_named : (r : Found) (n : ℕ) → r ≡ Nothing n → found_meaning r ≡ look_up rows name → OneNamed p owner.Nobody rows name
+  pub none_named : (r : Search) → r.index ≡ None → found_meaning r ≡ look_up rows name → OneNamed p None rows name
   unfolding OneNamed
-  none_named r n e h = name_missing (found_none rows name (is_nothing r n e h)).0
+  none_named r e h = name_missing (found_none rows name (is_nothing r e h)).0
 
-  module _ (r : Found) (d n : ℕ) (e : r ≡ At d n) (h : found_meaning r ≡ look_up rows name) (right : name_wrong profile rows ≡ false) (b : Bool) (is : b ≡ is_variable_of p rows d) where
+  module _ (r : Search) (d : ℕ) (e : r.index ≡ Some d) (h : found_meaning r ≡ look_up rows name) (right : name_wrong profile rows ≡ false) (b : Bool) (is : b ≡ is_variable_of p rows d) where
     names_as : names_one p rows name ≡ b
-    names_as = sym (is ∙ name_found d right (found_first rows name d (is_found r d n e h)).0)
+    names_as = sym (is ∙ name_found d right (found_first rows name d (is_found r d e h)).0)
 
-    pub one_named : b ≡ true → OneNamed p (owner.Of d) rows name
+    pub one_named : b ≡ true → OneNamed p (Some d) rows name
     unfolding OneNamed
-    one_named t = (is_found r d n e h, names_as ∙ t)
+    one_named t = (is_found r d e h, names_as ∙ t)
 
-    pub other_named : b ≡ false → OneNamed p owner.Nobody rows name
+    pub other_named : b ≡ false → OneNamed p None rows name
     unfolding OneNamed
     other_named f = names_as ∙ f

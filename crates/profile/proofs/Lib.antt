@@ -1,5 +1,4 @@
 pub mod Decoding
-pub mod Signs
 pub mod Packing
 pub mod ConstantCells
 pub mod Declaring

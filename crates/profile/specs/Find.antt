@@ -1,7 +1,7 @@
 -- What the search for a variable by its name gives, and whose each limit is. Assumes nothing.
-use Rattle.std.specs.Prelude.{◌≡◌, Bool, true, false, List, ℕ, ◌≤◌, ◌<◌, get_or, ℤ}
+use Rattle.std.specs.Prelude.{◌≡◌, Bool, true, false, List, ℕ, ◌≤◌, ◌<◌, get_or, ℤ, Option, Some, None}
 use Rattle.std.proofs.Common.{subst}
-use Rattle.std.proofs.Math.Option.{some, none}
+use Rattle.std.proofs.Math.Option.{Option as Maybe, some, none}
 use Rattle.lingua.specs.Numbers.{most_limits, limit_section}
 use Rattle.lingua.specs.Body.{Body}
 use Rattle.lingua.specs.Store.{Limit}
@@ -11,28 +11,28 @@ use Rattle.lingua.specs.Lookup.{Lookup, lookup, look_up}
 use Rattle.lingua.specs.Refusal.{names_one, limit_fits}
 use Rattle.decoder.specs.Tables.{IsTable}
 use Rattle.decoder.specs.declared.tables.Table.{Table}
-use Rattle.profile.specs.declared.find.Found.{Found}
-use Rattle.profile.specs.declared.find.Found.TheVariants.{At, Nothing}
-use Rattle.profile.specs.declared.agreement.Owner.{Owner}
-use Rattle.profile.specs.declared.agreement.Owner.TheVariants as owner
+use Rattle.profile.specs.declared.find.Search.{Search}
 
-unfoldable pub found_meaning : Found → Lookup
-found_meaning (At d n) = lookup (some d) n
-found_meaning (Nothing n) = lookup none n
+abbrev pub found_at : Option ℕ → Maybe ℕ
+found_at (Some d) = some d
+found_at None = none
+
+unfoldable pub found_meaning : Search → Lookup
+found_meaning s = lookup (found_at s.index) s.looked
 
 -- ---- whose a limit is
 abbrev pub limit : ℤ → ℤ → Limit
 limit low high = record { low = low; high = high }
 
 -- the variable that the search for a name finds, where its body has a property, or that there is none
-unfoldable pub OneNamed : (Body → Bool) → Owner → List ℕ → List ℕ → Type 0
-OneNamed p (owner.Of d) rows name = ((look_up rows name).found ≡ some d) × (names_one p rows name ≡ true)
-OneNamed p owner.Nobody rows name = names_one p rows name ≡ false
+unfoldable pub OneNamed : (Body → Bool) → Option ℕ → List ℕ → List ℕ → Type 0
+OneNamed p (Some d) rows name = ((look_up rows name).found ≡ some d) × (names_one p rows name ≡ true)
+OneNamed p None rows name = names_one p rows name ≡ false
 
 -- the same of limit l, where its ends are right too
-unfoldable pub OwnerIs : Owner → List ℕ → List ℕ → ℕ → Type 0
-OwnerIs (owner.Of d) rows limits l = ((look_up rows (name_at limits limit_section l)).found ≡ some d) × (limit_fits rows limits l ≡ true)
-OwnerIs owner.Nobody rows limits l = limit_fits rows limits l ≡ false
+unfoldable pub OwnerIs : Option ℕ → List ℕ → List ℕ → ℕ → Type 0
+OwnerIs (Some d) rows limits l = ((look_up rows (name_at limits limit_section l)).found ≡ some d) × (limit_fits rows limits l ≡ true)
+OwnerIs None rows limits l = limit_fits rows limits l ≡ false
 
 -- the table of a file's limits, of which there are not too many
 pub record LimitsRead (limits : List ℕ) (u : Table) : Type 0 where

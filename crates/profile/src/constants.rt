@@ -14,38 +14,23 @@ ghost use Rattle.profile.specs.Constants.{SimpleIn, ConstantSays, ConstantRow, I
 
 use body::make::simple;
 use body::walk::{BOOLEAN, HUNDREDTHS, NUMBER, WORD};
-use decoder::decode::{DecodedExpression, ExpressionRow, Simple, expression_at};
+use decoder::decode::{ExpressionRow, Simple, expression_at};
 use decoder::fields::{bytes_at, wide_at};
 use decoder::tables::Table;
 use lingua::sizes::BODY_BYTES;
-
-// The number k + 1 below zero.
-fn below_zero(k: usize) -> i64
-    requires { k < 9223372036854775808 }
-    ensures { result ≡ negsuc k }
-{
-    -1 - k as i64
-}
 
 // 64 bits read with a sign.
 pub fn signed64(n: usize) -> i64
     ensures { result ≡ to_z w64 n }
 {
-    if n < 9223372036854775808 {
-        return n as i64;
-    }
-    below_zero(18446744073709551615 - n)
+    (n as u64).cast_signed()
 }
 
 // 32 bits read with a sign.
-pub fn signed32(n: usize) -> i64
-    requires { n < 4294967296 }
+pub fn signed32(n: u32) -> i64
     ensures { result ≡ to_z w32 n }
 {
-    if n < 2147483648 {
-        return n as i64;
-    }
-    below_zero(4294967295 - n)
+    i64::from(n.cast_signed())
 }
 
 // Four bytes from a place on, the first highest.
@@ -88,10 +73,9 @@ fn constant_at(rows: &[u8], t: Table, r: usize) -> Simple
     requires r_lt_count { r < t.count }
     ensures { ConstantSays rows.now r result }
 {
-    let d = expression_at(rows, t.start + r);
-    match d {
-        DecodedExpression::Unknown => Simple::Boolean,
-        DecodedExpression::Known(_, row) => simple_of(row),
+    match expression_at(rows, t.start + r) {
+        Some((_, row)) => simple_of(row),
+        None => Simple::Boolean,
     }
 }
 

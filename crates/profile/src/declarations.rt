@@ -7,18 +7,18 @@ ghost use Rattle.lingua.specs.Trees.{body_or, declared_body};
 ghost use Rattle.lingua.specs.References.{yoke_in};
 ghost use Rattle.lingua.specs.Refusal.{is_quantity_variable};
 ghost use Rattle.safety.specs.Accepted.{AcceptedRows};
-ghost use Rattle.decoder.specs.Decoded.{simple_meaning, type_meaning, type_decoded};
+ghost use Rattle.decoder.specs.Decoded.{simple_meaning, type_meaning};
 ghost use Rattle.decoder.specs.Tables.{IsTable};
 ghost use Rattle.rules.specs.Types.{BodiesBelow};
 ghost use Rattle.profile.specs.Variables.{HasScope, VariablesKnown, DeclaredIs};
 ghost use Rattle.profile.specs.Hundredths.{hundredths_row};
 
+use body::flat;
 use body::walk::{HUNDREDTHS, NUMBER};
-use decoder::decode::{DecodedType, Simple, TypeRow, type_at};
+use decoder::decode::{Simple, TypeRow, type_at};
 use decoder::fields::{a_at, b_at};
 use decoder::tables::Table;
 use lingua::sizes::BODY_BYTES;
-use rules::types::type_body;
 
 // The type row of variable d.
 pub fn declared_type(rows: &[u8], t: Table, d: usize) -> usize
@@ -26,8 +26,7 @@ pub fn declared_type(rows: &[u8], t: Table, d: usize) -> usize
     requires d_bound { d < t.count / 2 }
     ensures { result ≡ a_at rows.now (detail_row rows.now t.section d) }
 {
-    let start = t.start;
-    a_at(rows, start + (2 * d + 1))
+    a_at(rows, t.start + (2 * d + 1))
 }
 
 // The declared yoke of variable d, as in the state words: 0, or one more than its expression row.
@@ -37,8 +36,7 @@ pub fn declared_yoke(rows: &[u8], t: Table, d: usize) -> usize
     ensures value { result ≡ yoke_in rows.now t.section d }
     ensures upper_bound { result < 65536 }
 {
-    let start = t.start;
-    b_at(rows, start + (2 * d + 1))
+    b_at(rows, t.start + (2 * d + 1))
 }
 
 // The declared body of variable d.
@@ -48,7 +46,7 @@ pub fn declared_body(rows: &[u8], t: Table, d: usize, bodies: &[u8]) -> [u8; BOD
     ensures { DeclaredIs rows.now t.section d result }
 {
     let r = declared_type(rows, t, d);
-    type_body(bodies, r)
+    flat::taken(bodies, r)
 }
 
 // Whether d is a number variable of the profile, or one in hundredths.
@@ -58,27 +56,18 @@ pub fn is_quantity_variable(rows: &[u8], t: Table, d: usize, bodies: &[u8]) -> b
     requires bodies_below { BodiesBelow rows.now bodies.now (table_count rows.now type_section) }
     ensures { result ≡ is_quantity_variable rows.now d }
 {
-    let count = t.count / 2;
-    if count <= d {
+    if t.count / 2 <= d {
         return false;
     }
     let body = declared_body(rows, t, d, bodies);
     let tag = body[0];
-    if tag == HUNDREDTHS {
-        return true;
-    }
-    tag == NUMBER
+    tag == HUNDREDTHS || tag == NUMBER
 }
 
 fn is_hundredths(s: Simple) -> bool
     ensures { result ≡ is_hundredths (simple_meaning s) }
 {
-    match s {
-        Simple::Boolean => false,
-        Simple::Number => false,
-        Simple::Word => false,
-        Simple::Hundredths => true,
-    }
+    matches!(s, Simple::Hundredths)
 }
 
 fn makes_hundredths(row: TypeRow) -> bool
@@ -86,18 +75,7 @@ fn makes_hundredths(row: TypeRow) -> bool
 {
     match row {
         TypeRow::Simple(s) => is_hundredths(s),
-        TypeRow::List(_) => false,
-        TypeRow::Record(_, _) => false,
-        TypeRow::Expand(_, _, _) => false,
-    }
-}
-
-fn says_hundredths(d: DecodedType) -> bool
-    ensures { result ≡ hundredths_row (type_decoded d) }
-{
-    match d {
-        DecodedType::Unknown => false,
-        DecodedType::Known(_, row) => makes_hundredths(row),
+        _ => false,
     }
 }
 
@@ -109,6 +87,8 @@ pub fn in_hundredths(rows: &[u8], t: Table, types: Table, d: usize) -> bool
     ensures { result ≡ is_hundredths (body_or (declared_body rows.now d)) }
 {
     let r = declared_type(rows, t, d);
-    let says = type_at(rows, types.start + r);
-    says_hundredths(says)
+    match type_at(rows, types.start + r) {
+        Some((_, row)) => makes_hundredths(row),
+        None => false,
+    }
 }

@@ -11,29 +11,29 @@ use row_rules::names::same_bytes;
 
 // The declaration that has a name, if there is one, and how many declarations the search looked at.
 #[derive(Clone, Copy)]
-pub enum Found {
-    At { index: usize, looked: usize },
-    Nothing { looked: usize },
+pub struct Search {
+    pub index: Option<usize>,
+    pub looked: usize,
 }
 
 // The search ends at the first declaration that has the name. What it hands out as looked at are the turns that its loop made.
-pub fn find(rows: &[u8], t: Table, name: &[u8]) -> Found
+pub fn find(rows: &[u8], t: Table, name: &[u8]) -> Search
     requires table { IsTable rows.now declaration_section t }
     requires name_len { length name.now ≡ name_bytes }
     ensures { found_meaning result ≡ look_up rows.now name.now }
 {
     let start = t.start;
     let count = t.count / 2;
-    let mut looked = 0;
-    while looked < count {
-        let d = looked;
-        looked += 1;
+    for d in 0..count {
         if same_bytes(bytes_at(rows, start + 2 * d), name) {
-            return Found::At {
-                index: d,
-                looked: looked,
+            return Search {
+                index: Some(d),
+                looked: d + 1,
             };
         }
     }
-    Found::Nothing { looked: looked }
+    Search {
+        index: None,
+        looked: count,
+    }
 }

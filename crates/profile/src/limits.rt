@@ -8,9 +8,9 @@ ghost use Rattle.lingua.specs.Trees.{limit_row};
 ghost use Rattle.decoder.specs.Tables.{IsTable};
 
 use crate::constants::signed32;
-use decoder::fields::word32_at;
 use decoder::tables::Table;
 use lingua::sizes::ROW_BYTES;
+use lingua::words::word32_at;
 
 // An end of limit l: the number with a sign that begins at a byte of its second row.
 fn end_at(limits: &[u8], t: Table, l: usize, from: usize) -> i64
@@ -19,8 +19,7 @@ fn end_at(limits: &[u8], t: Table, l: usize, from: usize) -> i64
     requires from_bound { from ≤ 6 }
     ensures { result ≡ to_z w32 (word32 limits.now (row_bytes * detail_row limits.now limit_section l + from)) }
 {
-    let start = t.start;
-    let i = start + (2 * l + 1);
+    let i = t.start + (2 * l + 1);
     signed32(word32_at(limits, ROW_BYTES * i + from))
 }
 

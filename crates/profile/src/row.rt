@@ -6,10 +6,7 @@ ghost use Rattle.decoder.specs.Tables.{IsTable};
 ghost use Rattle.decoder.specs.Decoded.{instruction_meaning};
 ghost use Rattle.profile.specs.Row.{KnownExpression, KnownInstruction, RowSays};
 
-use decoder::decode::{
-    DecodedExpression, DecodedInstruction, ExpressionRow, InstructionRow, expression_at,
-    instruction_at,
-};
+use decoder::decode::{ExpressionRow, InstructionRow, expression_at, instruction_at};
 use decoder::tables::Table;
 
 // Row r of the expressions.
@@ -19,11 +16,10 @@ pub fn expression_row(rows: &[u8], t: Table, r: usize) -> ExpressionRow
     requires known_expression { KnownExpression rows.now r }
     ensures { RowSays rows.now r result }
 {
-    let d = expression_at(rows, t.start + r);
-    match d {
-        DecodedExpression::Known(_, row) => row,
+    match expression_at(rows, t.start + r) {
+        Some((_, row)) => row,
         // not reached: the kind is known
-        DecodedExpression::Unknown => ExpressionRow::Current,
+        None => ExpressionRow::Current,
     }
 }
 
@@ -34,10 +30,9 @@ pub fn instruction_row(rows: &[u8], t: Table, r: usize) -> InstructionRow
     requires known_instruction { KnownInstruction rows.now r }
     ensures { instruction_meaning result ≡ instruction_row rows.now r }
 {
-    let d = instruction_at(rows, t.start + r);
-    match d {
-        DecodedInstruction::Known(_, row) => row,
+    match instruction_at(rows, t.start + r) {
+        Some((_, row)) => row,
         // not reached: the kind is known
-        DecodedInstruction::Unknown => InstructionRow::Skip,
+        None => InstructionRow::Skip,
     }
 }

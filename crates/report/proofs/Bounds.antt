@@ -7,6 +7,7 @@ use native.Mathlib.Omega.{arith}
 use lib.Dec.{ltb}
 use lib.ListN.{length, drop, length-append, length-take}
 use lib.IntN.{ℤ, pos, negsuc}
+use Rattle.std.specs.Bool.{then_some}
 use Rattle.lingua.specs.Numbers.{body_cells, declaration_section}
 use Rattle.std.specs.Prelude.{if◌then◌else◌}
 use Rattle.lingua.specs.Body.{size}
@@ -56,8 +57,7 @@ unfolding cell_texts
 cells_length_most [] = omega arith
 cells_length_most (z ∷ zs) = simp length-append (omega (arith, signed_length z, cells_length_most zs))
 
-content_length : (filled : Bool) (zs : List ℤ) → length zs ≤ 64 → length (content_of filled zs) ≤ 1408
-unfolding content_of
+content_length : (filled : Bool) (zs : List ℤ) → length zs ≤ 64 → length (content_of (then_some filled zs)) ≤ 1408
 content_length true zs h = omega (arith, cells_length_most zs)
 content_length false zs h = omega arith
 

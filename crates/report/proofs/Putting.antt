@@ -1,6 +1,6 @@
 -- The variables' lines, one behind another, as the loop puts them. Assumes nothing.
-use mathlib.Core.Path.{◌≡◌, sym, ap, ◌∙◌, subst}
-use mathlib.Core.Bool.{Bool}
+use mathlib.Core.Path.{◌≡◌, refl, sym, ap, ◌∙◌, subst}
+use mathlib.Core.Bool.{Bool, true, false}
 use mathlib.Core.List.{List, ◌++◌, append_assoc, append-nil}
 use Prim.Native.Nat.{ℕ, zero, suc, ◌+◌, ◌-◌, ◌*◌, ◌/◌, ◌≤◌, ◌<◌}
 use native.Mathlib.Nat.{zero-add}
@@ -8,6 +8,10 @@ use native.Mathlib.Numerals.{add-one}
 use native.Mathlib.Omega.{arith}
 use lib.ListN.{length, take, drop}
 use lib.IntN.{ℤ}
+use denote.Ref.{Bor}
+use Rattle.std.specs.Prelude.{Option}
+use Rattle.std.specs.Option.{option_copied}
+use Rattle.std.specs.Bool.{then_some}
 use Rattle.lingua.specs.Numbers.{body_cells, declaration_section}
 use Rattle.lingua.specs.Body.{size}
 use Rattle.lingua.specs.Store.{Variable, variable_at, present_body, filled_at}
@@ -25,21 +29,30 @@ use Rattle.report.specs.Memory.{Left, cells_of_bodies, memory_line, memory_lines
 pub there : {rows present : List ℕ} {cells : List ℤ} {states : List ℕ} {vs : List Variable} {t : Table} {d : ℕ} → Left rows present cells states vs → IsTable rows declaration_section t → d < t.count / 2 → d < length vs
 there {rows} {t = t} h is l = omega (arith, h.count, pairs rows declaration_section t is)
 
+-- the cells that are lent, where there are any
+pub lent : (filled : Bool) (cells : Bor (List ℤ)) → option_copied (then_some filled cells) ≡ then_some filled cells.now
+lent true cells = refl
+lent false cells = refl
+
 pub line_put :
-    {out last : List ℕ} {at end : ℕ} (rows : List ℕ) (cells : List ℤ) (states : List ℕ) (vs : List Variable) (name : List ℕ) (t : Table) (d count : ℕ) (filled : Bool) →
+    {out last : List ℕ} {at end : ℕ} (rows : List ℕ) (cells : List ℤ) (states : List ℕ) (vs : List Variable) (name : List ℕ) (content : Option (List ℤ)) (t : Table) (d count : ℕ) (filled : Bool) →
     IsTable rows declaration_section t →
     name ≡ bytes_at rows (t.start + 2 * d) →
     count ≡ size (present_body (variable_at vs d)) →
     filled ≡ filled_at states d →
-    Appended out at (variable_line name filled (take (body_cells * d + count - body_cells * d) (drop (body_cells * d) cells))) last end →
+    content ≡ then_some filled (take (body_cells * d + count - body_cells * d) (drop (body_cells * d) cells)) →
+    Appended out at (variable_line name content) last end →
     Appended out at (memory_line rows cells states vs d) last end
 unfolding memory_line cells_of_bodies name_at
-line_put {out} {last} {at} {end} rows cells states vs name t d count filled is named counted flag p =
+line_put {out} {last} {at} {end} rows cells states vs name content t d count filled is named counted flag held p =
     let n : name ≡ name_at rows declaration_section d = named ∙ ap (bytes_at rows) (name_place rows declaration_section t is d) in
     let k : body_cells * d + count - body_cells * d ≡ size (present_body (variable_at vs d)) = omega (arith, counted) in
-    subst (λ (j : ℕ). Appended out at (variable_line (name_at rows declaration_section d) (filled_at states d) (take j (drop (body_cells * d) cells))) last end) k
-    (subst (λ (l : List ℕ). Appended out at (variable_line l (filled_at states d) (take (body_cells * d + count - body_cells * d) (drop (body_cells * d) cells))) last end) n
-    (subst (λ (b : Bool). Appended out at (variable_line name b (take (body_cells * d + count - body_cells * d) (drop (body_cells * d) cells))) last end) flag p))
+    let c : content ≡ then_some (filled_at states d) (cells_of_bodies cells vs d) =
+    held
+    ∙ ap (λ (b : Bool). then_some b (take (body_cells * d + count - body_cells * d) (drop (body_cells * d) cells))) flag
+    ∙ ap (λ (j : ℕ). then_some (filled_at states d) (take j (drop (body_cells * d) cells))) k in
+    subst (λ (l : List ℕ). Appended out at (variable_line l (then_some (filled_at states d) (cells_of_bodies cells vs d))) last end) n
+    (subst (λ (o : Option (List ℤ)). Appended out at (variable_line name o) last end) c p)
 
 -- ---- all of them
 module _ (rows : List ℕ) (cells : List ℤ) (states : List ℕ) (vs : List Variable) where

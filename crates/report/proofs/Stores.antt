@@ -10,6 +10,7 @@ use native.Mathlib.Omega.{arith}
 use lib.Dec.{eqb}
 use lib.ListN.{length, take, drop}
 use lib.IntN.{ℤ}
+use Rattle.std.specs.Bool.{then_some}
 use Rattle.lingua.specs.Numbers.{body_cells, declaration_section}
 use Rattle.lingua.specs.Body.{size}
 use Rattle.lingua.specs.WellFormed.{WellFormed}
@@ -39,18 +40,18 @@ line_behind name content rest =
 
 lines_of : (rows lims : List ℕ) (cells : List ℤ) (states : List ℕ) (ws : List Variable) (i n : ℕ) (vs : List Variable)
     → length vs ≡ n
-    → ((k : ℕ) → k < n → content_text (variable_at vs k).content ≡ content_of (filled_at states (i + k)) (cells_of_bodies cells ws (i + k)))
+    → ((k : ℕ) → k < n → content_text (variable_at vs k).content ≡ content_of (then_some (filled_at states (i + k)) (cells_of_bodies cells ws (i + k))))
     → variable_lines (tabulate_from i n (λ d. declaration_at rows lims d)) vs ≡ memory_lines rows cells states ws i n
 unfolding variable_lines tabulate_from memory_lines memory_line variable_line declaration_in declaration_at
 lines_of rows lims cells states ws i zero vs e h = refl
 lines_of rows lims cells states ws i (suc n) [] e h = absurd (let z : ⊥ = omega arith in z)
 lines_of rows lims cells states ws i (suc n) (v ∷ vs) e h =
-    let first : content_text v.content ≡ content_of (filled_at states i) (cells_of_bodies cells ws i) =
-    subst (λ (j : ℕ). content_text v.content ≡ content_of (filled_at states j) (cells_of_bodies cells ws j)) (let z : i + zero ≡ i = omega arith in z) (h zero (omega arith)) in
+    let first : content_text v.content ≡ content_of (then_some (filled_at states i) (cells_of_bodies cells ws i)) =
+    subst (λ (j : ℕ). content_text v.content ≡ content_of (then_some (filled_at states j) (cells_of_bodies cells ws j))) (let z : i + zero ≡ i = omega arith in z) (h zero (omega arith)) in
     let others = lines_of rows lims cells states ws (suc i) n vs (omega arith)
-    (λ k l. subst (λ (j : ℕ). content_text (variable_at vs k).content ≡ content_of (filled_at states j) (cells_of_bodies cells ws j)) (let z : i + suc k ≡ suc i + k = omega arith in z) (h (suc k) (omega arith))) in
+    (λ k l. subst (λ (j : ℕ). content_text (variable_at vs k).content ≡ content_of (then_some (filled_at states j) (cells_of_bodies cells ws j))) (let z : i + suc k ≡ suc i + k = omega arith in z) (h (suc k) (omega arith))) in
     ap₂ (λ (c r : List ℕ). until_zero (name_at rows declaration_section i) ++ (c ++ (newline ∷ r))) first others
-    ∙ line_behind (until_zero (name_at rows declaration_section i)) (content_of (filled_at states i) (cells_of_bodies cells ws i)) (memory_lines rows cells states ws (suc i) n)
+    ∙ line_behind (until_zero (name_at rows declaration_section i)) (content_of (then_some (filled_at states i) (cells_of_bodies cells ws i))) (memory_lines rows cells states ws (suc i) n)
 
 length_tabulate : {A : Type 0} (f : ℕ → A) (i n : ℕ) → length (tabulate_from i n f) ≡ n
 unfolding tabulate_from
@@ -107,11 +108,11 @@ module _ (prof lims : List ℕ) (e : lowest (pair_rules prof lims) ≡ 0) (budge
       let m : d < length store = omega (arith, store_length) in
       ap (λ (n : ℕ). not (eqb n 0)) ((states_at store d m).0 ∙ ap filled_flag q)
 
-  content_by : (d : ℕ) (o : Option Composite) → d < pair_count rows declaration_section → contents store d ≡ o → content_text o ≡ content_of (filled_at (states_in store) d) (cells_of_bodies (cells_in store) store d)
-  unfolding content_text content_of
-  content_by d none l q = ap (λ (t : Bool). content_of t (cells_of_bodies (cells_in store) store d)) (sym (flag_there d none l q))
+  content_by : (d : ℕ) (o : Option Composite) → d < pair_count rows declaration_section → contents store d ≡ o → content_text o ≡ content_of (then_some (filled_at (states_in store) d) (cells_of_bodies (cells_in store) store d))
+  unfolding content_text
+  content_by d none l q = ap (λ (t : Bool). content_of (then_some t (cells_of_bodies (cells_in store) store d))) (sym (flag_there d none l q))
   content_by d (some x) l q =
-      ap cell_texts (sym (filled_cells d x l q)) ∙ ap (λ (t : Bool). content_of t (cells_of_bodies (cells_in store) store d)) (sym (flag_there d (some x) l q))
+      ap cell_texts (sym (filled_cells d x l q)) ∙ ap (λ (t : Bool). content_of (then_some t (cells_of_bodies (cells_in store) store d))) (sym (flag_there d (some x) l q))
 
   pub store_lines : variable_lines (profile_of (rows_of prof) (rows_of lims)).declarations store ≡ memory_lines rows (cells_in store) (states_in store) store 0 (pair_count rows declaration_section)
   unfolding profile_of tabulate

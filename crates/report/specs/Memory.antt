@@ -1,5 +1,6 @@
 -- The variables' lines as they are read off the caller's memory that a run leaves. Assumes nothing: these are definitions.
 use Rattle.std.specs.Prelude.{◌≡◌, List, [], ◌++◌, ℕ, zero, suc, ◌*◌, ◌<◌, length, take, drop, ℤ}
+use Rattle.std.specs.Bool.{then_some}
 use Rattle.lingua.specs.Numbers.{body_cells, declaration_section}
 use Rattle.lingua.specs.Body.{size}
 use Rattle.lingua.specs.Store.{Variable, variable_at, present_body, filled_at}
@@ -34,7 +35,7 @@ cells_of_bodies cells vs d = take (size (present_body (variable_at vs d))) (drop
 
 unfoldable pub memory_line : List ℕ → List ℤ → List ℕ → List Variable → ℕ → List ℕ
 memory_line rows cells states vs d =
-    variable_line (name_at rows declaration_section d) (filled_at states d) (cells_of_bodies cells vs d)
+    variable_line (name_at rows declaration_section d) (then_some (filled_at states d) (cells_of_bodies cells vs d))
 
 -- the lines of n variables from d on
 unfoldable pub memory_lines : List ℕ → List ℤ → List ℕ → List Variable → ℕ → ℕ → List ℕ

@@ -20,19 +20,17 @@ pub(crate) fn put_answer(answer: RunAnswer, out: &mut [u8]) -> usize
     ensures { Appended out.old 0 (answer_text (run_meaning answer)) out.new result }
 {
     match answer {
-        RunAnswer::Refused(number) => return put_refused_line(out, 0, number),
-        RunAnswer::Finished { steps } => {
-            return put_end_line(out, 0, FINISHED, NO_ERROR, NO_PLACE, steps);
-        }
+        RunAnswer::Refused(number) => put_refused_line(out, 0, number),
+        RunAnswer::Finished { steps } => put_end_line(out, 0, FINISHED, NO_ERROR, NO_PLACE, steps),
         RunAnswer::Failed {
             error,
             place,
             steps,
-        } => return put_end_line(out, 0, FAILED, error, place, steps),
+        } => put_end_line(out, 0, FAILED, error, place, steps),
         RunAnswer::Out {
             error,
             place,
             steps,
-        } => return put_end_line(out, 0, OUT, error, place, steps),
+        } => put_end_line(out, 0, OUT, error, place, steps),
     }
 }

@@ -48,7 +48,8 @@ fn put_line(
     let count = present_cells(bodies, d);
     let from = BODY_CELLS * d;
     let to = from + count;
-    put_variable_line(out, at, name, is_filled(states, d), &cells[from..to])
+    let content = is_filled(states, d).then_some(&cells[from..to]);
+    put_variable_line(out, at, name, content)
 }
 
 // The lines of all variables.
@@ -65,12 +66,9 @@ pub(crate) fn put_lines(
     requires has_left { HasLeft rows.now bodies.now cells.now states.now }
     ensures { (vs : List Variable) → Left rows.now bodies.now cells.now states.now vs → Appended out.old at (memory_lines rows.now cells.now states.now vs 0 (pair_count rows.now declaration_section)) out.new result }
 {
-    let n = t.count / 2;
     let mut end = at;
-    let mut d = 0;
-    while d < n {
+    for d in 0..t.count / 2 {
         end = put_line(rows, t, d, cells, states, bodies, out, end);
-        d += 1;
     }
     end
 }

@@ -3,110 +3,27 @@ use mathlib.Core.Path.{◌≡◌, refl, sym, ap, ◌∙◌, subst}
 use mathlib.Core.Bool.{Bool, true, false, not, ◌&&◌}
 use mathlib.Core.List.{List, [], ◌∷◌}
 use mathlib.Core.Logic.{⊎_elim}
-use mathlib.Core.Option.{Option, some, none}
-use Prim.Native.Nat.{ℕ, zero, suc, ◌+◌, ◌-◌, ◌*◌, ◌/◌, ◌%◌}
-use native.Mathlib.Numerals.{add-one}
+use mathlib.Core.Option.{some, none}
+use Prim.Native.Nat.{ℕ, zero, suc, ◌+◌, ◌*◌, ◌/◌, ◌%◌, ◌≤◌}
 use native.Mathlib.Omega.{arith}
 use lib.Dec.{eqb, ltb, leb-zero}
-use lib.ListN.{get_or, drop}
-use borrow.Author.Tests.{ne_eqb, lt-ltb, le-ltb, le-leb, lt-leb}
+use lib.ListN.{length, get_or}
+use lib.Pointwise.{pointwise}
+use Rattle.std.proofs.lemmas.List.{get_or-map}
+use denote.Ref.{Bor}
+use Rattle.std.specs.Prelude.{Option, Some, None, map, is_some, IfSome, option_copied}
+use Rattle.row_rules.specs.Form.{meant}
+use borrow.Author.Tests.{ne_eqb, ltb-true, ltb-false, le-ltb, lt-ltb, le-leb, lt-leb}
 use Rattle.lingua.specs.Numbers.{scope_table}
 use Rattle.lingua.specs.Rows.{numbered, used_of, type_kinds, expression_kinds, instruction_kinds, section_at, kind_at, bytes_at, row_in, table_count, pair_count, name_row}
-use Rattle.lingua.specs.Format.{File, profile, limits, all_zero, every_below}
+use Rattle.lingua.specs.Format.{File, profile, limits, every_below}
 use Rattle.lingua.specs.Compute.{same_text}
 use Rattle.lingua.specs.Trees.{name_at}
-use Rattle.lingua.specs.Rules.{is_name, is_new, names_fit, used_bytes, section_belongs, bytes_fit, row_fits, paired, between, count_wrong}
+use Rattle.lingua.specs.Rules.{is_name, is_new, names_fit, section_belongs, used_bytes, bytes_fit, row_fits, paired, between, count_wrong}
 use Rattle.decoder.specs.Tables.{IsTable, AreTables}
 use Rattle.decoder.specs.declared.tables.Table.{Table}
 use Rattle.decoder.specs.declared.tables.Tables.{Tables}
 use Rattle.decoder.proofs.Counting.{order}
-use Rattle.row_rules.specs.Form.{used_number}
-
--- ---- used bytes
--- the kinds of a pair
-pub pair_first : (k first second : ℕ) → k ≡ 0 → first + 1 ≡ used_number (get_or (some first ∷ some second ∷ []) k none)
-unfolding used_number
-pair_first k first second e = rw e (add-one first)
-
-pub pair_second : (k first second : ℕ) → k ≡ 1 → second + 1 ≡ used_number (get_or (some first ∷ some second ∷ []) k none)
-unfolding used_number
-pair_second k first second e = rw e (add-one second)
-
-pub pair_other : (k first second : ℕ) → (k ≡ 0 → ⊥) → (k ≡ 1 → ⊥) → 0 ≡ used_number (get_or (some first ∷ some second ∷ []) k none)
-unfolding used_number
-pair_other zero first second p q = absurd (p refl)
-pair_other (suc zero) first second p q = absurd (q refl)
-pair_other (suc (suc k)) first second p q = refl
-
-module _ (s k : ℕ) where
-  pub used_declaration : s ≡ 1 → used_number (get_or (some 8 ∷ some 4 ∷ []) k none) ≡ used_number (used_bytes s k)
-  unfolding used_bytes
-  used_declaration e = rw e
-
-  pub used_type : s ≡ 2 → used_number (used_of (numbered k type_kinds)) ≡ used_number (used_bytes s k)
-  unfolding used_bytes
-  used_type e = rw e
-
-  pub used_expression : s ≡ 3 → used_number (used_of (numbered k expression_kinds)) ≡ used_number (used_bytes s k)
-  unfolding used_bytes
-  used_expression e = rw e
-
-  pub used_instruction : s ≡ 4 → used_number (used_of (numbered k instruction_kinds)) ≡ used_number (used_bytes s k)
-  unfolding used_bytes
-  used_instruction e = rw e
-
-  pub used_limit : s ≡ 5 → used_number (get_or (some 8 ∷ some 8 ∷ []) k none) ≡ used_number (used_bytes s k)
-  unfolding used_bytes
-  used_limit e = rw e
-
-  pub used_procedure : s ≡ 6 → used_number (get_or (some 8 ∷ some 4 ∷ some 6 ∷ []) k none) ≡ used_number (used_bytes s k)
-  unfolding used_bytes
-  used_procedure e = rw e
-
-pub used_none : (s k : ℕ) → (s ≡ 1 → ⊥) → (s ≡ 2 → ⊥) → (s ≡ 3 → ⊥) → (s ≡ 4 → ⊥) → (s ≡ 5 → ⊥) → (s ≡ 6 → ⊥) → 0 ≡ used_number (used_bytes s k)
-unfolding used_bytes used_number
-used_none s k a b c d e f = rw (ne_eqb s 1 a, ne_eqb s 2 b, ne_eqb s 3 c, ne_eqb s 4 d, ne_eqb s 5 e, ne_eqb s 6 f)
-
--- the kinds of a procedure
-pub procedure_other : (k : ℕ) → (k ≡ 0 → ⊥) → (k ≡ 1 → ⊥) → (k ≡ 2 → ⊥) → 0 ≡ used_number (get_or (some 8 ∷ some 4 ∷ some 6 ∷ []) k none)
-unfolding used_number
-procedure_other zero p q r = absurd (p refl)
-procedure_other (suc zero) p q r = absurd (q refl)
-procedure_other (suc (suc zero)) p q r = absurd (r refl)
-procedure_other (suc (suc (suc k))) p q r = refl
-
-pub procedure_kind_lem : (k n : ℕ) → k ≡ n → used_number (get_or (some 8 ∷ some 4 ∷ some 6 ∷ []) n none) ≡ used_number (get_or (some 8 ∷ some 4 ∷ some 6 ∷ []) k none)
-procedure_kind_lem k n e = ap (λ (m : ℕ). used_number (get_or (some 8 ∷ some 4 ∷ some 6 ∷ []) m none)) (sym e)
-
-pub fit_none : (o : Option ℕ) (bytes : List ℕ) → used_number o ≡ 0 → bytes_fit o bytes ≡ false
-unfolding bytes_fit used_number
-fit_none none bytes e = refl
-fit_none (some n) bytes e = absurd (omega arith)
-
-pub fit_some : (o : Option ℕ) (bytes : List ℕ) (u : ℕ) → used_number o ≡ u → (u ≡ 0 → ⊥) → bytes_fit o bytes ≡ all_zero (drop (u - 1) bytes)
-unfolding bytes_fit used_number
-fit_some none bytes u e z = absurd (z (sym e))
-fit_some (some n) bytes u e z = ap (λ (m : ℕ). all_zero (drop m bytes)) less
-  where
-    less : n ≡ u - 1
-    less = omega arith
-
--- ---- a row
-module _ (f : File) (rows : List ℕ) (i s u : ℕ) (es : s ≡ section_at rows i) where
-  pub row_out : section_belongs f s ≡ false → false ≡ row_fits f rows i
-  unfolding row_fits
-  row_out e = rw (← es, e)
-
-  row_in_lem : section_belongs f s ≡ true → row_fits f rows i ≡ bytes_fit (used_bytes s (kind_at rows i)) (bytes_at rows i)
-  unfolding row_fits
-  row_in_lem e = rw (← es, e)
-
-  module _ (eu : u ≡ used_number (used_bytes s (kind_at rows i))) (e : section_belongs f s ≡ true) where
-    pub row_none : u ≡ 0 → false ≡ row_fits f rows i
-    row_none z = sym (row_in_lem e ∙ fit_none (used_bytes s (kind_at rows i)) (bytes_at rows i) (sym eu ∙ z))
-
-    pub row_some : (u ≡ 0 → ⊥) → all_zero (drop (u - 1) (bytes_at rows i)) ≡ row_fits f rows i
-    row_some z = sym (row_in_lem e ∙ fit_some (used_bytes s (kind_at rows i)) (bytes_at rows i) u (sym eu) z)
 
 -- ---- a table by its own section
 pub own_section : (rows : List ℕ) (s : ℕ) (t : Table) → IsTable rows s t → IsTable rows t.section t
@@ -145,3 +62,62 @@ scope_names rows s t b h e = e ∙ ap (names_fit rows) h.section
 pub row_at : (rows : List ℕ) (s : ℕ) (t : Table) (r : ℕ) → IsTable rows s t → row_in rows s r ≡ t.start + r
 unfolding row_in
 row_at rows s t r h = rw h.start
+
+-- ---- used bytes
+out_map : (used : List ℕ) (k : ℕ) → length used ≤ k → get_or (map some used) k none ≡ none
+out_map [] k h = refl
+out_map (n ∷ ns) zero h = absurd (let z : ⊥ = omega arith in z)
+out_map (n ∷ ns) (suc k) h = out_map ns k (omega arith)
+
+-- what a slice has at a place
+pub at_place : (used : List ℕ) (k : ℕ) (o : Option (Bor ℕ)) → is_some o ≡ ltb k (length used) → IfSome o (λ x. x.now ≡ get_or used k x.now) → meant (option_copied o) ≡ get_or (map some used) k none
+unfolding meant
+at_place used k None e h = sym (out_map used k (ltb-false k (length used) (sym e)))
+at_place used k (Some x) e h = ap some h ∙ sym (get_or-map some used k x.now none (ltb-true k (length used) (sym e)))
+
+-- ---- same bytes
+pub pointwise_is : (a b : List ℕ) → pointwise eqb a b ≡ same_text a b
+unfolding same_text
+pointwise_is [] [] = refl
+pointwise_is [] (d ∷ ds) = refl
+pointwise_is (c ∷ cs) [] = refl
+pointwise_is (c ∷ cs) (d ∷ ds) = ap (λ (t : Bool). eqb c d && t) (pointwise_is cs ds)
+
+-- ---- a row
+pub row_out : (f : File) (rows : List ℕ) (i s : ℕ) → s ≡ section_at rows i → section_belongs f s ≡ false → false ≡ row_fits f rows i
+unfolding row_fits
+row_out f rows i s es e = rw (← es, e)
+
+pub row_used : (f : File) (rows : List ℕ) (i s : ℕ) (o : Option ℕ) → s ≡ section_at rows i → section_belongs f s ≡ true → meant o ≡ used_bytes s (kind_at rows i) → bytes_fit (meant o) (bytes_at rows i) ≡ row_fits f rows i
+unfolding row_fits
+row_used f rows i s o es e u = rw (← es, e, u)
+
+-- ---- the bytes that a section's kind uses
+module _ (s k : ℕ) where
+  pub used_declaration : s ≡ 1 → get_or (some 8 ∷ some 4 ∷ []) k none ≡ used_bytes s k
+  unfolding used_bytes
+  used_declaration e = rw e
+
+  pub used_type : s ≡ 2 → used_of (numbered k type_kinds) ≡ used_bytes s k
+  unfolding used_bytes
+  used_type e = rw e
+
+  pub used_expression : s ≡ 3 → used_of (numbered k expression_kinds) ≡ used_bytes s k
+  unfolding used_bytes
+  used_expression e = rw e
+
+  pub used_instruction : s ≡ 4 → used_of (numbered k instruction_kinds) ≡ used_bytes s k
+  unfolding used_bytes
+  used_instruction e = rw e
+
+  pub used_limit : s ≡ 5 → get_or (some 8 ∷ some 8 ∷ []) k none ≡ used_bytes s k
+  unfolding used_bytes
+  used_limit e = rw e
+
+  pub used_procedure : s ≡ 6 → get_or (some 8 ∷ some 4 ∷ some 6 ∷ []) k none ≡ used_bytes s k
+  unfolding used_bytes
+  used_procedure e = rw e
+
+pub used_none : (s k : ℕ) → (s ≡ 1 → ⊥) → (s ≡ 2 → ⊥) → (s ≡ 3 → ⊥) → (s ≡ 4 → ⊥) → (s ≡ 5 → ⊥) → (s ≡ 6 → ⊥) → none ≡ used_bytes s k
+unfolding used_bytes
+used_none s k a b c d e f = rw (ne_eqb s 1 a, ne_eqb s 2 b, ne_eqb s 3 c, ne_eqb s 4 d, ne_eqb s 5 e, ne_eqb s 6 f)

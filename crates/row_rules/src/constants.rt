@@ -13,7 +13,7 @@ ghost use Rattle.decoder.specs.Tables.{IsTable, AreTables};
 ghost use Rattle.decoder.specs.Decoded.{constant_meaning, expression_meaning};
 ghost use Rattle.row_rules.specs.Range.{about};
 
-use decoder::decode::{DecodedExpression, ExpressionRow, Simple, expression_at};
+use decoder::decode::{ExpressionRow, Simple, expression_at};
 use decoder::fields::{bytes_at, padded, wide_at};
 use decoder::mentions::{
     all_within, attributes, expression_in, handled, instruction_in, type_attributes, type_in,
@@ -33,10 +33,7 @@ fn is_about(k: usize, n: usize) -> bool
     requires { k < 9223372036854775807 }
     ensures { result ≡ about k (to_z w64 n) }
 {
-    if n <= k + 1 {
-        return true;
-    }
-    18446744073709551615 - k <= n
+    n <= k + 1 || 18446744073709551615 - k <= n
 }
 
 // Row i, a constant's.
@@ -69,59 +66,55 @@ fn constant_fits_at(rows: &[u8], t: Table, r: usize) -> bool
     ensures { result ≡ row_constant_fits (expression_row rows.now r) }
 {
     let i = t.start + r;
-    let d = expression_at(rows, i);
-    match d {
-        DecodedExpression::Unknown => true,
-        DecodedExpression::Known(_, row) => row_constant_fits(row, rows, i),
+    match expression_at(rows, i) {
+        Some((_, row)) => row_constant_fits(row, rows, i),
+        None => true,
     }
+}
+
+fn type_fits(rows: &[u8], t: Table, r: usize) -> bool
+    requires table { IsTable rows.now type_section t }
+    requires r_lt_count { r < t.count }
+    ensures { result ≡ attributes_fit (type_attributes (type_row rows.now r)) }
+{
+    all_within(type_attributes(type_in(rows, t, r)), 0, ATTRIBUTE_NUMBERS)
 }
 
 fn types_fit(rows: &[u8], t: Table) -> bool
     requires { IsTable rows.now type_section t }
     ensures { result ≡ every_below (table_count rows.now type_section) (λ r. attributes_fit (type_attributes (type_row rows.now r))) }
 {
-    let count = t.count;
-    let mut r = 0;
-    while r < count {
-        if !all_within(type_attributes(type_in(rows, t, r)), 0, ATTRIBUTE_NUMBERS) {
-            return false;
-        }
-        r += 1;
-    }
-    true
+    (0..t.count).all(|r| type_fits(rows, t, r))
+}
+
+fn attributes_fit_at(rows: &[u8], t: Table, r: usize) -> bool
+    requires table { IsTable rows.now expression_section t }
+    requires r_lt_count { r < t.count }
+    ensures { result ≡ attributes_fit (expression_attributes (expression_row rows.now r)) }
+{
+    all_within(attributes(expression_in(rows, t, r)), 0, ATTRIBUTE_NUMBERS)
 }
 
 fn expressions_fit(rows: &[u8], t: Table) -> bool
     requires { IsTable rows.now expression_section t }
     ensures { result ≡ every_below (table_count rows.now expression_section) (λ r. row_constant_fits (expression_row rows.now r) && attributes_fit (expression_attributes (expression_row rows.now r))) }
 {
-    let count = t.count;
-    let mut r = 0;
-    while r < count {
-        if !constant_fits_at(rows, t, r) {
-            return false;
-        }
-        if !all_within(attributes(expression_in(rows, t, r)), 0, ATTRIBUTE_NUMBERS) {
-            return false;
-        }
-        r += 1;
-    }
-    true
+    (0..t.count).all(|r| constant_fits_at(rows, t, r) && attributes_fit_at(rows, t, r))
+}
+
+fn handler_fits(rows: &[u8], t: Table, r: usize) -> bool
+    requires table { IsTable rows.now instruction_section t }
+    requires r_lt_count { r < t.count }
+    ensures { result ≡ all_of is_error (handled_errors (instruction_row rows.now r)) }
+{
+    all_within(handled(instruction_in(rows, t, r)), 1, ERROR_NUMBERS)
 }
 
 fn handlers_fit(rows: &[u8], t: Table) -> bool
     requires { IsTable rows.now instruction_section t }
     ensures { result ≡ every_below (table_count rows.now instruction_section) (λ r. all_of is_error (handled_errors (instruction_row rows.now r))) }
 {
-    let count = t.count;
-    let mut r = 0;
-    while r < count {
-        if !all_within(handled(instruction_in(rows, t, r)), 1, ERROR_NUMBERS) {
-            return false;
-        }
-        r += 1;
-    }
-    true
+    (0..t.count).all(|r| handler_fits(rows, t, r))
 }
 
 fn profile_constant_wrong(rows: &[u8], t: Tables) -> bool

@@ -1,19 +1,17 @@
 // Rule 6: the form of rows, each by itself and in their order.
-ghost use Rattle.std.specs.Prelude.{◌≡◌, [], ◌∷◌, ◌+◌, ◌*◌, ◌-◌, ◌/◌, ◌≤◌, length, get_or};
+ghost use Rattle.std.specs.Prelude.{◌≡◌, ◌+◌, ◌*◌, ◌≤◌, map, length, get_or};
 ghost use Rattle.std.proofs.Math.Option.{some, none};
 ghost use Rattle.lingua.specs.Answers.{file_meaning};
 ghost use Rattle.lingua.specs.Rows.{row_count, kind_at};
 ghost use Rattle.lingua.specs.Format.{every_below};
 ghost use Rattle.lingua.specs.Rules.{used_bytes, section_belongs, row_fits, ascending, paired, form_wrong};
 ghost use Rattle.decoder.specs.Tables.{IsTable, AreTables};
-ghost use Rattle.row_rules.specs.Form.{used_number};
-ghost use Rattle.decoder.specs.Decoded.{type_uses, expression_uses, instruction_uses};
+ghost use Rattle.row_rules.specs.Form.{meant};
+ghost use Rattle.decoder.specs.Decoded.{uses};
 
 use crate::counts::in_between;
 use crate::pairs::procedures_paired;
-use decoder::decode::{
-    DecodedExpression, DecodedInstruction, DecodedType, expression_at, instruction_at, type_at,
-};
+use decoder::decode::{Decoded, expression_at, instruction_at, type_at};
 use decoder::fields::{bytes_at, kind_at, section_at, zero_from};
 use decoder::tables::{Table, Tables};
 use lingua::FileKind;
@@ -32,80 +30,37 @@ fn section_belongs(file: FileKind, section: u8) -> bool
     }
 }
 
-// How many bytes a row of a pair uses: the first has kind 0, the second kind 1.
-fn used_by_pair(kind: u8, first: u8, second: u8) -> usize
-    ensures { result ≡ used_number (get_or (some first ∷ some second ∷ []) kind none) }
+// How many bytes a row of a kind uses, where each kind from 0 on has its number.
+fn used_in(used: &[u8], kind: u8) -> Option<u8>
+    ensures { meant result ≡ get_or (map some used.now) kind none }
 {
-    match kind {
-        0 => first as usize + 1,
-        1 => second as usize + 1,
-        _ => 0,
+    used.get(kind as usize).copied()
+}
+
+fn used_by<R: Copy>(row: Decoded<R>) -> Option<u8>
+    ensures { meant result ≡ uses row }
+{
+    match row {
+        Some((used, _)) => Some(used),
+        None => None,
     }
 }
 
-// The same in a procedure: its variables' rows, and kind 2, which begins it.
-fn used_by_procedure(kind: u8) -> usize
-    ensures { result ≡ used_number (get_or (some 8 ∷ some 4 ∷ some 6 ∷ []) kind none) }
-{
-    match kind {
-        0 => 9,
-        1 => 5,
-        2 => 7,
-        _ => 0,
-    }
-}
-
-fn used_by_type(d: DecodedType) -> usize
-    ensures { result ≡ used_number (type_uses d) }
-{
-    match d {
-        DecodedType::Unknown => 0,
-        DecodedType::Known(n, _) => n as usize + 1,
-    }
-}
-
-fn used_by_expression(d: DecodedExpression) -> usize
-    ensures { result ≡ used_number (expression_uses d) }
-{
-    match d {
-        DecodedExpression::Unknown => 0,
-        DecodedExpression::Known(n, _) => n as usize + 1,
-    }
-}
-
-fn used_by_instruction(d: DecodedInstruction) -> usize
-    ensures { result ≡ used_number (instruction_uses d) }
-{
-    match d {
-        DecodedInstruction::Unknown => 0,
-        DecodedInstruction::Known(n, _) => n as usize + 1,
-    }
-}
-
-// One more than the number of bytes that row i uses of its eight, and 0 where the section has no such kind.
-fn used_bytes(rows: &[u8], i: usize, section: u8) -> usize
+// The number of bytes that row i uses of its eight, if the section has such a kind. The rows of a pair have the kinds 0 and 1; a
+// procedure begins with kind 2.
+fn used_bytes(rows: &[u8], i: usize, section: u8) -> Option<u8>
     requires { 10 * i + 10 ≤ length rows.now }
-    ensures { result ≡ used_number (used_bytes section (kind_at rows.now i)) }
+    ensures { meant result ≡ used_bytes section (kind_at rows.now i) }
 {
-    if section == DECLARATION_SECTION {
-        return used_by_pair(kind_at(rows, i), 8, 4);
+    match section {
+        DECLARATION_SECTION => used_in(&[8, 4], kind_at(rows, i)),
+        TYPE_SECTION => used_by(type_at(rows, i)),
+        EXPRESSION_SECTION => used_by(expression_at(rows, i)),
+        INSTRUCTION_SECTION => used_by(instruction_at(rows, i)),
+        LIMIT_SECTION => used_in(&[8, 8], kind_at(rows, i)),
+        PROCEDURE_SECTION => used_in(&[8, 4, 6], kind_at(rows, i)),
+        _ => None,
     }
-    if section == TYPE_SECTION {
-        return used_by_type(type_at(rows, i));
-    }
-    if section == EXPRESSION_SECTION {
-        return used_by_expression(expression_at(rows, i));
-    }
-    if section == INSTRUCTION_SECTION {
-        return used_by_instruction(instruction_at(rows, i));
-    }
-    if section == LIMIT_SECTION {
-        return used_by_pair(kind_at(rows, i), 8, 8);
-    }
-    if section == PROCEDURE_SECTION {
-        return used_by_procedure(kind_at(rows, i));
-    }
-    0
 }
 
 fn row_fits(file: FileKind, rows: &[u8], i: usize) -> bool
@@ -116,39 +71,23 @@ fn row_fits(file: FileKind, rows: &[u8], i: usize) -> bool
     if !section_belongs(file, section) {
         return false;
     }
-    let used = used_bytes(rows, i, section);
-    if used == 0 {
-        return false;
+    match used_bytes(rows, i, section) {
+        Some(used) => zero_from(bytes_at(rows, i), used as usize),
+        None => false,
     }
-    zero_from(bytes_at(rows, i), used - 1)
 }
 
 fn rows_fit(file: FileKind, rows: &[u8]) -> bool
     ensures { result ≡ every_below (row_count rows.now) (λ i. row_fits (file_meaning file) rows.now i) }
 {
-    let n = rows.len() / ROW_BYTES;
-    let mut i = 0;
-    while i < n {
-        if !row_fits(file, rows, i) {
-            return false;
-        }
-        i += 1;
-    }
-    true
+    (0..rows.len() / ROW_BYTES).all(|i| row_fits(file, rows, i))
 }
 
 fn sections_ascend(rows: &[u8]) -> bool
     ensures { result ≡ ascending rows.now }
 {
-    let n = rows.len() / ROW_BYTES;
-    let mut i = 0;
-    while i + 1 < n {
-        if section_at(rows, i + 1) < section_at(rows, i) {
-            return false;
-        }
-        i += 1;
-    }
-    true
+    let count = rows.len() / ROW_BYTES;
+    (0..count.saturating_sub(1)).all(|i| section_at(rows, i) <= section_at(rows, i + 1))
 }
 
 // Kinds 0 and 1 in turn, and a whole number of pairs.
@@ -156,16 +95,7 @@ fn is_paired(rows: &[u8], t: Table) -> bool
     requires { IsTable rows.now t.section t }
     ensures { result ≡ paired rows.now t.section }
 {
-    let start = t.start;
-    let count = t.count;
-    let mut r = 0;
-    while r < count {
-        if kind_at(rows, start + r) as usize != r % 2 {
-            return false;
-        }
-        r += 1;
-    }
-    count % 2 == 0
+    (0..t.count).all(|r| kind_at(rows, t.start + r) as usize == r % 2) && t.count % 2 == 0
 }
 
 pub fn form_wrong(file: FileKind, rows: &[u8], t: Tables) -> bool

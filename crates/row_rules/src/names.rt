@@ -18,24 +18,14 @@ fn is_name(bytes: &[u8]) -> bool
     requires { 0 < length bytes.now }
     ensures { result ≡ is_name bytes.now }
 {
-    if bytes[0] == 0 {
-        return false;
-    }
-    padded(bytes, b'A', b'Z')
+    bytes[0] != 0 && padded(bytes, b'A', b'Z')
 }
 
 pub fn same_bytes(a: &[u8], b: &[u8]) -> bool
     requires { length a.now ≡ length b.now }
     ensures { result ≡ same_text a.now b.now }
 {
-    let mut i = 0;
-    while i < a.len() {
-        if a[i] != b[i] {
-            return false;
-        }
-        i += 1;
-    }
-    true
+    a == b
 }
 
 // No lower pair has the name of pair d.
@@ -44,16 +34,8 @@ fn is_new(rows: &[u8], t: Table, d: usize) -> bool
     requires d_bound { d < t.count / 2 }
     ensures { result ≡ is_new rows.now t.section d }
 {
-    let start = t.start;
-    let name = bytes_at(rows, start + 2 * d);
-    let mut e = 0;
-    while e < d {
-        if same_bytes(bytes_at(rows, start + 2 * e), name) {
-            return false;
-        }
-        e += 1;
-    }
-    true
+    let name = bytes_at(rows, t.start + 2 * d);
+    (0..d).all(|e| !same_bytes(bytes_at(rows, t.start + 2 * e), name))
 }
 
 // The names of a table: each is a name, and new.
@@ -61,19 +43,7 @@ fn names_fit(rows: &[u8], t: Table) -> bool
     requires { IsTable rows.now t.section t }
     ensures { result ≡ names_fit rows.now t.section }
 {
-    let start = t.start;
-    let count = t.count / 2;
-    let mut d = 0;
-    while d < count {
-        if !is_name(bytes_at(rows, start + 2 * d)) {
-            return false;
-        }
-        if !is_new(rows, t, d) {
-            return false;
-        }
-        d += 1;
-    }
-    true
+    (0..t.count / 2).all(|d| is_name(bytes_at(rows, t.start + 2 * d)) && is_new(rows, t, d))
 }
 
 // The profile's own variables, and each procedure's by themselves.
@@ -82,16 +52,7 @@ fn profile_name_wrong(rows: &[u8], t: Tables) -> bool
     requires count_le_most_procedures { t.procedures.count ≤ most_procedures }
     ensures { result ≡ name_wrong profile rows.now }
 {
-    let procedures = t.procedures;
-    let count = procedures.count;
-    let mut s = 0;
-    while s <= count {
-        if !names_fit(rows, scope_table(t, s)) {
-            return true;
-        }
-        s += 1;
-    }
-    false
+    !(0..t.procedures.count + 1).all(|s| names_fit(rows, scope_table(t, s)))
 }
 
 pub fn name_wrong(file: FileKind, rows: &[u8], t: Tables) -> bool

@@ -8,8 +8,8 @@ use lib.Dec.{eqb, ltb, leb}
 use borrow.Author.Tests.{ltb-true, le-leb, lt-leb, eq-eqb, ne_eqb}
 use Rattle.lingua.specs.Numbers.{most_parameters, most_variables, variable_table}
 use Rattle.lingua.specs.Rows.{pair_count, value_count, reference_count, groups, instruction_row}
-use Rattle.lingua.specs.Trees.{given_values, given_references, instruction_scope}
-use Rattle.lingua.specs.References.{all_below, on_call, instruction_variables, variables_seen, variables_fit, parameters_fit, bits_above, all_different}
+use Rattle.lingua.specs.Trees.{given_values, given_references}
+use Rattle.lingua.specs.References.{all_below, on_call, parameters_fit, bits_above, all_different}
 use Rattle.decoder.specs.Tables.{IsTable, IsProcedure}
 use Rattle.decoder.specs.Decoded.{instruction_meaning}
 use Rattle.decoder.specs.Mentions.{InstructionAlike}
@@ -77,21 +77,6 @@ module _ (rows : List ℕ) (k b c : ℕ) (p : Procedure) (h : IsProcedure rows k
 
   pub differ_are : all_different (groups m c) ≡ all_different (given_references rows k c)
   differ_are = ap all_different references_are
-
--- an instruction's own variable, and those that it gives
-module _ (rows : List ℕ) (r end : ℕ) (e : end ≡ variables_seen rows (instruction_scope rows r)) where
-  abbrev gives : ℕ → ℕ → ℕ → ℕ → Bool
-  gives n k b c = all_below n (given_values rows k b ++ given_references rows k c)
-
-  fit_is : variables_fit rows r ≡ (all_below end (instruction_variables (instruction_row rows r)) && on_call (instruction_row rows r) (λ k b c. gives end k b c))
-  unfolding variables_fit
-  fit_is = ap (λ (n : ℕ). all_below n (instruction_variables (instruction_row rows r)) && on_call (instruction_row rows r) (λ k b c. gives n k b c)) (sym e)
-
-  pub own_fails : all_below end (instruction_variables (instruction_row rows r)) ≡ false → false ≡ variables_fit rows r
-  own_fails f = sym (fit_is ∙ ap (λ (t : Bool). t && on_call (instruction_row rows r) (λ k b c. gives end k b c)) f)
-
-  pub given_tells : all_below end (instruction_variables (instruction_row rows r)) ≡ true → on_call (instruction_row rows r) (λ k b c. gives end k b c) ≡ variables_fit rows r
-  given_tells f = sym (fit_is ∙ ap (λ (t : Bool). t && on_call (instruction_row rows r) (λ k b c. gives end k b c)) f)
 
 -- ---- 18
 module _ (rows : List ℕ) (k : ℕ) (p : Procedure) (h : IsProcedure rows k p) where

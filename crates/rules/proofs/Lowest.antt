@@ -2,13 +2,17 @@
 use mathlib.Core.Path.{◌≡◌, refl, sym, ◌∙◌, ap}
 use mathlib.Core.Bool.{Bool, true, false}
 use mathlib.Core.List.{List, [], ◌∷◌}
-use Prim.Native.Nat.{ℕ}
+use Prim.Native.Nat.{ℕ, ◌≤◌}
+use Rattle.std.specs.Prelude.{Err}
 use native.Mathlib.Omega.{arith}
 use Rattle.lingua.specs.declared.FileKind.{FileKind}
 use Rattle.lingua.specs.declared.FileKind.TheVariants.{Profile, Limits}
 use Rattle.lingua.specs.Answers.{file_meaning}
 use Rattle.lingua.specs.Value.{all_of}
-use Rattle.lingua.specs.Errors.{bad_form, bad_count, bad_name, bad_constant}
+use Rattle.lingua.specs.declared.errors.Refusal.{Refusal}
+use Rattle.lingua.specs.Faults.{refusal_number}
+use Rattle.laws.specs.Faults.{refusal_number_counted}
+use Rattle.lingua.specs.Errors.{no_error, bad_form, bad_count, bad_name, bad_constant}
 use Rattle.lingua.specs.Rows.{pair_count}
 use Rattle.lingua.specs.Format.{File, profile, limits}
 use Rattle.lingua.specs.Rules.{form_wrong, count_wrong, name_wrong, constant_wrong}
@@ -169,11 +173,14 @@ module _ (f : File) (rows : List ℕ) where
       ∙ ap lowest (sym (rules_are f rows))
 
 -- a rule that applies leaves nothing to say of the bodies
-pub refused_judged : (f : File) (rows : List ℕ) {r : ℕ} {bodies : List ℕ} → r ≡ lowest (row_rules f rows) → (r ≡ 0 → ⊥) → Judged r f rows bodies
-refused_judged f rows e h = record { refusal = e; held = λ p z. absurd (h z) }
+some_refusal : (e : Refusal) → refusal_number e ≡ no_error → ⊥
+some_refusal e z = let l : 1 ≤ refusal_number e = (refusal_number_counted e).0 in omega arith
 
-pub refused_linked : (rows : List ℕ) {r : ℕ} {bodies : List ℕ} → r ≡ lowest (link_rules rows) → (r ≡ 0 → ⊥) → Linked r rows bodies
-refused_linked rows e h = record { refusal = e; held = λ z. absurd (h z) }
+pub refused_judged : {A : Type 0} (f : File) (rows : List ℕ) {e : Refusal} {bodies : List ℕ} → refusal_number e ≡ lowest (row_rules f rows) → Judged {A = A} (Err e) f rows bodies
+refused_judged f rows {e} h = record { refusal = h; held = λ p z. absurd (some_refusal e z) }
+
+pub refused_linked : {A : Type 0} (rows : List ℕ) {e : Refusal} {bodies : List ℕ} → refusal_number e ≡ lowest (link_rules rows) → Linked {A = A} (Err e) rows bodies
+refused_linked rows {e} h = record { refusal = h; held = λ z. absurd (some_refusal e z) }
 
 pub only_profile : {A : Type 0} (k : FileKind) → k ≡ Limits → file_meaning k ≡ profile → A
 unfolding file_meaning

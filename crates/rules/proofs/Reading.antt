@@ -175,6 +175,19 @@ module _ (rows : List ℕ) (h : reference_wrong rows ≡ false) where
   pub set_below : (i : ℕ) → i < table_count rows instruction_section → all_below (table_count rows expression_section) (yoke_set (instruction_row rows i)) ≡ true
   set_below i l = and_right (all_below (table_count rows expression_section) (evaluated (instruction_row rows i))) (all_below (table_count rows expression_section) (yoke_set (instruction_row rows i))) (both_below i l)
 
--- the code's answer of a short list of roots
-pub roots_to : (rows : List ℕ) (v : Bool) (marks : List Bool) {n m : ℕ} {xs ys : List ℕ} {b : Bool} → n ≡ m → Marked rows v m marks → all_below m xs ≡ true → ys ≡ xs → b ≡ all_of (λ a. not (ltb a n && get_or marks a false)) ys → b ≡ all_of (λ a. not (reads v (expression_tree rows a))) xs
-roots_to rows v marks {n} {m} {xs} {ys} {b} e h k q r = (rw (e, q) at r) ∙ roots_read rows v m marks h xs k
+-- the same of the number that the code has of them
+pub roots_same : (rows : List ℕ) (v : Bool) (marks : List Bool) {n m : ℕ} (xs : List ℕ) → n ≡ m → Marked rows v m marks → all_below m xs ≡ true → all_of (λ a. not (ltb a n && get_or marks a false)) xs ≡ all_of (λ a. not (reads v (expression_tree rows a))) xs
+roots_same rows v marks {n} {m} xs e h k = rw e (roots_read rows v m marks h xs k)
+
+-- what is asked of a short list is asked of the definition's
+pub lists_same : (p : ℕ → Bool) {xs ys : List ℕ} {b : Bool} → ys ≡ xs → b ≡ all_of p ys → b ≡ all_of p xs
+lists_same p e h = rw e at h
+
+pub roots_of : (p : ℕ → Bool) {n y : ℕ} {ys : List ℕ} {b : Bool} → n ≡ y → ys ≡ yoke_root n → b ≡ all_of p ys → b ≡ all_of p (yoke_root y)
+roots_of p e q h = rw (q, e) at h
+
+-- two tests that answer the same below n
+pub every_same : (n : ℕ) {p q : ℕ → Bool} → ((k : ℕ) → k < n → p k ≡ q k) → every_below n p ≡ every_below n q
+unfolding every_below
+every_same zero h = refl
+every_same (suc n) h = ap₂ (λ (a b : Bool). a && b) (every_same n (λ k l. h k (omega arith))) (h n (omega arith))

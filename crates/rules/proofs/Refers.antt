@@ -7,7 +7,7 @@ use lib.Dec.{ltb}
 use Rattle.lingua.specs.Numbers.{scope_table}
 use Rattle.lingua.specs.Rows.{a_at, b_at, row_in, detail_row, pair_count, instruction_row, parts, evaluated, yoke_root, yoke_set}
 use Rattle.lingua.specs.Format.{every_below}
-use Rattle.lingua.specs.References.{all_below, on_call, yoke_in, declaration_refers, declarations_refer, instruction_refers, rows_refer, variables_wrong, reference_wrong, variables_seen}
+use Rattle.lingua.specs.References.{all_below, on_call, yoke_in, declaration_refers, declarations_refer, instruction_refers, variables_seen}
 use Rattle.decoder.specs.Tables.{IsTable, AreTables}
 use Rattle.decoder.specs.declared.tables.Table.{Table}
 use Rattle.decoder.specs.declared.tables.Tables.{Tables}
@@ -35,33 +35,6 @@ module _ (p e y c : Bool) where
 
   pub refers_4 : p ≡ true → e ≡ true → y ≡ true → c ≡ (p && (e && y) && c)
   refers_4 a b d = rw (a, b, d)
-
--- all tables, in the order in which they are asked
-module _ (a b c d e : Bool) where
-  pub all_1 : a ≡ false → false ≡ (a && b && c && d && e)
-  all_1 p = rw p
-
-  pub all_2 : a ≡ true → b ≡ false → false ≡ (a && b && c && d && e)
-  all_2 p q = rw (p, q)
-
-  pub all_3 : a ≡ true → b ≡ true → c ≡ false → false ≡ (a && b && c && d && e)
-  all_3 p q r = rw (p, q, r)
-
-  pub all_4 : a ≡ true → b ≡ true → c ≡ true → d ≡ false → false ≡ (a && b && c && d && e)
-  all_4 p q r s = rw (p, q, r, s)
-
-  pub all_5 : a ≡ true → b ≡ true → c ≡ true → d ≡ true → e ≡ (a && b && c && d && e)
-  all_5 p q r s = rw (p, q, r, s)
-
--- both halves of the rule
-module _ (rows : List ℕ) where
-  pub rows_wrong : rows_refer rows ≡ false → true ≡ reference_wrong rows
-  unfolding reference_wrong
-  rows_wrong e = rw e
-
-  pub variables_decide : rows_refer rows ≡ true → variables_wrong rows ≡ reference_wrong rows
-  unfolding reference_wrong
-  variables_decide e = rw e
 
 -- ---- a scope's table
 module _ (rows : List ℕ) (s : ℕ) (own : Table) (h : IsTable rows (scope_table s) own) where

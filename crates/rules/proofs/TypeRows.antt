@@ -1,6 +1,5 @@
 -- A type row's body from those of the rows that it names, and the rows one after another. Assumes nothing.
 use mathlib.Core.Path.{◌≡◌, sym, ap, ◌∙◌, subst}
-use mathlib.Core.Logic.{◌≢◌}
 use mathlib.Core.Bool.{true, false, not}
 use mathlib.Core.List.{List, [], ◌∷◌}
 use Prim.Native.Nat.{ℕ, suc, ◌+◌, ◌*◌, ◌≤◌, ◌<◌}
@@ -12,7 +11,10 @@ use lib.Seq.{paste, length-paste}
 use borrow.Author.Tests.{ltb-true}
 use Rattle.lingua.specs.Numbers.{type_section, attribute_numbers, most_types, type_bodies_length}
 use Rattle.lingua.specs.Errors.{record_expected}
-use Rattle.lingua.specs.Outcome.{ok, fail, Result, is_ok, ◌>>=◌}
+use Rattle.std.specs.Prelude.{Result, Ok, Err}
+use Rattle.lingua.specs.declared.errors.Error.{Error}
+use Rattle.lingua.specs.Faults.{error_number}
+use Rattle.lingua.specs.Outcome.{Outcome, ok, fail, is_ok, ◌>>=◌}
 use Rattle.lingua.specs.Body.{Body, boolean}
 use Rattle.lingua.specs.Operation.{make_list, make_record, expand, unary_body, binary_body}
 use Rattle.lingua.specs.Value.{all_of}
@@ -29,7 +31,6 @@ use Rattle.body.specs.Encode.{Holds, Held}
 use Rattle.body.specs.Typed.{Types}
 use Rattle.body.specs.declared.typed.Typed.{Typed}
 use Rattle.laws.specs.Encoded.{length_encoded}
-use Rattle.body_half.proofs.Results.{gives, fails}
 use Rattle.rules.specs.Types.{body_at, HeldAt, LooksUp, Answers, TypesReady, BodiesBelow}
 use Rattle.rules.specs.Unrolled.{lower_is, type_unrolled}
 use Rattle.rules.proofs.TypePlaces.{kept_other, kept_own}
@@ -73,13 +74,13 @@ pub held_is : (bodies x : List ℕ) (p : ℕ) → x ≡ body_at bodies p → Hel
 held_is bodies x p e h = subst Held (sym e) h.held
 
 -- ---- its body
-answered : (t : Typed) (o p : Result Body) (n : ℕ) → o ≡ p → Types t p n → Answers t o
-answered t o p n e h = record { offset = n; types = subst (λ (q : Result Body). Types t q n) (sym e) h }
+answered : (t : Result Typed Error) (o p : Outcome ℕ Body) (n : ℕ) → o ≡ p → Types t p n → Answers t o
+answered t o p n e h = record { offset = n; types = subst (λ (q : Outcome ℕ Body). Types t q n) (sym e) h }
 
-bound : (o : Result Body) (f : Body → Result Body) (b : Body) → o ≡ ok b → (o >>= f) ≡ f b
-bound o f b e = ap (λ (p : Result Body). p >>= f) e
+bound : (o : Outcome ℕ Body) (f : Body → Outcome ℕ Body) (b : Body) → o ≡ ok b → (o >>= f) ≡ f b
+bound o f b e = ap (λ (p : Outcome ℕ Body). p >>= f) e
 
-module _ (t : Typed) (row : TypeRow) (look : ℕ → Result Body) where
+module _ (t : Result Typed Error) (row : TypeRow) (look : ℕ → Outcome ℕ Body) where
   pub answers_simple : (b : Body) → row ≡ simple_type b → Types t (ok b) 0 → Answers t (type_body_of row look)
   unfolding type_body_of
   answers_simple b e h = answered t (type_body_of row look) (ok b) 0 (ap (λ (x : TypeRow). type_body_of x look) e) h
@@ -132,15 +133,15 @@ module _ (rows bodies : List ℕ) (t : Table) (r : ℕ) (h : IsTable rows type_s
       (λ p l. record { within = omega (arith, held.long); held = record { body = (held.each p l).body; holds = (held.each p l).holds } })
       below
 
-  pub row_answers : (o : Typed) → ((look : ℕ → Result Body) → Every (λ p. LooksUp look bodies p) (type_parts row) → Answers o (type_body_of row look)) → Answers o (type_body rows r)
+  pub row_answers : (o : Result Typed Error) → ((look : ℕ → Outcome ℕ Body) → Every (λ p. LooksUp look bodies p) (type_parts row) → Answers o (type_body_of row look)) → Answers o (type_body rows r)
   row_answers o f =
-      let look : ℕ → Result Body = lower r (λ p. type_body rows p) (fail record_expected) in
+      let look : ℕ → Outcome ℕ Body = lower r (λ p. type_body rows p) (fail record_expected) in
       let given = f look (every_implies (λ p l. record { body = (held.each p l).body; is = lower_is r (λ q. type_body rows q) (fail record_expected) p l ∙ (held.each p l).is; holds = (held.each p l).holds }) below) in
       answered o (type_body rows r) (type_body_of row look) given.offset
       (type_unrolled rows r ∙ ap (λ (x : TypeRow). type_body_of x look) (sym is)) given.types
 
   -- an unknown row is a Boolean's
-  pub unknown_answers : (o : Typed) → unknown_type ≡ row → Types o (ok boolean) 0 → Answers o (type_body rows r)
+  pub unknown_answers : (o : Result Typed Error) → unknown_type ≡ row → Types o (ok boolean) 0 → Answers o (type_body rows r)
   unfolding type_body_of
   unknown_answers o e f = row_answers o (λ look p. answered o (type_body_of row look) (ok boolean) 0 (ap (λ (x : TypeRow). type_body_of x look) (sym e)) f)
 
@@ -148,31 +149,31 @@ module _ (rows bodies : List ℕ) (t : Table) (r : ℕ) (h : IsTable rows type_s
 pub none_yet : (rows bodies : List ℕ) → length bodies ≡ type_bodies_length → BodiesBelow rows bodies 0
 none_yet rows bodies l = record { long = l; each = λ p h. absurd (let k : ⊥ = omega arith in k) }
 
-pub one_more : (rows bodies after : List ℕ) (r : ℕ) (t : Typed) → r < most_types → BodiesBelow rows bodies r → Answers t (type_body rows r) → t.error ≡ 0
+pub one_more : (rows bodies after : List ℕ) (r : ℕ) (t : Typed) → r < most_types → BodiesBelow rows bodies r → Answers (Ok t) (type_body rows r)
     → after ≡ paste bodies (96 * r) t.body 96 → BodiesBelow rows after (r + 1)
-one_more rows bodies after r t few held given e q =
-    let g = gives t (type_body rows r) given.offset given.types e in
-    let full : length t.body ≡ 96 = ap length g.holds.is ∙ length_encoded g.body_of g.holds.few_nodes in
+one_more rows bodies after r t few held given q =
+    let g = given.types in
+    let full : length t.body ≡ 96 = ap length g.holds.is ∙ length_encoded g.body g.holds.few_nodes in
     let room : 96 * r + 96 ≤ length bodies = omega (arith, held.long) in
     record {
       long = ap length q ∙ length-paste bodies (96 * r) t.body 96 room (omega arith) ∙ held.long;
       each = λ p l. ⊎_elim
           (λ m. record { body = (held.each p m).body; is = (held.each p m).is; holds = subst (λ (x : List ℕ). Holds x (held.each p m).body) (sym (ap (λ (y : List ℕ). body_at y p) q ∙ kept_other bodies t.body r room full p m)) (held.each p m).holds })
           (λ m. subst (λ (j : ℕ). LooksUp (λ u. type_body rows u) after j) (sym m)
-          (record { body = g.body_of; is = g.is; holds = subst (λ (x : List ℕ). Holds x g.body_of) (sym (ap (λ (y : List ℕ). body_at y r) q ∙ kept_own bodies t.body r room full)) g.holds }))
+          (record { body = g.body; is = g.is; holds = subst (λ (x : List ℕ). Holds x g.body) (sym (ap (λ (y : List ℕ). body_at y r) q ∙ kept_own bodies t.body r room full)) g.holds }))
           (below_suc r p (let z : p < suc r = omega arith in z));
     }
 
-not_ok : (o : Result Body) (n : ℕ) → o ≡ fail n → is_ok o ≡ false
-not_ok o n e = ap (λ (p : Result Body). is_ok p) e
+not_ok : (o : Outcome ℕ Body) (n : ℕ) → o ≡ fail n → is_ok o ≡ false
+not_ok o n e = ap (λ (p : Outcome ℕ Body). is_ok p) e
 
-is_ok_lem : (o : Result Body) (b : Body) → o ≡ ok b → is_ok o ≡ true
-is_ok_lem o b e = ap (λ (p : Result Body). is_ok p) e
+is_ok_lem : (o : Outcome ℕ Body) (b : Body) → o ≡ ok b → is_ok o ≡ true
+is_ok_lem o b e = ap (λ (p : Outcome ℕ Body). is_ok p) e
 
-pub row_wrong : (rows : List ℕ) (r : ℕ) (t : Typed) → r < table_count rows type_section → Answers t (type_body rows r) → t.error ≢ 0 → true ≡ type_wrong rows
+pub row_wrong : (rows : List ℕ) (r : ℕ) {e : Error} → r < table_count rows type_section → Answers (Err e) (type_body rows r) → true ≡ type_wrong rows
 unfolding type_wrong
-row_wrong rows r t l given e =
-    ap not (sym (every_false (table_count rows type_section) (λ k. is_ok (type_body rows k)) r (not_ok (type_body rows r) t.error (fails t (type_body rows r) given.offset given.types e)) l))
+row_wrong rows r {e} l given =
+    ap not (sym (every_false (table_count rows type_section) (λ k. is_ok (type_body rows k)) r (not_ok (type_body rows r) (error_number e) given.types) l))
 
 pub none_wrong : (rows bodies : List ℕ) (r : ℕ) → BodiesBelow rows bodies r → table_count rows type_section ≤ r → false ≡ type_wrong rows
 unfolding type_wrong

@@ -9,8 +9,8 @@ use native.Mathlib.Numerals.{add-one}
 use native.Mathlib.Nat.{zero-add, add-zero, suc-add, add-suc}
 use native.Mathlib.Omega.{arith}
 use lib.Dec.{eqb}
-use lib.ListN.{length, get_or, set, take, replicate, length-set, length-replicate, get_or-replicate}
-use lib.Seq.{take-nil, get_or-set_same, get_or-set_other}
+use lib.ListN.{length, get_or, set, replicate, length-set, length-replicate, get_or-replicate}
+use lib.Seq.{get_or-set_same, get_or-set_other}
 use borrow.Author.Tests.{eq-eqb, ne_eqb}
 use Rattle.lingua.specs.Trees.{tabulate_from, tabulate}
 use Rattle.lingua.specs.Typing.{joined}
@@ -74,23 +74,6 @@ counted_to {uses} {xs} {ys} h e = subst (λ (l : List ℕ). Counted uses l) e h
 pub counted_zeros : Counted (replicate 512 0) []
 unfolding occurrences
 counted_zeros = record { long = length-replicate {A = ℕ} 512 0; counts = λ r l. get_or-replicate 512 r 0 0 l }
-
--- ---- short lists
-module _ (xs : List ℕ) where
-  pub short_0 : (n x y z : ℕ) → n ≡ 0 → xs ≡ xs ++ take n (x ∷ y ∷ z ∷ [])
-  short_0 n x y z e = rw e (sym (append-nil xs))
-
-  pub short_1 : (n x y z : ℕ) → n ≡ 1 → xs ++ (x ∷ []) ≡ xs ++ take n (x ∷ y ∷ z ∷ [])
-  short_1 n x y z e = rw e
-
-  pub short_2 : (n x y z : ℕ) → n ≡ 2 → xs ++ (x ∷ []) ++ (y ∷ []) ≡ xs ++ take n (x ∷ y ∷ z ∷ [])
-  short_2 n x y z e = rw e (append_assoc xs (x ∷ []) (y ∷ []))
-
-  pub short_3 : (n x y z : ℕ) → (n ≡ 0 → ⊥) → (n ≡ 1 → ⊥) → (n ≡ 2 → ⊥) → xs ++ (x ∷ []) ++ (y ∷ []) ++ (z ∷ []) ≡ xs ++ take n (x ∷ y ∷ z ∷ [])
-  short_3 zero x y z n0 n1 n2 = absurd (n0 refl)
-  short_3 (suc zero) x y z n0 n1 n2 = absurd (n1 refl)
-  short_3 (suc (suc zero)) x y z n0 n1 n2 = absurd (n2 refl)
-  short_3 (suc (suc (suc n))) x y z n0 n1 n2 = rw (take-nil n) (simp append_assoc)
 
 -- ---- rows one after another
 -- the code's row mentions what the row does

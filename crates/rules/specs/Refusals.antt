@@ -1,7 +1,9 @@
 -- The rules that a profile has beyond those of a limits file, and what asking the rules leaves. Assumes nothing: these are definitions.
-use Rattle.std.specs.Prelude.{◌≡◌, false, List, [], ◌∷◌, ℕ, length}
+use Rattle.std.specs.Prelude.{◌≡◌, false, List, [], ◌∷◌, ℕ, length, Result}
 use Rattle.lingua.specs.Numbers.{type_bodies_length, type_section}
 use Rattle.lingua.specs.Errors.{no_error, bad_reference, bad_use, misplaced, bad_type, bad_parameters, repeated_reference}
+use Rattle.lingua.specs.declared.errors.Refusal.{Refusal}
+use Rattle.lingua.specs.Faults.{refusal_of}
 use Rattle.lingua.specs.Rows.{table_count}
 use Rattle.lingua.specs.Format.{File, profile}
 use Rattle.lingua.specs.Rules.{count_wrong, constant_wrong}
@@ -29,11 +31,11 @@ pub record Linkable (rows : List ℕ) (t : Tables) (bodies : List ℕ) : Type 0 
   pub room : length bodies ≡ type_bodies_length
 
 -- the first of them that applies; where none does, the array holds the bodies of all type rows
-pub record Linked (r : ℕ) (rows bodies : List ℕ) : Type 0 where
-  pub refusal : r ≡ lowest (link_rules rows)
-  pub held : r ≡ no_error → BodiesBelow rows bodies (table_count rows type_section)
+pub record Linked {A : Type 0} (r : Result A Refusal) (rows bodies : List ℕ) : Type 0 where
+  pub refusal : refusal_of r ≡ lowest (link_rules rows)
+  pub held : refusal_of r ≡ no_error → BodiesBelow rows bodies (table_count rows type_section)
 
 -- the first of rules 6 to 13, 18 and 19 that applies; where none does, the bodies of a profile
-pub record Judged (r : ℕ) (f : File) (rows bodies : List ℕ) : Type 0 where
-  pub refusal : r ≡ lowest (row_rules f rows)
-  pub held : f ≡ profile → r ≡ no_error → BodiesBelow rows bodies (table_count rows type_section)
+pub record Judged {A : Type 0} (r : Result A Refusal) (f : File) (rows bodies : List ℕ) : Type 0 where
+  pub refusal : refusal_of r ≡ lowest (row_rules f rows)
+  pub held : f ≡ profile → refusal_of r ≡ no_error → BodiesBelow rows bodies (table_count rows type_section)

@@ -1,7 +1,8 @@
 -- Type rows and the array of their bodies. Assumes nothing.
-use Rattle.std.specs.Prelude.{◌≡◌, true, false, List, ℕ, ◌+◌, ◌*◌, ◌≤◌, ◌<◌, length, take, drop}
+use Rattle.std.specs.Prelude.{◌≡◌, true, false, List, ℕ, ◌+◌, ◌*◌, ◌≤◌, ◌<◌, length, take, drop, Result}
 use Rattle.lingua.specs.Numbers.{body_bytes, type_bodies_length, most_types, type_section}
-use Rattle.lingua.specs.Outcome.{ok, Result}
+use Rattle.lingua.specs.Outcome.{Outcome, ok}
+use Rattle.lingua.specs.declared.errors.Error.{Error}
 use Rattle.lingua.specs.Body.{Body}
 use Rattle.lingua.specs.Rows.{table_count, type_row}
 use Rattle.lingua.specs.Trees.{type_body}
@@ -26,13 +27,13 @@ pub record HeldAt (bodies : List ℕ) (p : ℕ) : Type 0 where
   pub held : Held (body_at bodies p)
 
 -- the body that is looked up for row p stands at its place
-pub record LooksUp (look : ℕ → Result Body) (bodies : List ℕ) (p : ℕ) : Type 0 where
+pub record LooksUp (look : ℕ → Outcome ℕ Body) (bodies : List ℕ) (p : ℕ) : Type 0 where
   pub body : Body
   pub is : look p ≡ ok body
   pub holds : Holds (body_at bodies p) body
 
 -- an operation's answer on bodies, whatever the offset beside it
-pub record Answers (t : Typed) (o : Result Body) : Type 0 where
+pub record Answers (t : Result Typed Error) (o : Outcome ℕ Body) : Type 0 where
   pub offset : ℕ
   pub types : Types t o offset
 

@@ -6,8 +6,7 @@ ghost use Rattle.lingua.specs.Rows.{table_count, procedure_count, value_count, r
 ghost use Rattle.lingua.specs.Format.{every_below};
 ghost use Rattle.lingua.specs.References.{on_call, parameters_fit, bits_above, parameters_wrong};
 ghost use Rattle.decoder.specs.Tables.{AreTables};
-ghost use Rattle.decoder.specs.Decoded.{instruction_meaning};
-ghost use Rattle.rules.specs.Calls.{Scoped, Calls};
+ghost use Rattle.rules.specs.Calls.{Scoped};
 
 use decoder::decode::InstructionRow;
 use decoder::groups::bits_above;
@@ -42,28 +41,19 @@ fn procedures_fit(rows: &[u8], t: Tables) -> bool
     requires count_le_most_procedures { t.procedures.count ≤ most_procedures }
     ensures { result ≡ every_below (procedure_count rows.now) (λ k. parameters_fit rows.now k) }
 {
-    let count = t.procedures.count;
-    let mut k = 0;
-    while k < count {
-        if !procedure_fits(rows, t, k) {
-            return false;
-        }
-        k += 1;
-    }
-    true
+    (0..t.procedures.count).all(|k| procedure_fits(rows, t, k))
 }
 
-fn call_fits(rows: &[u8], t: Tables, row: InstructionRow) -> bool
-    requires { Calls rows.now t row }
-    ensures { result ≡ on_call (instruction_meaning row) (λ k b c. eqb (bits_above (value_count rows.now k) b) 0 && eqb (bits_above (reference_count rows.now k) c) 0) }
+fn call_fits(rows: &[u8], t: Tables, r: usize) -> bool
+    requires scoped { Scoped rows.now t }
+    requires r_lt_count { r < t.instructions.count }
+    ensures { result ≡ on_call (instruction_row rows.now r) (λ k b c. eqb (bits_above (value_count rows.now k) b) 0 && eqb (bits_above (reference_count rows.now k) c) 0) }
 {
+    let row = instruction_in(rows, t.instructions, r);
     match row {
         InstructionRow::Call(k, b, c) => {
             let procedure = procedure_at(rows, t, k);
-            if bits_above(b, procedure.values) != 0 {
-                return false;
-            }
-            bits_above(c, procedure.references) == 0
+            bits_above(b, procedure.values) == 0 && bits_above(c, procedure.references) == 0
         }
         _ => true,
     }
@@ -73,24 +63,12 @@ fn calls_fit(rows: &[u8], t: Tables) -> bool
     requires { Scoped rows.now t }
     ensures { result ≡ every_below (table_count rows.now instruction_section) (λ r. on_call (instruction_row rows.now r) (λ k b c. eqb (bits_above (value_count rows.now k) b) 0 && eqb (bits_above (reference_count rows.now k) c) 0)) }
 {
-    let instructions = t.instructions;
-    let count = instructions.count;
-    let mut r = 0;
-    while r < count {
-        if !call_fits(rows, t, instruction_in(rows, instructions, r)) {
-            return false;
-        }
-        r += 1;
-    }
-    true
+    (0..t.instructions.count).all(|r| call_fits(rows, t, r))
 }
 
 pub fn parameters_wrong(rows: &[u8], t: Tables) -> bool
     requires { Scoped rows.now t }
     ensures { result ≡ parameters_wrong rows.now }
 {
-    if !procedures_fit(rows, t) {
-        return true;
-    }
-    !calls_fit(rows, t)
+    !procedures_fit(rows, t) || !calls_fit(rows, t)
 }

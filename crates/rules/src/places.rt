@@ -38,33 +38,14 @@ fn is_marked(marks: &[bool; MOST_EXPRESSIONS], r: usize, a: usize) -> bool
     requires { r ≤ most_expressions }
     ensures { result ≡ (ltb a r && get_or marks.now a false) }
 {
-    if a < r {
-        return marks[a];
-    }
-    false
+    a < r && marks[a]
 }
 
 fn none_marked(f: UpToThree, marks: &[bool; MOST_EXPRESSIONS], r: usize) -> bool
     requires { r ≤ 512 }
     ensures { result ≡ all_of (λ a. not (ltb a r && get_or marks.now a false)) (listed f) }
 {
-    let count = f.count;
-    if count == 0 {
-        return true;
-    }
-    if is_marked(marks, r, f.x) {
-        return false;
-    }
-    if count == 1 {
-        return true;
-    }
-    if is_marked(marks, r, f.y) {
-        return false;
-    }
-    if count == 2 {
-        return true;
-    }
-    !is_marked(marks, r, f.z)
+    f.numbers().iter().all(|a| !is_marked(marks, r, *a))
 }
 
 // Whether the tree of row r reads, given the marks of the rows below.
@@ -81,10 +62,7 @@ fn tree_reads(
     ensures { result ≡ reads variable (expression_tree rows.now r) }
 {
     let row = expression_in(rows, t, r);
-    if row_reads(row, variable) {
-        return true;
-    }
-    !none_marked(operands(row), marks, r)
+    row_reads(row, variable) || !none_marked(operands(row), marks, r)
 }
 
 fn readers(rows: &[u8], t: Table, variable: bool) -> [bool; MOST_EXPRESSIONS]
@@ -92,13 +70,10 @@ fn readers(rows: &[u8], t: Table, variable: bool) -> [bool; MOST_EXPRESSIONS]
     requires count_le_most_expressions { t.count ≤ most_expressions }
     ensures { Marked rows.now variable (table_count rows.now expression_section) result }
 {
-    let count = t.count;
     let mut marks = [false; MOST_EXPRESSIONS];
-    let mut r = 0;
-    while r < count {
+    for r in 0..t.count {
         let mark = tree_reads(rows, t, &marks, r, variable);
         marks[r] = mark;
-        r += 1;
     }
     marks
 }
@@ -111,20 +86,14 @@ fn declared_fit(rows: &[u8], t: Tables, marks: &[bool; MOST_EXPRESSIONS], s: usi
 {
     let own = scope_table(t, s);
     let start = own.start;
-    let count = own.count / 2;
     let expressions = t.expressions.count;
-    let mut d = 0;
-    while d < count {
-        if !none_marked(
+    (0..own.count / 2).all(|d| {
+        none_marked(
             yoke_root(b_at(rows, start + (2 * d + 1))),
             marks,
             expressions,
-        ) {
-            return false;
-        }
-        d += 1;
-    }
-    true
+        )
+    })
 }
 
 // Those of the profile and of each procedure.
@@ -132,15 +101,7 @@ fn scopes_fit(rows: &[u8], t: Tables, marks: &[bool; MOST_EXPRESSIONS]) -> bool
     requires { PlacesMarked rows.now t true marks.now }
     ensures { result ≡ every_below (suc (procedure_count rows.now)) (λ s. all_of (λ r. not (reads true (expression_tree rows.now r))) (declared_roots rows.now s)) }
 {
-    let count = t.procedures.count;
-    let mut s = 0;
-    while s <= count {
-        if !declared_fit(rows, t, marks, s) {
-            return false;
-        }
-        s += 1;
-    }
-    true
+    (0..t.procedures.count + 1).all(|s| declared_fit(rows, t, marks, s))
 }
 
 // No yoke that is set reads a variable.
@@ -149,20 +110,14 @@ fn set_fit(rows: &[u8], t: Tables, marks: &[bool; MOST_EXPRESSIONS]) -> bool
     ensures { result ≡ every_below (table_count rows.now instruction_section) (λ i. all_of (λ r. not (reads true (expression_tree rows.now r))) (yoke_set (instruction_row rows.now i))) }
 {
     let instructions = t.instructions;
-    let count = instructions.count;
     let expressions = t.expressions.count;
-    let mut i = 0;
-    while i < count {
-        if !none_marked(
+    (0..instructions.count).all(|i| {
+        none_marked(
             yoke_set(instruction_in(rows, instructions, i)),
             marks,
             expressions,
-        ) {
-            return false;
-        }
-        i += 1;
-    }
-    true
+        )
+    })
 }
 
 // No expression that an instruction evaluates reads the current value.
@@ -171,20 +126,14 @@ fn evaluated_fit(rows: &[u8], t: Tables, marks: &[bool; MOST_EXPRESSIONS]) -> bo
     ensures { result ≡ every_below (table_count rows.now instruction_section) (λ i. all_of (λ r. not (reads false (expression_tree rows.now r))) (evaluated (instruction_row rows.now i))) }
 {
     let instructions = t.instructions;
-    let count = instructions.count;
     let expressions = t.expressions.count;
-    let mut i = 0;
-    while i < count {
-        if !none_marked(
+    (0..instructions.count).all(|i| {
+        none_marked(
             evaluated(instruction_in(rows, instructions, i)),
             marks,
             expressions,
-        ) {
-            return false;
-        }
-        i += 1;
-    }
-    true
+        )
+    })
 }
 
 pub fn place_wrong(rows: &[u8], t: Tables) -> bool

@@ -26,10 +26,7 @@ fn declaration_refers(rows: &[u8], t: Tables, own: Table, d: usize) -> bool
     ensures { result ≡ declaration_refers rows.now own.section d }
 {
     let i = own.start + (2 * d + 1);
-    if a_at(rows, i) >= t.types.count {
-        return false;
-    }
-    all_within(yoke_root(b_at(rows, i)), 0, t.expressions.count)
+    a_at(rows, i) < t.types.count && all_within(yoke_root(b_at(rows, i)), 0, t.expressions.count)
 }
 
 // The declarations of one scope.
@@ -40,15 +37,7 @@ fn declarations_refer(rows: &[u8], t: Tables, s: usize) -> bool
     ensures { result ≡ declarations_refer rows.now s }
 {
     let own = scope_table(t, s);
-    let count = own.count / 2;
-    let mut d = 0;
-    while d < count {
-        if !declaration_refers(rows, t, own, d) {
-            return false;
-        }
-        d += 1;
-    }
-    true
+    (0..own.count / 2).all(|d| declaration_refers(rows, t, own, d))
 }
 
 // The profile's and each procedure's.
@@ -57,45 +46,21 @@ fn scopes_refer(rows: &[u8], t: Tables) -> bool
     requires count_le_most_procedures { t.procedures.count ≤ most_procedures }
     ensures { result ≡ every_below (suc (procedure_count rows.now)) (λ s. declarations_refer rows.now s) }
 {
-    let count = t.procedures.count;
-    let mut s = 0;
-    while s <= count {
-        if !declarations_refer(rows, t, s) {
-            return false;
-        }
-        s += 1;
-    }
-    true
+    (0..t.procedures.count + 1).all(|s| declarations_refer(rows, t, s))
 }
 
 fn types_refer(rows: &[u8], t: Table) -> bool
     requires { IsTable rows.now type_section t }
     ensures { result ≡ every_below (table_count rows.now type_section) (λ r. all_below r (type_parts (type_row rows.now r))) }
 {
-    let count = t.count;
-    let mut r = 0;
-    while r < count {
-        if !all_within(type_parts(type_in(rows, t, r)), 0, r) {
-            return false;
-        }
-        r += 1;
-    }
-    true
+    (0..t.count).all(|r| all_within(type_parts(type_in(rows, t, r)), 0, r))
 }
 
 fn expressions_refer(rows: &[u8], t: Table) -> bool
     requires { IsTable rows.now expression_section t }
     ensures { result ≡ every_below (table_count rows.now expression_section) (λ r. all_below r (operands (expression_row rows.now r))) }
 {
-    let count = t.count;
-    let mut r = 0;
-    while r < count {
-        if !all_within(operands(expression_in(rows, t, r)), 0, r) {
-            return false;
-        }
-        r += 1;
-    }
-    true
+    (0..t.count).all(|r| all_within(operands(expression_in(rows, t, r)), 0, r))
 }
 
 // A call names a procedure.
@@ -131,15 +96,7 @@ fn instructions_refer(rows: &[u8], t: Tables) -> bool
     requires { AreTables rows.now t }
     ensures { result ≡ every_below (table_count rows.now instruction_section) (λ r. instruction_refers rows.now r) }
 {
-    let count = t.instructions.count;
-    let mut r = 0;
-    while r < count {
-        if !instruction_refers(rows, t, r) {
-            return false;
-        }
-        r += 1;
-    }
-    true
+    (0..t.instructions.count).all(|r| instruction_refers(rows, t, r))
 }
 
 // No procedure's body is the program.
@@ -149,16 +106,7 @@ fn bodies_refer(rows: &[u8], t: Tables) -> bool
     ensures { result ≡ every_below (procedure_count rows.now) (λ k. ltb (body_row rows.now k) (pred (table_count rows.now instruction_section))) }
 {
     let last = t.instructions.count - 1;
-    let count = t.procedures.count;
-    let mut k = 0;
-    while k < count {
-        let procedure = procedure_at(rows, t, k);
-        if procedure.body >= last {
-            return false;
-        }
-        k += 1;
-    }
-    true
+    (0..t.procedures.count).all(|k| procedure_at(rows, t, k).body < last)
 }
 
 fn rows_refer(rows: &[u8], t: Tables) -> bool
@@ -166,21 +114,11 @@ fn rows_refer(rows: &[u8], t: Tables) -> bool
     requires sized { Sized t }
     ensures { result ≡ rows_refer rows.now }
 {
-    if !scopes_refer(rows, t) {
-        return false;
-    }
-    let types = t.types;
-    if !types_refer(rows, types) {
-        return false;
-    }
-    let expressions = t.expressions;
-    if !expressions_refer(rows, expressions) {
-        return false;
-    }
-    if !instructions_refer(rows, t) {
-        return false;
-    }
-    bodies_refer(rows, t)
+    scopes_refer(rows, t)
+        && types_refer(rows, t.types)
+        && expressions_refer(rows, t.expressions)
+        && instructions_refer(rows, t)
+        && bodies_refer(rows, t)
 }
 
 pub fn reference_wrong(rows: &[u8], t: Tables) -> bool
@@ -188,8 +126,5 @@ pub fn reference_wrong(rows: &[u8], t: Tables) -> bool
     requires sized { Sized t }
     ensures { result ≡ reference_wrong rows.now }
 {
-    if !rows_refer(rows, t) {
-        return true;
-    }
-    variables_wrong(rows, t)
+    !rows_refer(rows, t) || variables_wrong(rows, t)
 }

@@ -13,62 +13,63 @@ use crate::types::type_wrong;
 use crate::uses::use_wrong;
 use decoder::tables::Tables;
 use lingua::FileKind;
-use lingua::errors::{
-    BAD_CONSTANT, BAD_COUNT, BAD_FORM, BAD_NAME, BAD_PARAMETERS, BAD_REFERENCE, BAD_TYPE, BAD_USE,
-    MISPLACED, NO_ERROR, REPEATED_REFERENCE,
-};
+use lingua::errors::Refusal;
 use row_rules::constants::constant_wrong;
 use row_rules::counts::count_wrong;
 use row_rules::form::form_wrong;
 use row_rules::names::name_wrong;
 
 // Rules 10 to 13, 18 and 19, which only a profile has.
-fn link_refusal(rows: &[u8], t: Tables, bodies: &mut [u8]) -> u8
+fn link_refusal(rows: &[u8], t: Tables, bodies: &mut [u8]) -> Result<(), Refusal>
     requires { Linkable rows.now t bodies.old }
     ensures { Linked result rows.now bodies.new }
 {
     if reference_wrong(rows, t) {
-        return BAD_REFERENCE;
+        return Err(Refusal::BadReference);
     }
     if use_wrong(rows, t) {
-        return BAD_USE;
+        return Err(Refusal::BadUse);
     }
     if place_wrong(rows, t) {
-        return MISPLACED;
+        return Err(Refusal::Misplaced);
     }
-    let types = t.types;
-    if type_wrong(rows, types, bodies) {
-        return BAD_TYPE;
+    if type_wrong(rows, t.types, bodies) {
+        return Err(Refusal::BadType);
     }
     if parameters_wrong(rows, t) {
-        return BAD_PARAMETERS;
+        return Err(Refusal::BadParameters);
     }
     if references_wrong(rows, t) {
-        return REPEATED_REFERENCE;
+        return Err(Refusal::RepeatedReference);
     }
-    NO_ERROR
+    Ok(())
 }
 
-// 0 where no rule applies. Rule 13 makes the bodies of a profile's type rows, and leaves them in the array.
-pub fn rows_refusal(file: FileKind, rows: &[u8], t: Tables, bodies: &mut [u8]) -> u8
+// Rule 13 makes the bodies of a profile's type rows, and leaves them in the array.
+pub fn rows_refusal(
+    file: FileKind,
+    rows: &[u8],
+    t: Tables,
+    bodies: &mut [u8],
+) -> Result<(), Refusal>
     requires are_tables { AreTables rows.now t }
     requires bodies_len { length bodies.old ≡ type_bodies_length }
     ensures { Judged result (file_meaning file) rows.now bodies.new }
 {
     if form_wrong(file, rows, t) {
-        return BAD_FORM;
+        return Err(Refusal::BadForm);
     }
     if count_wrong(file, t) {
-        return BAD_COUNT;
+        return Err(Refusal::BadCount);
     }
     if name_wrong(file, rows, t) {
-        return BAD_NAME;
+        return Err(Refusal::BadName);
     }
     if constant_wrong(file, rows, t) {
-        return BAD_CONSTANT;
+        return Err(Refusal::BadConstant);
     }
     match file {
         FileKind::Profile => link_refusal(rows, t, bodies),
-        FileKind::Limits => NO_ERROR,
+        FileKind::Limits => Ok(()),
     }
 }

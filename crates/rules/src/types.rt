@@ -1,8 +1,8 @@
 // Rule 13 and the bodies of type rows, in a flat array that has BODY_BYTES for each.
-ghost use Rattle.std.specs.Prelude.{◌≡◌, true, false, ℕ, ◌+◌, ◌*◌, ◌<◌, ◌≤◌, length};
+ghost use Rattle.std.specs.Prelude.{◌≡◌, true, false, ℕ, ◌+◌, ◌*◌, ◌≤◌, length, Ok};
 ghost use Rattle.std.proofs.Math.Seq.{paste};
 ghost use Rattle.lingua.specs.Numbers.{body_bytes, type_bodies_length, type_section};
-ghost use Rattle.lingua.specs.Outcome.{ok, Result};
+ghost use Rattle.lingua.specs.Outcome.{Outcome, ok};
 ghost use Rattle.lingua.specs.Body.{Body};
 ghost use Rattle.lingua.specs.Rows.{table_count};
 ghost use Rattle.lingua.specs.Rules.{attributes_fit, type_attributes};
@@ -12,46 +12,28 @@ ghost use Rattle.safety.specs.Every.{Every};
 ghost use Rattle.body.specs.Typed.{Types};
 ghost use Rattle.decoder.specs.Tables.{IsTable};
 ghost use Rattle.decoder.specs.Decoded.{simple_meaning, type_meaning};
-ghost use Rattle.rules.specs.Types.{body_at, HeldAt, LooksUp, Answers, TypesReady, BodiesBelow, RowReady};
+ghost use Rattle.rules.specs.Types.{HeldAt, LooksUp, Answers, TypesReady, BodiesBelow, RowReady};
 
+use body::flat;
 use body::typed::{Typed, scalar};
 use body::walk::{BOOLEAN, HUNDREDTHS, NUMBER, WORD};
 use body_half::binary::expand;
 use body_half::unary::{make_list, make_record};
-use decoder::decode::{DecodedType, Simple, TypeRow, type_at};
+use decoder::decode::{Simple, TypeRow, type_at};
 use decoder::tables::Table;
+use lingua::errors::Error;
 use lingua::sizes::BODY_BYTES;
 
-// The body of type row r, by itself.
-pub fn type_body(bodies: &[u8], r: usize) -> [u8; BODY_BYTES]
-    requires { body_bytes * r + body_bytes ≤ length bodies.now }
-    ensures { result ≡ body_at bodies.now r }
-{
-    let from = BODY_BYTES * r;
-    let mut out = [0u8; BODY_BYTES];
-    let mut i = 0;
-    while i < BODY_BYTES {
-        out[i] = bodies[from + i];
-        i += 1;
-    }
-    out
-}
-
-// A body is kept in place r of an array of bodies: a type row's, or a variable's.
+// A body is kept in place r of an array of bodies.
 pub fn keep_body(bodies: &mut [u8], r: usize, body: [u8; BODY_BYTES])
     requires { body_bytes * r + body_bytes ≤ length bodies.old }
     ensures { bodies.new ≡ paste bodies.old (body_bytes * r) body body_bytes }
 {
-    let at = BODY_BYTES * r;
-    let mut i = 0;
-    while i < BODY_BYTES {
-        bodies[at + i] = body[i];
-        i += 1;
-    }
+    flat::keep(bodies, r, body);
 }
 
 fn simple_body(s: Simple) -> Typed
-    ensures { Types result (ok (simple_meaning s)) 0 }
+    ensures { Types (Ok result) (ok (simple_meaning s)) 0 }
 {
     match s {
         Simple::Boolean => scalar(BOOLEAN),
@@ -62,28 +44,27 @@ fn simple_body(s: Simple) -> Typed
 }
 
 // The body that a type row makes of those that it names.
-fn made_body(row: TypeRow, bodies: &[u8]) -> Typed
+fn made_body(row: TypeRow, bodies: &[u8]) -> Result<Typed, Error>
     requires row_value { attributes_fit (type_attributes (type_meaning row)) ≡ true }
     requires every { Every (λ p. HeldAt bodies.now p) (type_parts (type_meaning row)) }
-    ensures { (look : ℕ → Result Body) → Every (λ p. LooksUp look bodies.now p) (type_parts (type_meaning row)) → Answers result (type_body_of (type_meaning row) look) }
+    ensures { (look : ℕ → Outcome ℕ Body) → Every (λ p. LooksUp look bodies.now p) (type_parts (type_meaning row)) → Answers result (type_body_of (type_meaning row) look) }
 {
     match row {
-        TypeRow::Simple(s) => simple_body(s),
-        TypeRow::List(a) => make_list(type_body(bodies, a)),
-        TypeRow::Record(n, a) => make_record(n as u8, type_body(bodies, a)),
-        TypeRow::Expand(a, n, b) => expand(n as u8, type_body(bodies, a), type_body(bodies, b)),
+        TypeRow::Simple(s) => Ok(simple_body(s)),
+        TypeRow::List(a) => make_list(flat::taken(bodies, a)),
+        TypeRow::Record(n, a) => make_record(n as u8, flat::taken(bodies, a)),
+        TypeRow::Expand(a, n, b) => expand(n as u8, flat::taken(bodies, a), flat::taken(bodies, b)),
     }
 }
 
 // The body of type row r, from those of lower rows.
-fn row_body(rows: &[u8], t: Table, r: usize, bodies: &[u8]) -> Typed
+fn row_body(rows: &[u8], t: Table, r: usize, bodies: &[u8]) -> Result<Typed, Error>
     requires { RowReady rows.now t r bodies.now }
     ensures { Answers result (type_body rows.now r) }
 {
-    let d = type_at(rows, t.start + r);
-    match d {
-        DecodedType::Unknown => scalar(BOOLEAN),
-        DecodedType::Known(_, row) => made_body(row, bodies),
+    match type_at(rows, t.start + r) {
+        Some((_, row)) => made_body(row, bodies),
+        None => Ok(scalar(BOOLEAN)),
     }
 }
 
@@ -96,16 +77,11 @@ pub fn type_wrong(rows: &[u8], t: Table, bodies: &mut [u8]) -> bool
     ensures value { result ≡ type_wrong rows.now }
     ensures bodies_below { result ≡ false → BodiesBelow rows.now bodies.new (table_count rows.now type_section) }
 {
-    let count = t.count;
-    let mut r = 0;
-    while r < count {
-        let made = row_body(rows, t, r, bodies);
-        if made.error != 0 {
+    for r in 0..t.count {
+        let Ok(made) = row_body(rows, t, r, bodies) else {
             return true;
-        }
-        let body = made.body;
-        keep_body(bodies, r, body);
-        r += 1;
+        };
+        flat::keep(bodies, r, made.body);
     }
     false
 }

@@ -36,19 +36,10 @@ fn note(uses: &mut [u8; MOST_EXPRESSIONS], x: usize)
 fn note_all(uses: &mut [u8; MOST_EXPRESSIONS], f: UpToThree)
     ensures { (xs : List ℕ) → Counted uses.old xs → Counted uses.new (xs ++ listed f) }
 {
-    let count = f.count;
-    if count == 0 {
-        return;
+    let numbers = f.numbers();
+    for x in numbers {
+        note(uses, *x);
     }
-    note(uses, f.x);
-    if count == 1 {
-        return;
-    }
-    note(uses, f.y);
-    if count == 2 {
-        return;
-    }
-    note(uses, f.z);
 }
 
 // The expression rows of the yokes that a table declares.
@@ -56,11 +47,8 @@ fn note_declared(uses: &mut [u8; MOST_EXPRESSIONS], rows: &[u8], t: Table)
     requires { IsTable rows.now t.section t }
     ensures { (xs : List ℕ) → Counted uses.old xs → Counted uses.new (xs ++ joined (tabulate (pair_count rows.now t.section) (λ d. yoke_root (yoke_in rows.now t.section d)))) }
 {
-    let count = t.count / 2;
-    let mut d = 0;
-    while d < count {
+    for d in 0..t.count / 2 {
         note_all(uses, yoke_root(b_at(rows, t.start + (2 * d + 1))));
-        d += 1;
     }
 }
 
@@ -70,11 +58,8 @@ fn note_scopes(uses: &mut [u8; MOST_EXPRESSIONS], rows: &[u8], t: Tables)
     requires count_le_most_procedures { t.procedures.count ≤ most_procedures }
     ensures { (xs : List ℕ) → Counted uses.old xs → Counted uses.new (xs ++ joined (tabulate (suc (procedure_count rows.now)) (λ s. declared_roots rows.now s))) }
 {
-    let count = t.procedures.count;
-    let mut s = 0;
-    while s <= count {
+    for s in 0..t.procedures.count + 1 {
         note_declared(uses, rows, scope_table(t, s));
-        s += 1;
     }
 }
 
@@ -83,11 +68,8 @@ fn note_mentioned(uses: &mut [u8; MOST_EXPRESSIONS], rows: &[u8], t: Table, what
     requires { IsTable rows.now instruction_section t }
     ensures { (xs : List ℕ) → Counted uses.old xs → Counted uses.new (xs ++ joined (tabulate (table_count rows.now instruction_section) (λ r. mentioned_by what (instruction_row rows.now r)))) }
 {
-    let count = t.count;
-    let mut r = 0;
-    while r < count {
+    for r in 0..t.count {
         note_all(uses, mentioned(instruction_in(rows, t, r), what));
-        r += 1;
     }
 }
 
@@ -95,11 +77,8 @@ fn note_operands(uses: &mut [u8; MOST_EXPRESSIONS], rows: &[u8], t: Table)
     requires { IsTable rows.now expression_section t }
     ensures { (xs : List ℕ) → Counted uses.old xs → Counted uses.new (xs ++ joined (tabulate (table_count rows.now expression_section) (λ r. operands (expression_row rows.now r)))) }
 {
-    let count = t.count;
-    let mut r = 0;
-    while r < count {
+    for r in 0..t.count {
         note_all(uses, operands(expression_in(rows, t, r)));
-        r += 1;
     }
 }
 
@@ -109,12 +88,9 @@ fn note_bodies(uses: &mut [u8; MOST_EXPRESSIONS], rows: &[u8], t: Tables)
     requires count_le_most_procedures { t.procedures.count ≤ most_procedures }
     ensures { (xs : List ℕ) → Counted uses.old xs → Counted uses.new (xs ++ tabulate (procedure_count rows.now) (λ k. body_row rows.now k)) }
 {
-    let count = t.procedures.count;
-    let mut k = 0;
-    while k < count {
+    for k in 0..t.procedures.count {
         let procedure = procedure_at(rows, t, k);
         note(uses, procedure.body);
-        k += 1;
     }
 }
 
@@ -123,14 +99,7 @@ fn all_once(uses: &[u8; MOST_EXPRESSIONS], n: usize) -> bool
     requires { n ≤ most_expressions }
     ensures { (xs : List ℕ) → Counted uses.now xs → result ≡ every_below n (λ r. eqb (occurrences r xs) 1) }
 {
-    let mut r = 0;
-    while r < n {
-        if uses[r] != 1 {
-            return false;
-        }
-        r += 1;
-    }
-    true
+    (0..n).all(|r| uses[r] == 1)
 }
 
 fn expressions_once(rows: &[u8], t: Tables) -> bool
@@ -166,8 +135,5 @@ pub fn use_wrong(rows: &[u8], t: Tables) -> bool
     requires sized { Sized t }
     ensures { result ≡ use_wrong rows.now }
 {
-    if !expressions_once(rows, t) {
-        return true;
-    }
-    !instructions_once(rows, t)
+    !expressions_once(rows, t) || !instructions_once(rows, t)
 }

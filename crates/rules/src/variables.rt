@@ -24,8 +24,7 @@ fn seen(t: Tables, s: usize) -> usize
     requires s_le_count { s ≤ t.procedures.count }
     ensures { (rows : List ℕ) → AreTables rows t → result ≡ variables_seen rows s }
 {
-    let own = scope_table(t, s);
-    own.count / 2
+    scope_table(t, s).count / 2
 }
 
 // The variables that a call gives, as many as its procedure has parameters of each sort, and at most 4.
@@ -36,13 +35,23 @@ fn given_fit(rows: &[u8], t: Tables, row: InstructionRow, end: usize) -> bool
     match row {
         InstructionRow::Call(k, b, c) => {
             let procedure = procedure_at(rows, t, k);
-            if !groups_below(b, given(procedure.values), end) {
-                return false;
-            }
-            groups_below(c, given(procedure.references), end)
+            groups_below(b, given(procedure.values), end)
+                && groups_below(c, given(procedure.references), end)
         }
         _ => true,
     }
+}
+
+// The variables that an expression names.
+fn expression_fits(rows: &[u8], t: Tables, r: usize, s: usize) -> bool
+    requires scoped { Scoped rows.now t }
+    requires r_lt_count { r < t.expressions.count }
+    requires s_value { (s ≡ expression_scope rows.now r) × (s ≤ t.procedures.count) }
+    ensures { result ≡ all_below (variables_seen rows.now (expression_scope rows.now r)) (expression_variables (expression_row rows.now r)) }
+{
+    let row = expression_in(rows, t.expressions, r);
+    let end = seen(t, s);
+    all_within(variables(row), 0, end)
 }
 
 fn expressions_fit(rows: &[u8], t: Tables, scopes: &[u8; MOST_EXPRESSIONS]) -> bool
@@ -50,17 +59,7 @@ fn expressions_fit(rows: &[u8], t: Tables, scopes: &[u8; MOST_EXPRESSIONS]) -> b
     requires expression_scopes { ExpressionScopes rows.now scopes.now }
     ensures { result ≡ every_below (table_count rows.now expression_section) (λ r. all_below (variables_seen rows.now (expression_scope rows.now r)) (expression_variables (expression_row rows.now r))) }
 {
-    let expressions = t.expressions;
-    let count = expressions.count;
-    let mut r = 0;
-    while r < count {
-        let end = seen(t, scopes[r] as usize);
-        if !all_within(variables(expression_in(rows, expressions, r)), 0, end) {
-            return false;
-        }
-        r += 1;
-    }
-    true
+    (0..t.expressions.count).all(|r| expression_fits(rows, t, r, scopes[r] as usize))
 }
 
 // The variable that an instruction assigns to or whose yoke it sets, and those that it gives.
@@ -70,13 +69,9 @@ fn instruction_fits(rows: &[u8], t: Tables, r: usize, s: usize) -> bool
     requires s_value { (s ≡ instruction_scope rows.now r) × (s ≤ t.procedures.count) }
     ensures { result ≡ variables_fit rows.now r }
 {
-    let instructions = t.instructions;
-    let row = instruction_in(rows, instructions, r);
+    let row = instruction_in(rows, t.instructions, r);
     let end = seen(t, s);
-    if !all_within(assigned(row), 0, end) {
-        return false;
-    }
-    given_fit(rows, t, row, end)
+    all_within(assigned(row), 0, end) && given_fit(rows, t, row, end)
 }
 
 fn instructions_fit(rows: &[u8], t: Tables, scopes: &[u8; MOST_INSTRUCTIONS]) -> bool
@@ -84,15 +79,7 @@ fn instructions_fit(rows: &[u8], t: Tables, scopes: &[u8; MOST_INSTRUCTIONS]) ->
     requires instruction_scopes { InstructionScopes rows.now scopes.now }
     ensures { result ≡ every_below (table_count rows.now instruction_section) (λ r. variables_fit rows.now r) }
 {
-    let count = t.instructions.count;
-    let mut r = 0;
-    while r < count {
-        if !instruction_fits(rows, t, r, scopes[r] as usize) {
-            return false;
-        }
-        r += 1;
-    }
-    true
+    (0..t.instructions.count).all(|r| instruction_fits(rows, t, r, scopes[r] as usize))
 }
 
 pub fn variables_wrong(rows: &[u8], t: Tables) -> bool
@@ -103,8 +90,5 @@ pub fn variables_wrong(rows: &[u8], t: Tables) -> bool
 {
     let owners = instruction_scopes(rows, t);
     let used = expression_scopes(rows, t, &owners);
-    if !expressions_fit(rows, t, &used) {
-        return true;
-    }
-    !instructions_fit(rows, t, &owners)
+    !expressions_fit(rows, t, &used) || !instructions_fit(rows, t, &owners)
 }

@@ -1,4 +1,4 @@
--- A turn of each loop over cells, a variable's part that comes back, and a value that is copied. Assumes nothing.
+-- One cell that is copied, a variable's part that comes back, and a value that is copied. Assumes nothing.
 use mathlib.Core.Path.{◌≡◌, sym, ap, ◌∙◌}
 use mathlib.Core.List.{List, ◌++◌}
 use Prim.Native.Nat.{ℕ, ◌+◌, ◌-◌, ◌*◌, ◌≤◌, ◌<◌}
@@ -13,7 +13,7 @@ use Rattle.lingua.specs.Value.{Value, Fits, cells_of}
 use Rattle.cells.specs.Stack.{Lies}
 use Rattle.cells.proofs.Windows.{paste_front}
 
-pub cells_turn : (s from : List ℤ) (at i : ℕ) → i < length s → at + i < length from → set (paste s 0 (drop at from) i) i (get_or from (at + i) (pos 0)) ≡ paste s 0 (drop at from) (i + 1)
+cells_turn : (s from : List ℤ) (at i : ℕ) → i < length s → at + i < length from → set (paste s 0 (drop at from) i) i (get_or from (at + i) (pos 0)) ≡ paste s 0 (drop at from) (i + 1)
 cells_turn s from at i h k =
     let l : i < length (drop at from) = omega (arith, length-drop at from) in
     ap (λ (x : ℤ). set (paste s 0 (drop at from) i) i x) (sym (get_or-drop at from i (pos 0)))
@@ -21,7 +21,7 @@ cells_turn s from at i h k =
     ∙ paste-suc s 0 (drop at from) i (pos 0) (omega arith) l
     ∙ ap (λ (n : ℕ). paste s 0 (drop at from) n) (sym (add-one i))
 
--- one cell needs no loop
+-- one cell set at the front is a copy of one cell
 pub one_cell : (s from : List ℤ) (at n : ℕ) (z : ℤ) → z ≡ get_or from at (pos 0) → n ≡ 1 → 0 < length s → at < length from → set s 0 z ≡ paste s 0 (drop at from) n
 one_cell s from at n z e f h k =
     ap (λ (x : ℤ). set s 0 x) (e ∙ ap (λ (j : ℕ). get_or from j (pos 0)) (let j : at ≡ at + 0 = omega arith in j))

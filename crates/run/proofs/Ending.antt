@@ -14,7 +14,7 @@ use Rattle.lingua.specs.Answers.{answered, ending, end_number, run_meaning}
 use Rattle.lingua.specs.Calls.{ending_of}
 use Rattle.lingua.specs.declared.RunAnswer.TheVariants as run_answer
 use Rattle.run.specs.declared.steps.Status.{Status}
-use Rattle.run.specs.Statuses.{state_of, progress_of, recorded}
+use Rattle.run.specs.Statuses.{state_of, progress_of}
 use Rattle.run.specs.Steps.{step_spent, step_taken}
 
 pub steps_none : (m : Status) → m.left ≡ 0 → (vs : List Variable) (f : State → Progress) → step (state_of m vs) f ≡ out (record { store = vs; error = m.error; place = m.place; left = 0 }) []
@@ -30,10 +30,6 @@ one_more (suc n) h = omega arith
 
 pub steps_one : (m : Status) → (m.left ≡ 0 → ⊥) → (vs : List Variable) (f : State → Progress) → step (state_of m vs) f ≡ f (record { store = vs; error = m.error; place = m.place; left = m.left - 1 })
 steps_one m h vs f = step_taken (state_of m vs) f (m.left - 1) (one_less m.left h)
-
-pub records : (m : Status) (e p : ℕ) → (e ≡ 0 → ⊥) → record { error = e; place = p; left = m.left; out = m.out } ≡ recorded m e p
-records m zero p h = absurd (h refl)
-records m (suc e) p h = refl
 
 -- ---- the answer
 pub ended_out : (m : Status) (budget : ℕ) → m.out ≡ true → (vs : List Variable) (os : List (List Variable)) → run_meaning (run_answer.Out m.error m.place (budget - m.left)) ≡ answered (ending_of budget (progress_of m.out (state_of m vs) os))

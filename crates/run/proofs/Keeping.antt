@@ -42,7 +42,7 @@ use Rattle.decoder.specs.Tables.{IsTable}
 use Rattle.decoder.specs.declared.tables.Table.{Table}
 use Rattle.run.specs.Begun.{scope_start, start_store, Begun}
 use Rattle.run.specs.Started.{start_states}
-use Rattle.run.specs.Kept.{BodiesKept, YokesKept, LimitsFrom, Limited, LaterKept}
+use Rattle.run.specs.Kept.{BodiesKept, YokesKept, LimitsFrom, LaterKept}
 use Rattle.run.proofs.Unfilled.{counted, start_count, start_at, start_cells}
 
 -- ---- bodies
@@ -76,9 +76,6 @@ bodies_more rows t variables after d x accepted l kept given q = record { is = �
         ∙ ap (λ (v : Variable). bodies_in (take d vs ++ (v ∷ []))) (sym (start_at rows limits a h d there))
         ∙ ap (λ (us : List Variable). bodies_in us) (sym (take-suc vs d no_variable (omega arith)))
         ∙ ap (λ (j : ℕ). bodies_in (take j vs)) (sym (add-one d))
-
-pub all_bodies : (rows : List ℕ) (t : Table) (variables : List ℕ) (d : ℕ) → d ≡ t.count / 2 → BodiesKept rows t variables d → BodiesKept rows t variables (t.count / 2)
-all_bodies rows t variables d e h = subst (λ (n : ℕ). BodiesKept rows t variables n) e h
 
 -- ---- limits
 same_limit : (before after : List ℤ) (at : ℕ) (limit : Option Limit) → ((j : ℕ) → at ≤ j → j < at + 3 → get_or after j (pos 0) ≡ get_or before j (pos 0)) → LimitAt before at limit → LimitAt after at limit
@@ -206,11 +203,6 @@ module _ {rows limits owners : List ℕ} {u : Table} {kept : List ℤ} {l : ℕ}
 
   pub owner_room : 3 * get_or owners l 0 + 3 ≤ 48
   owner_room = omega (arith, few_variables rows k.known.accepted 0 (omega arith), owner_named.there)
-
--- one limit less to keep
-pub later_kept : {rows limits owners : List ℕ} {u : Table} {kept : List ℤ} → Limited rows limits u owners → (l : ℕ) → l ≤ u.count / 2 → 0 < l → LimitsFrom rows limits kept l → LaterKept rows limits u owners kept (l - 1)
-later_kept {rows} {limits} {kept = kept} known l h z from =
-    record { known = known; there = omega arith; later = subst (λ (k : ℕ). LimitsFrom rows limits kept k) (let e : l ≡ l - 1 + 1 = omega arith in e) from }
 
 pub start_limits : (rows limits : List ℕ) (kept : List ℤ) → LimitsFrom rows limits kept 0 → (n : ℕ) → n < length (start_store rows limits)
     → LimitAt kept (3 * n) (variable_at (start_store rows limits) n).limit

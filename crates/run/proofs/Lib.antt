@@ -1,5 +1,4 @@
 pub mod Ending
-pub mod Filling
 pub mod Unfilled
 pub mod Keeping
 pub mod Copying

@@ -1,6 +1,6 @@
 -- A limit in three cells is the definition's. Assumes nothing.
 use mathlib.Core.Path.{◌≡◌, refl, sym, ap, ap₂, ◌∙◌}
-use mathlib.Core.Bool.{Bool, true, false, ◌&&◌}
+use mathlib.Core.Bool.{Bool, true, ◌&&◌}
 use mathlib.Core.List.{List}
 use mathlib.Core.Option.{Option, some, none}
 use Prim.Native.Nat.{ℕ, ◌+◌}
@@ -25,11 +25,5 @@ limit_is limits at (some l) z h f = ap (λ (y : ℤ). le_z y z && le_z z (get_or
 
 -- ---- the code's comparisons, on numbers as it reads them back
 module _ {low high z low' high' z' : ℤ} (l : low' ≡ low) (h : high' ≡ high) (k : z' ≡ z) where
-  pub between_yes : le_z low' z' ≡ true → le_z z' high' ≡ (le_z low z && le_z z high)
-  between_yes e = ap₂ (λ (a b : ℤ). le_z a b) k h ∙ ap (λ (t : Bool). t && le_z z high) (sym (sym (ap₂ (λ (a b : ℤ). le_z a b) l k) ∙ e))
-
-  pub between_no : le_z low' z' ≡ false → false ≡ (le_z low z && le_z z high)
-  between_no e = ap (λ (t : Bool). t && le_z z high) (sym (sym (ap₂ (λ (a b : ℤ). le_z a b) l k) ∙ e))
-
   pub between_as : (le_z low' z' && le_z z' high') ≡ (le_z low z && le_z z high)
   between_as = ap₂ (λ (a b : Bool). a && b) (ap₂ (λ (a b : ℤ). le_z a b) l k) (ap₂ (λ (a b : ℤ). le_z a b) k h)

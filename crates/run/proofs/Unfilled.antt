@@ -1,6 +1,6 @@
 -- The store that a run starts with: how many variables it has and what each is, that its cells are zeros, and its state words, one
 -- variable after another. Assumes nothing.
-use mathlib.Core.Path.{◌≡◌, refl, sym, ap, subst, ◌∙◌}
+use mathlib.Core.Path.{◌≡◌, refl, sym, ap, ◌∙◌}
 use mathlib.Core.List.{List, [], ◌∷◌, ◌++◌, map}
 use Prim.Native.Nat.{ℕ, suc, ◌+◌, ◌-◌, ◌*◌, ◌/◌, ◌≤◌, ◌<◌}
 use native.Mathlib.Numerals.{add-one}
@@ -96,6 +96,3 @@ yokes_more rows t states d y accepted l k e after q = record { is = λ limits a 
         ∙ ap (λ (v : Variable). states_in (take d vs ++ (v ∷ []))) (sym (start_at rows limits a h d there))
         ∙ ap (λ (us : List Variable). states_in us) (sym (take-suc vs d no_variable (omega arith)))
         ∙ ap (λ (j : ℕ). states_in (take j vs)) (sym (add-one d))
-
-pub all_yokes : (rows : List ℕ) (t : Table) (states : List ℕ) (d : ℕ) → d ≡ t.count / 2 → YokesKept rows t states d → YokesKept rows t states (t.count / 2)
-all_yokes rows t states d e k = subst (λ (n : ℕ). YokesKept rows t states n) e k

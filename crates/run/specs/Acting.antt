@@ -1,13 +1,15 @@
 -- What each way of ending an instruction reaches, whatever is asked of the memory: passed over, out, settled, decided. Assumes nothing.
-use Rattle.std.specs.Prelude.{◌≡◌, refl, Bool, true, false, List, [], ℕ, zero, suc, ℤ}
+use Rattle.std.specs.Prelude.{◌≡◌, refl, Bool, true, false, List, [], ℕ, zero, suc, ℤ, Result, Ok, Err}
 use Rattle.std.proofs.Common.{sym, ap, ◌∙◌, subst, arith}
 use Rattle.std.proofs.Math.Seq.{take-length}
-use Rattle.lingua.specs.Outcome.{ok, fail, Result}
+use Rattle.lingua.specs.declared.errors.Error.{Error}
+use Rattle.lingua.specs.Outcome.{ok, fail, Result as Outcome}
+use Rattle.lingua.specs.Faults.{error_number, told}
+use Rattle.laws.specs.Faults.{error_number_counted}
 use Rattle.lingua.specs.Store.{Variable, call_cells, call_states, call_bodies}
 use Rattle.lingua.specs.Expression.{skip}
 use Rattle.lingua.specs.Run.{State, Progress, going, out, settled, act, decided, exec}
 use Rattle.run.specs.declared.steps.Status.{Status}
-use Rattle.run.specs.declared.steps.Truth.{Truth}
 use Rattle.run.specs.Statuses.{state_of, progress_of, onward, StepOf, recorded}
 use Rattle.run.specs.Reached.{Lent, lent, Holding, Going, onto, overlaid, Reached, Passes, Settles, Tells}
 use Rattle.run.specs.Steps.{act_passed, act_steps}
@@ -87,26 +89,29 @@ kept M l after vs w e = subst (λ (k : Lent). M k vs) (sym e) w
 
 module _ {M : Holding} {free l after : Lent} (vs : List Variable) (w : M l vs) where
   -- a new store, or an error with its place
-  pub settles : (r s : Status) {o : Result (List Variable)} (error place : ℕ) → Settles error M l after o → s ≡ recorded r error place → r.out ≡ false → (r.error ≡ 0 → r.place ≡ 0)
+  pub settles : (r s : Status) {o : Outcome (List Variable)} (error place : ℕ) → Settles error M l after o → s ≡ recorded r error place → r.out ≡ false → (r.error ≡ 0 → r.place ≡ 0)
       → Reached M free after free s (going (settled (state_of r vs) place o))
   settles r s {o} error place a e q k = subst (λ (x : Status). Reached M free after free x (going (settled (state_of r vs) place o))) (sym e) (by error a)
     where
       by : (n : ℕ) → Settles n M l after o → Reached M free after free (recorded r n place) (going (settled (state_of r vs) place o))
       by zero a =
           let b = a.answer refl in
-          stays b.store b.running k (ap (λ (p : Result (List Variable)). going (settled (state_of r vs) place p)) b.is ∙ still_going r (state_of r b.store) [] q)
+          stays b.store b.running k (ap (λ (p : Outcome (List Variable)). going (settled (state_of r vs) place p)) b.is ∙ still_going r (state_of r b.store) [] q)
       by (suc n) a =
           let b = a.error (λ z. let f : ⊥ = omega (arith, z) in f) in
           stays vs (kept M l after vs w b.same) (λ z. absurd (let f : ⊥ = omega (arith, z) in f))
-          (ap (λ (p : Result (List Variable)). going (settled (state_of r vs) place p)) b.is ∙ still_going (recorded r (suc n) place) (state_of (recorded r (suc n) place) vs) [] q)
+          (ap (λ (p : Outcome (List Variable)). going (settled (state_of r vs) place p)) b.is ∙ still_going (recorded r (suc n) place) (state_of (recorded r (suc n) place) vs) [] q)
 
 -- ---- a test
-module _ {told : Truth} {o : Result Bool} (h : Tells told o) (p : ℕ) (s : State) (f g : State → Progress) where
-  pub decided_yes : told.error ≡ 0 → told.holds ≡ true → decided o p s f g ≡ f s
-  decided_yes e b = ap (λ (x : Result Bool). decided x p s f g) (h.answer e ∙ ap ok b)
+tells_that : {x : Result Bool Error} {o : Outcome Bool} (b : Bool) → Tells x o → x ≡ Ok b → o ≡ ok b
+tells_that b h e = sym h ∙ ap told e
 
-  pub decided_no : told.error ≡ 0 → told.holds ≡ false → decided o p s f g ≡ g s
-  decided_no e b = ap (λ (x : Result Bool). decided x p s f g) (h.answer e ∙ ap ok b)
+module _ {x : Result Bool Error} {o : Outcome Bool} (h : Tells x o) (p : ℕ) (s : State) (f g : State → Progress) where
+  pub decided_yes : x ≡ Ok true → decided o p s f g ≡ f s
+  decided_yes e = ap (λ (r : Outcome Bool). decided r p s f g) (tells_that true h e)
+
+  pub decided_no : x ≡ Ok false → decided o p s f g ≡ g s
+  decided_no e = ap (λ (r : Outcome Bool). decided r p s f g) (tells_that false h e)
 
 recorded_error : (r s : Status) (vs : List Variable) (error place : ℕ) → s ≡ recorded r error place → (error ≡ 0 → ⊥) → r.out ≡ false → going (settled (state_of r vs) place (fail error)) ≡ progress_of s.out (state_of s vs) []
 recorded_error r s vs zero place e z q = absurd (z refl)
@@ -117,8 +122,10 @@ recorded_clean r s zero place e z k = absurd (z refl)
 recorded_clean r s (suc n) place e z k = absurd (let f : suc n ≡ 0 = sym (ap (λ (x : Status). x.error) e) ∙ k in let b : ⊥ = omega (arith, f) in b)
 
 module _ {M : Holding} {free l : Lent} (vs : List Variable) (w : M l vs) where
-  pub test_failed : {told : Truth} {o : Result Bool} (r s : Status) (place : ℕ) (f g : State → Progress) → Tells told o → (told.error ≡ 0 → ⊥) → s ≡ recorded r told.error place → r.out ≡ false
-      → Reached M free l free s (decided o place (state_of r vs) f g)
-  test_failed {told} {o} r s place f g h z e q =
-      stays vs w (recorded_clean r s told.error place e z)
-      (ap (λ (x : Result Bool). decided x place (state_of r vs) f g) (h.error z) ∙ recorded_error r s vs told.error place e z q)
+  pub test_failed : {x : Result Bool Error} {o : Outcome Bool} (r s : Status) (error : Error) (place : ℕ) (f g : State → Progress) → Tells x o → x ≡ Err error
+      → s ≡ recorded r (error_number error) place → r.out ≡ false → Reached M free l free s (decided o place (state_of r vs) f g)
+  test_failed {x} {o} r s error place f g h k e q =
+      let z : error_number error ≡ 0 → ⊥ = λ i. (let n : ⊥ = omega (arith, error_number_counted error, i) in n) in
+      let failed : o ≡ fail (error_number error) = sym h ∙ ap told k in
+      stays vs w (recorded_clean r s (error_number error) place e z)
+      (ap (λ (p : Outcome Bool). decided p place (state_of r vs) f g) failed ∙ recorded_error r s vs (error_number error) place e z q)

@@ -1,14 +1,15 @@
 -- Each kind of instruction, by the ways in which code ends it, whatever is asked of the memory. Assumes nothing.
-use Rattle.std.specs.Prelude.{◌≡◌, Bool, true, false, List, [], ℕ, suc, ◌<◌, ◌≤◌, eqb}
+use Rattle.std.specs.Prelude.{◌≡◌, Bool, true, false, List, [], ℕ, suc, ◌<◌, ◌≤◌, eqb, Result, Ok, Err}
 use Rattle.std.proofs.Math.Path.{refl, ap}
 use Rattle.std.proofs.Common.{sym, ◌∙◌, subst, arith, eq-eqb, ne_eqb}
+use Rattle.lingua.specs.declared.errors.Error.{Error}
 use Rattle.lingua.specs.Outcome.{◌>>=◌}
+use Rattle.lingua.specs.Faults.{error_number}
 use Rattle.lingua.specs.Store.{Variable, contents, assigned, yoke_changed}
 use Rattle.lingua.specs.Expression.{Expression, Yoke, Instruction, assign, set_yoke, sequence, branch, loop, handle}
 use Rattle.lingua.specs.Evaluation.{eval, eval_test, no_current}
 use Rattle.lingua.specs.Run.{State, Progress, going, settled, proceed, act, decided, handled, repeat, Calling, exec, last_state}
 use Rattle.run.specs.declared.steps.Status.{Status}
-use Rattle.run.specs.declared.steps.Truth.{Truth}
 use Rattle.run.specs.Statuses.{state_of, progress_of, onward, StepOf, recorded}
 use Rattle.run.specs.Reached.{Lent, Holding, Going, overlaid, Reached, Settles, Tells}
 use Rattle.run.specs.Steps.{repeat_enough}
@@ -82,19 +83,19 @@ module _ (calls : Calling) {M : Holding} {o l : Lent} (vs : List Variable) (w : 
     unfolding exec
     branch_out q = stays vs w (clean_after g h) (act_out h z vs (branches calls row e i j) q)
 
-    module _ (q : r.out ≡ false) {told : Truth} (tells : Tells told (eval_test e (contents vs))) where
-      pub branch_failed : (s : Status) → (told.error ≡ 0 → ⊥) → s ≡ recorded r told.error row → Reached M o l o s (exec calls (branch row e i j) (state_of m vs))
+    module _ (q : r.out ≡ false) {told : Result Bool Error} (tells : Tells told (eval_test e (contents vs))) where
+      pub branch_failed : (s : Status) (error : Error) → told ≡ Err error → s ≡ recorded r (error_number error) row → Reached M o l o s (exec calls (branch row e i j) (state_of m vs))
       unfolding exec
-      branch_failed s f k = reaches_as (act_on h z vs (branches calls row e i j) q) (test_failed vs w r s row (λ u. exec calls i u) (λ u. exec calls j u) tells f k q)
+      branch_failed s error f k = reaches_as (act_on h z vs (branches calls row e i j) q) (test_failed vs w r s error row (λ u. exec calls i u) (λ u. exec calls j u) tells f k q)
 
-module _ (calls : Calling) {m r : Status} (h : StepOf m r) (z : m.error ≡ 0) (vs : List Variable) (row : ℕ) (e : Expression) (i j : Instruction) (q : r.out ≡ false) {told : Truth} (tells : Tells told (eval_test e (contents vs))) where
-  pub branch_yes : told.error ≡ 0 → told.holds ≡ true → exec calls (branch row e i j) (state_of m vs) ≡ exec calls i (state_of r vs)
+module _ (calls : Calling) {m r : Status} (h : StepOf m r) (z : m.error ≡ 0) (vs : List Variable) (row : ℕ) (e : Expression) (i j : Instruction) (q : r.out ≡ false) {told : Result Bool Error} (tells : Tells told (eval_test e (contents vs))) where
+  pub branch_yes : told ≡ Ok true → exec calls (branch row e i j) (state_of m vs) ≡ exec calls i (state_of r vs)
   unfolding exec
-  branch_yes f b = act_on h z vs (branches calls row e i j) q ∙ decided_yes tells row (state_of r vs) (λ u. exec calls i u) (λ u. exec calls j u) f b
+  branch_yes f = act_on h z vs (branches calls row e i j) q ∙ decided_yes tells row (state_of r vs) (λ u. exec calls i u) (λ u. exec calls j u) f
 
-  pub branch_no : told.error ≡ 0 → told.holds ≡ false → exec calls (branch row e i j) (state_of m vs) ≡ exec calls j (state_of r vs)
+  pub branch_no : told ≡ Ok false → exec calls (branch row e i j) (state_of m vs) ≡ exec calls j (state_of r vs)
   unfolding exec
-  branch_no f b = act_on h z vs (branches calls row e i j) q ∙ decided_no tells row (state_of r vs) (λ u. exec calls i u) (λ u. exec calls j u) f b
+  branch_no f = act_on h z vs (branches calls row e i j) q ∙ decided_no tells row (state_of r vs) (λ u. exec calls i u) (λ u. exec calls j u) f
 
 -- ---- handler
 abbrev handles : Calling → ℕ → Instruction → State → Progress
@@ -156,52 +157,53 @@ module _ (calls : Calling) {M : Holding} {o l : Lent} (row : ℕ) (e : Expressio
       pub turn_out : r.out ≡ true → Reached M o l now r q
       turn_out b = standing (stays h.store h.running (clean_after h.going d) (turn_is ∙ act_out d z h.store (turn calls row e i m.left) b))
 
-      module _ (b : r.out ≡ false) {told : Truth} (tells : Tells told (eval_test e (contents h.store))) where
+      module _ (b : r.out ≡ false) where
         turn_on : q ≡ turn calls row e i m.left (state_of r h.store)
         turn_on = turn_is ∙ act_on d z h.store (turn calls row e i m.left) b
 
-        pub turn_failed : (s : Status) → (told.error ≡ 0 → ⊥) → s ≡ recorded r told.error row → Reached M o l now s q
-        turn_failed s f k = standing (reaches_as turn_on (test_failed h.store h.running r s row _ (λ u. going u) tells f k b))
+        module _ {told : Result Bool Error} (tells : Tells told (eval_test e (contents h.store))) where
+          pub turn_failed : (s : Status) (error : Error) → told ≡ Err error → s ≡ recorded r (error_number error) row → Reached M o l now s q
+          turn_failed s error f k = standing (reaches_as turn_on (test_failed h.store h.running r s error row _ (λ u. going u) tells f k b))
 
-        pub turn_last : told.error ≡ 0 → told.holds ≡ false → Reached M o l now r q
-        turn_last f k =
-            standing (stays h.store h.running (clean_after h.going d)
-            (turn_on ∙ decided_no tells row (state_of r h.store) _ (λ u. going u) f k ∙ still_going r (state_of r h.store) [] b))
+          pub turn_last : told ≡ Ok false → Reached M o l now r q
+          turn_last f =
+              standing (stays h.store h.running (clean_after h.going d)
+              (turn_on ∙ decided_no tells row (state_of r h.store) _ (λ u. going u) f ∙ still_going r (state_of r h.store) [] b))
 
-        module _ (f : told.error ≡ 0) (k : told.holds ≡ true) {own after : Lent} {s : Status} (x : Reached M now own after s (exec calls i (state_of r h.store))) where
-          turn_body : q ≡ proceed (progress_of s.out (state_of s x.store) x.opens) (λ w. repeat m.left (λ t. eval_test e (contents t.store)) row (λ t. exec calls i t) w)
-          turn_body =
-              turn_on
-              ∙ decided_yes tells row (state_of r h.store) _ (λ u. going u) f k
-              ∙ ap (λ (p : Progress). proceed p (λ w. repeat m.left (λ t. eval_test e (contents t.store)) row (λ t. exec calls i t) w)) x.is
+          module _ (f : told ≡ Ok true) {own after : Lent} {s : Status} (x : Reached M now own after s (exec calls i (state_of r h.store))) where
+            turn_body : q ≡ proceed (progress_of s.out (state_of s x.store) x.opens) (λ w. repeat m.left (λ t. eval_test e (contents t.store)) row (λ t. exec calls i t) w)
+            turn_body =
+                turn_on
+                ∙ decided_yes tells row (state_of r h.store) _ (λ u. going u) f
+                ∙ ap (λ (p : Progress). proceed p (λ w. repeat m.left (λ t. eval_test e (contents t.store)) row (λ t. exec calls i t) w)) x.is
 
-          pub body_out : s.out ≡ true → Reached M o own after s q
-          body_out c =
-              record { store = x.store; opens = x.opens; is = turn_body ∙ ap (λ (c : Bool). proceed (progress_of c (state_of s x.store) x.opens) (λ w. repeat m.left (λ t. eval_test e (contents t.store)) row (λ t. exec calls i t) w)) c ∙ now_out s (state_of s x.store) x.opens c; running = x.running; clean = x.clean; area = x.area ∙ ap (overlaid x.opens) h.same; closed = x.closed }
+            pub body_out : s.out ≡ true → Reached M o own after s q
+            body_out c =
+                record { store = x.store; opens = x.opens; is = turn_body ∙ ap (λ (c : Bool). proceed (progress_of c (state_of s x.store) x.opens) (λ w. repeat m.left (λ t. eval_test e (contents t.store)) row (λ t. exec calls i t) w)) c ∙ now_out s (state_of s x.store) x.opens c; running = x.running; clean = x.clean; area = x.area ∙ ap (overlaid x.opens) h.same; closed = x.closed }
 
-          -- no instruction gives a step back
-          module _ (shorter : (y : State) → (last_state (exec calls i y)).left ≤ y.left) where
-            pub fewer_left : s.left < m.left
-            fewer_left =
-                let l : (last_state (exec calls i (state_of r h.store))).left ≤ r.left = shorter (state_of r h.store) in
-                let p : (last_state (progress_of s.out (state_of s x.store) x.opens)).left ≤ r.left = lesser l in
-                omega (arith, p, d.fewer b, same_left s.out (state_of s x.store) x.opens)
-              where
-                lesser : (last_state (exec calls i (state_of r h.store))).left ≤ r.left → (last_state (progress_of s.out (state_of s x.store) x.opens)).left ≤ r.left
-                lesser l = let c : (last_state (exec calls i (state_of r h.store))).left ≡ (last_state (progress_of s.out (state_of s x.store) x.opens)).left = ap (λ (p : Progress). (last_state p).left) x.is in omega (arith, l, c)
+            -- no instruction gives a step back
+            module _ (shorter : (y : State) → (last_state (exec calls i y)).left ≤ y.left) where
+              pub fewer_left : s.left < m.left
+              fewer_left =
+                  let l : (last_state (exec calls i (state_of r h.store))).left ≤ r.left = shorter (state_of r h.store) in
+                  let p : (last_state (progress_of s.out (state_of s x.store) x.opens)).left ≤ r.left = lesser l in
+                  omega (arith, p, d.fewer b, same_left s.out (state_of s x.store) x.opens)
+                where
+                  lesser : (last_state (exec calls i (state_of r h.store))).left ≤ r.left → (last_state (progress_of s.out (state_of s x.store) x.opens)).left ≤ r.left
+                  lesser l = let c : (last_state (exec calls i (state_of r h.store))).left ≡ (last_state (progress_of s.out (state_of s x.store) x.opens)).left = ap (λ (p : Progress). (last_state p).left) x.is in omega (arith, l, c)
 
-                same_left : (c : Bool) (y : State) (os : List (List Variable)) → (last_state (progress_of c y os)).left ≡ y.left
-                same_left true y os = refl
-                same_left false y os = refl
+                  same_left : (c : Bool) (y : State) (os : List (List Variable)) → (last_state (progress_of c y os)).left ≡ y.left
+                  same_left true y os = refl
+                  same_left false y os = refl
 
-            pub next_turn : s.out ≡ false → Turning calls M o own after row e i s q
-            next_turn c = record {
-              store = x.store;
-              is =
-                  turn_body
-                  ∙ ap (λ (c : Bool). proceed (progress_of c (state_of s x.store) x.opens) (λ w. repeat m.left (λ t. eval_test e (contents t.store)) row (λ t. exec calls i t) w)) c
-                  ∙ repeat_enough (λ t. eval_test e (contents t.store)) row (λ t. exec calls i t) shorter m.left (suc s.left) (state_of s x.store) fewer_left (let c : s.left < suc s.left = omega arith in c);
-              running = x.running;
-              going = record { not_out = c; clean = x.clean };
-              same = area_stays x c ∙ h.same;
-            }
+              pub next_turn : s.out ≡ false → Turning calls M o own after row e i s q
+              next_turn c = record {
+                store = x.store;
+                is =
+                    turn_body
+                    ∙ ap (λ (c : Bool). proceed (progress_of c (state_of s x.store) x.opens) (λ w. repeat m.left (λ t. eval_test e (contents t.store)) row (λ t. exec calls i t) w)) c
+                    ∙ repeat_enough (λ t. eval_test e (contents t.store)) row (λ t. exec calls i t) shorter m.left (suc s.left) (state_of s x.store) fewer_left (let c : s.left < suc s.left = omega arith in c);
+                running = x.running;
+                going = record { not_out = c; clean = x.clean };
+                same = area_stays x c ∙ h.same;
+              }

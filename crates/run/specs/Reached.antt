@@ -1,14 +1,15 @@
 -- Where a run stands in the lent memory, whatever is asked of that memory: `M l vs` says that what is lent, l, holds the store vs. Both runs
 -- have an M of their own. Beside the memory of the variables that an instruction sees lies an area for the calls that may still be opened.
 -- Assumes nothing: these are definitions.
-use Rattle.std.specs.Prelude.{◌≡◌, Bool, false, List, [], ◌++◌, ℕ, ℤ, length, take, drop}
+use Rattle.std.specs.Prelude.{◌≡◌, Bool, false, List, [], ◌++◌, ℕ, ℤ, length, take, drop, Result}
 use Rattle.lingua.specs.Errors.{no_error}
-use Rattle.lingua.specs.Outcome.{ok, fail, Result}
+use Rattle.lingua.specs.declared.errors.Error.{Error}
+use Rattle.lingua.specs.Outcome.{ok, fail, Result as Outcome}
+use Rattle.lingua.specs.Faults.{told}
 use Rattle.lingua.specs.Store.{Variable, call_cells, call_states, call_bodies}
 use Rattle.lingua.specs.Expression.{Instruction}
 use Rattle.lingua.specs.Run.{Progress, Calling, exec}
 use Rattle.run.specs.declared.steps.Status.{Status}
-use Rattle.run.specs.declared.steps.Truth.{Truth}
 use Rattle.run.specs.Statuses.{state_of, progress_of}
 
 -- everything that a caller lends a run for its registers, as one bundle: the cells, the state words (document 01: marks), and the present
@@ -57,21 +58,20 @@ pub record Passes (m r : Status) (i : Instruction) : Type 0 where
 
 -- ---- a store
 -- the new store is the one in memory
-pub record StoredAs (M : Holding) (l : Lent) (p : Result (List Variable)) : Type 0 where
+pub record StoredAs (M : Holding) (l : Lent) (p : Outcome (List Variable)) : Type 0 where
   pub store : List Variable
   pub is : p ≡ ok store
   pub running : M l store
 
 -- the error, and the memory as it was
-pub record Kept (r : ℕ) (l after : Lent) (p : Result (List Variable)) : Type 0 where
+pub record Kept (r : ℕ) (l after : Lent) (p : Outcome (List Variable)) : Type 0 where
   pub is : p ≡ fail r
   pub same : after ≡ l
 
-pub record Settles (r : ℕ) (M : Holding) (l after : Lent) (p : Result (List Variable)) : Type 0 where
+pub record Settles (r : ℕ) (M : Holding) (l after : Lent) (p : Outcome (List Variable)) : Type 0 where
   pub answer : r ≡ no_error → StoredAs M after p
   pub error : (r ≡ no_error → ⊥) → Kept r l after p
 
 -- ---- a test: its value, or its error
-pub record Tells (r : Truth) (o : Result Bool) : Type 0 where
-  pub answer : r.error ≡ no_error → o ≡ ok r.holds
-  pub error : (r.error ≡ no_error → ⊥) → o ≡ fail r.error
+abbrev pub Tells : Result Bool Error → Outcome Bool → Type 0
+Tells r o = told r ≡ o

@@ -2,7 +2,7 @@
 ghost use Rattle.std.specs.Prelude.{◌≡◌, ◌+◌, ◌≤◌, length, drop};
 ghost use Rattle.std.proofs.Math.Seq.{paste};
 
-// The n cells from a place on, to the stack's front. Most values are simple: one cell takes no loop.
+// The n cells from a place on, to the stack's front. Most values are simple: one cell is moved by itself.
 pub fn copy(from: &[i64], at: usize, n: usize, stack: &mut [i64])
     requires n_in_bounds { at + n ≤ length from.now }
     requires n_in_bounds_2 { n ≤ length stack.old }
@@ -12,9 +12,5 @@ pub fn copy(from: &[i64], at: usize, n: usize, stack: &mut [i64])
         stack[0] = from[at];
         return;
     }
-    let mut i = 0;
-    while i < n {
-        stack[i] = from[at + i];
-        i += 1;
-    }
+    stack[..n].copy_from_slice(&from[at..at + n]);
 }

@@ -11,10 +11,7 @@ use lingua::sizes::LIMIT_CELLS;
 pub fn between(low: i64, high: i64, z: i64) -> bool
     ensures { result ≡ (le_z low z && le_z z high) }
 {
-    if low <= z {
-        return z <= high;
-    }
-    false
+    low <= z && z <= high
 }
 
 // Whether a number lies within variable n's limit, where it has one.

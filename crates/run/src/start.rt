@@ -13,30 +13,6 @@ use lingua::sizes::{LIMIT_CELLS, MOST_LIMITS};
 use profile::declarations::declared_yoke;
 use profile::limits::{limit_high, limit_low};
 
-// What an earlier run left does not stay.
-pub fn clear_cells(cells: &mut [i64])
-    ensures { cells.new ≡ replicate (length cells.old) (pos 0) }
-{
-    let n = cells.len();
-    let mut i = 0;
-    while i < n {
-        cells[i] = 0;
-        i += 1;
-    }
-}
-
-// No filled flag is left of an earlier run.
-pub fn clear_states(states: &mut [u16])
-    ensures { states.new ≡ replicate (length states.old) 0 }
-{
-    let n = states.len();
-    let mut i = 0;
-    while i < n {
-        states[i] = 0;
-        i += 1;
-    }
-}
-
 // The second word of each variable, the profile's or a procedure's.
 pub fn keep_yokes(rows: &[u8], t: Table, states: &mut [u16])
     requires accepted_rows { AcceptedRows rows.now }
@@ -45,11 +21,9 @@ pub fn keep_yokes(rows: &[u8], t: Table, states: &mut [u16])
     ensures { YokesKept rows.now t states.new (t.count / 2) }
 {
     let count = t.count / 2;
-    let mut d = 0;
-    while d < count {
+    for d in 0..count {
         let yoke = declared_yoke(rows, t, d);
         set_yoke(states, d, yoke as u16);
-        d += 1;
     }
 }
 
@@ -73,10 +47,8 @@ fn keep_limits(limits: &[u8], u: Table, owners: [u8; MOST_LIMITS], kept: &mut [i
     requires kept_len { length kept.old ≡ limit_cells_length }
     ensures { (rows : List ℕ) → Limited rows limits.now u owners → LimitsFrom rows limits.now kept.new 0 }
 {
-    clear_cells(kept);
-    let mut l = u.count / 2;
-    while 0 < l {
-        l -= 1;
+    kept.fill(0);
+    for l in (0..u.count / 2).rev() {
         keep_limit(limits, u, owners, l, kept);
     }
 }
@@ -95,8 +67,8 @@ pub fn start(
     requires { Asked rows.now t limits.now u owners kept.old cells.old states.old }
     ensures { Begun rows.now limits.now kept.new cells.new states.new }
 {
-    clear_cells(cells);
-    clear_states(states);
+    cells.fill(0);
+    states.fill(0);
     keep_yokes(rows, t, states);
     keep_limits(limits, u, owners, kept);
 }

@@ -1,13 +1,13 @@
-// What a run records beside its store: the error with its place, the steps that are left, and whether it is out of budget;
-// and what it is told by a test.
+// What a run records beside its store: the error with its place, the steps that are left, and whether it is out of budget.
 ghost use Rattle.std.specs.Prelude.{◌≡◌, false, List, ◌≤◌};
 ghost use Rattle.lingua.specs.Store.{Variable};
+ghost use Rattle.lingua.specs.Faults.{number_of};
 ghost use Rattle.lingua.specs.Answers.{answered, run_meaning};
 ghost use Rattle.lingua.specs.Calls.{ending_of};
 ghost use Rattle.run.specs.Statuses.{state_of, progress_of, StepOf, recorded};
 
 use lingua::RunAnswer;
-use lingua::errors::NO_ERROR;
+use lingua::errors::{Error, NO_ERROR};
 
 #[derive(Clone, Copy)]
 pub struct Status {
@@ -15,13 +15,6 @@ pub struct Status {
     pub place: u16,
     pub left: u16,
     pub out: bool,
-}
-
-// What a test gave: an error, or whether it holds.
-#[derive(Clone, Copy)]
-pub struct Truth {
-    pub error: u8,
-    pub holds: bool,
 }
 
 // A run's start, with its whole budget.
@@ -43,32 +36,29 @@ pub fn stepped(m: Status) -> Status
 {
     if m.left == 0 {
         return Status {
-            error: m.error,
-            place: m.place,
             left: 0,
             out: true,
+            ..m
         };
     }
     Status {
-        error: m.error,
-        place: m.place,
         left: m.left - 1,
         out: false,
+        ..m
     }
 }
 
-// An error is recorded with its place; 0 is none, and changes nothing.
-pub fn settled(m: Status, error: u8, place: u16) -> Status
-    ensures { result ≡ recorded m error place }
+// An error is recorded with its place; without one nothing changes.
+pub fn settled(m: Status, answer: Result<(), Error>, place: u16) -> Status
+    ensures { result ≡ recorded m (number_of answer) place }
 {
-    if error == NO_ERROR {
-        return m;
-    }
-    Status {
-        error: error,
-        place: place,
-        left: m.left,
-        out: m.out,
+    match answer {
+        Ok(()) => m,
+        Err(error) => Status {
+            error: error.number(),
+            place,
+            ..m
+        },
     }
 }
 
@@ -79,8 +69,7 @@ pub fn cleared(m: Status) -> Status
     Status {
         error: NO_ERROR,
         place: 0,
-        left: m.left,
-        out: m.out,
+        ..m
     }
 }
 

@@ -12,8 +12,8 @@ use mathlib.Core.List.Memᴰ.{tail as there}
 use mathlib.Core.List.{List, [], ◌∷◌, ◌++◌, Memᴰ as In}
 use Prim.Native.Nat.{ℕ, zero, suc, ◌≤◌, ◌<◌}
 use native.Mathlib.Omega.{arith}
-use lib.ListN.{length, get_or, set, take, replicate, length-set, length-replicate}
-use lib.Seq.{get_or-set_same, get_or-set_other, take-nil}
+use lib.ListN.{length, get_or, set, replicate, length-set, length-replicate}
+use lib.Seq.{get_or-set_same, get_or-set_other}
 use Rattle.lingua.specs.Numbers.{expression_section, instruction_section, most_expressions, most_instructions}
 use Rattle.lingua.specs.Rows.{table_count, procedure_count, body_row}
 use Rattle.lingua.specs.Trees.{instruction_scope, expression_scope}
@@ -152,37 +152,14 @@ module _ (rows : List ℕ) (h : Refers rows) where
           use_scope rows x (get_or t x 0) (o.held x)
           (λ k l m. used_closed rows h (λ y. Near (get_or t y 0) (suc k)) (body_row rows k) (λ y e i j. near_trans (o.roots y e (low k y l i) j) (step_near rows y k l i)) (λ y z a b i. near_trans (o.passed y z (omega arith) a i) b) x (body_below rows h k l) m)
 
--- ---- short lists
-module _ (x y z : ℕ) where
-  pub short_0 : (n : ℕ) → n ≡ 0 → [] ≡ take n (x ∷ y ∷ z ∷ [])
-  short_0 n e = rw e
+-- ---- what stands in a list is in it
+in_at : (xs : List ℕ) (i : ℕ) → i < length xs → In (get_or xs i 0) xs
+in_at [] i l = absurd (let z : ⊥ = omega arith in z)
+in_at (x ∷ xs) zero l = here refl
+in_at (x ∷ xs) (suc i) l = there (in_at xs i (omega arith))
 
-  pub short_1 : (n : ℕ) → n ≡ 1 → x ∷ [] ≡ take n (x ∷ y ∷ z ∷ [])
-  short_1 n e = rw e
-
-  pub short_2 : (n : ℕ) → n ≡ 2 → (x ∷ []) ++ (y ∷ []) ≡ take n (x ∷ y ∷ z ∷ [])
-  short_2 n e = rw e
-
-  pub short_3 : (n : ℕ) → (n ≡ 0 → ⊥) → (n ≡ 1 → ⊥) → (n ≡ 2 → ⊥) → ((x ∷ []) ++ (y ∷ [])) ++ (z ∷ []) ≡ take n (x ∷ y ∷ z ∷ [])
-  short_3 zero a b c = absurd (a refl)
-  short_3 (suc zero) a b c = absurd (b refl)
-  short_3 (suc (suc zero)) a b c = absurd (c refl)
-  short_3 (suc (suc (suc n))) a b c = rw (take-nil n)
-
-  pub first_in : (n : ℕ) → (n ≡ 0 → ⊥) → In x (take n (x ∷ y ∷ z ∷ []))
-  first_in zero a = absurd (a refl)
-  first_in (suc n) a = here refl
-
-  pub second_in : (n : ℕ) → (n ≡ 0 → ⊥) → (n ≡ 1 → ⊥) → In y (take n (x ∷ y ∷ z ∷ []))
-  second_in zero a b = absurd (a refl)
-  second_in (suc zero) a b = absurd (b refl)
-  second_in (suc (suc n)) a b = there (here refl)
-
-  pub third_in : (n : ℕ) → (n ≡ 0 → ⊥) → (n ≡ 1 → ⊥) → (n ≡ 2 → ⊥) → In z (take n (x ∷ y ∷ z ∷ []))
-  third_in zero a b c = absurd (a refl)
-  third_in (suc zero) a b c = absurd (b refl)
-  third_in (suc (suc zero)) a b c = absurd (c refl)
-  third_in (suc (suc (suc n))) a b c = there (there (here refl))
+pub in_same : {xs ys : List ℕ} (i : ℕ) → xs ≡ ys → i < length xs → In (get_or xs i 0) ys
+in_same {xs} {ys} i e l = subst (λ (zs : List ℕ). In (get_or xs i 0) zs) e (in_at xs i l)
 
 -- ---- the ends of the loops
 pub owned_to : {rows t : List ℕ} {n m r q : ℕ} → n ≡ m → r ≡ q → Owned rows n r t → Owned rows m q t

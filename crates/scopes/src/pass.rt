@@ -45,19 +45,10 @@ fn mark_all(scopes: &mut [u8], f: UpToThree, s: u8)
     requires { Within (length scopes.old) (listed f) }
     ensures { Marked (listed f) s scopes.old scopes.new }
 {
-    let count = f.count;
-    if count == 0 {
-        return;
+    let numbers = f.numbers();
+    for x in numbers {
+        mark(scopes, *x, s);
     }
-    mark(scopes, f.x, s);
-    if count == 1 {
-        return;
-    }
-    mark(scopes, f.y, s);
-    if count == 2 {
-        return;
-    }
-    mark(scopes, f.z, s);
 }
 
 // The procedures' bodies.
@@ -66,12 +57,9 @@ fn mark_bodies(scopes: &mut [u8], rows: &[u8], t: Tables)
     requires owned { Owned rows.now 0 (table_count rows.now instruction_section) scopes.old }
     ensures { Owned rows.now (procedure_count rows.now) (table_count rows.now instruction_section) scopes.new }
 {
-    let count = t.procedures.count;
-    let mut k = 0;
-    while k < count {
+    for k in 0..t.procedures.count {
         let procedure = procedure_at(rows, t, k);
         mark(scopes, procedure.body, (k + 1) as u8);
-        k += 1;
     }
 }
 
@@ -82,9 +70,7 @@ fn mark_parts(scopes: &mut [u8], rows: &[u8], t: Tables)
     ensures { Owned rows.now (procedure_count rows.now) 0 scopes.new }
 {
     let instructions = t.instructions;
-    let mut r = instructions.count;
-    while 0 < r {
-        r -= 1;
+    for r in (0..instructions.count).rev() {
         let s = scopes[r];
         mark_all(scopes, parts(instruction_in(rows, instructions, r)), s);
     }
@@ -110,14 +96,11 @@ fn mark_roots(scopes: &mut [u8], rows: &[u8], t: Tables, owners: &[u8; MOST_INST
     ensures { Used rows.now (table_count rows.now instruction_section) (table_count rows.now expression_section) scopes.new }
 {
     let instructions = t.instructions;
-    let count = instructions.count;
-    let mut r = 0;
-    while r < count {
+    for r in 0..instructions.count {
         let row = instruction_in(rows, instructions, r);
         let s = owners[r];
         mark_all(scopes, evaluated(row), s);
         mark_all(scopes, yoke_set(row), s);
-        r += 1;
     }
 }
 
@@ -128,9 +111,7 @@ fn mark_operands(scopes: &mut [u8], rows: &[u8], t: Tables)
     ensures { Used rows.now (table_count rows.now instruction_section) 0 scopes.new }
 {
     let expressions = t.expressions;
-    let mut e = expressions.count;
-    while 0 < e {
-        e -= 1;
+    for e in (0..expressions.count).rev() {
         let s = scopes[e];
         mark_all(scopes, operands(expression_in(rows, expressions, e)), s);
     }

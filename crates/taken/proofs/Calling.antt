@@ -8,6 +8,7 @@ use lib.IntN.{ℤ}
 use lib.ListN.{length, take, drop, length-drop, drop_of_length-le}
 use lib.Seq.{drop_at, length-take-le}
 use Rattle.lingua.specs.Numbers.{layout_length, present_bodies_length, type_section}
+use Rattle.lingua.specs.Errors.{bad_buffer, type_error_found}
 use Rattle.lingua.specs.Rows.{table_count}
 use Rattle.lingua.specs.Outcome.{Outcome, ok, fail}
 use Rattle.lingua.specs.Store.{Reading, present_in}
@@ -16,7 +17,10 @@ use Rattle.lingua.specs.Typing.{TypeError, Entry, check_profile, layout_of}
 use Rattle.lingua.specs.Trees.{profile_of}
 use Rattle.lingua.specs.Format.{rows_of}
 use Rattle.lingua.specs.Inputs.{Inputs, Buffers, buffers}
-use Rattle.lingua.specs.Refusal.{checked_refusal, erased_refusal}
+use Rattle.lingua.specs.Refusal.{run_refusal, checked_refusal, erased_refusal}
+use Rattle.std.specs.Prelude.{Result, Ok, Err}
+use Rattle.lingua.specs.declared.errors.Refusal.{Refusal}
+use Rattle.lingua.specs.Faults.{refusal_number, refusal_of}
 use Rattle.lingua.specs.Answers.{run_meaning}
 use Rattle.lingua.specs.declared.RunAnswer.{RunAnswer}
 use Rattle.lingua.specs.declared.RunAnswer.TheVariants as run_answer
@@ -24,6 +28,7 @@ use Rattle.lingua.specs.Calls.{RunCall, readings_of, ran, run_of, with_bodies, c
 use Rattle.safety.specs.Limited.{accepted_limited}
 use Rattle.safety.specs.TwoRuns.{checked_shares, passed_layout}
 use Rattle.pair.specs.declared.Pair.{Pair}
+use Rattle.pair.proofs.Returns.{some_refusal}
 use Rattle.pair.proofs.Given.{rows_accepted, tables_there, limits_there, bodies_held}
 use Rattle.decoder.specs.Tables.{AreTables}
 use Rattle.rules.specs.Types.{BodiesBelow}
@@ -88,24 +93,25 @@ module _ (i : Inputs) (b : Buffers) (present : List ℕ) (budget : ℕ) where
   unfolding checked_result checked_call checked_unless run_meaning
   checked_refused n m e s = rw (e, s)
 
-  pub present_wrong : (length present ≡ present_bodies_length → ⊥) → checked_result (run_answer.Refused 1) b present ≡ checked_call i budget b present
-  present_wrong h = checked_refused 1 0 (short_present i b present h) refl
+  pub present_wrong : {n : ℕ} → n ≡ bad_buffer → (length present ≡ present_bodies_length → ⊥) → checked_result (run_answer.Refused n) b present ≡ checked_call i budget b present
+  present_wrong {n} e h = checked_refused n 0 (short_present i b present h ∙ sym e) e
 
-  module _ {areas others bodies : List ℕ} {n : ℕ} {p : Pair} (l : length present ≡ present_bodies_length) (h : RunIs n p i b areas others bodies) where
-    shares : n ≡ checked_refusal i b present
+  module _ {areas others bodies : List ℕ} {r : Result Pair Refusal} (l : length present ≡ present_bodies_length) (h : RunIs r i b areas others bodies) where
+    shares : refusal_of r ≡ checked_refusal i b present
     shares = h.refusal ∙ sym (checked_shares i b present l)
 
-    pub run_refused : (n ≡ 0 → ⊥) → checked_result (run_answer.Refused n) b present ≡ checked_call i budget b present
-    run_refused k = checked_refused n _ (sym shares) (sym (suc-pred-eq_of_ne-zero k))
+    pub run_refused : {e : Refusal} {n : ℕ} → n ≡ refusal_number e → r ≡ Err e → checked_result (run_answer.Refused n) b present ≡ checked_call i budget b present
+    run_refused {e} {n} k q =
+        checked_refused n _ (sym shares ∙ ap (λ (x : Result Pair Refusal). refusal_of x) q ∙ sym k) (k ∙ sym (suc-pred-eq_of_ne-zero (some_refusal e)))
 
-    pub run_done : (z : n ≡ 0) (r : RunAnswer) (after : Buffers) (bytes : List ℕ)
-        → checked_result r after bytes ≡ checked_end budget (run (profile_of (take p.rows areas) (take p.limits others)) (readings_of i.variables i.numbers) budget)
-        → checked_result r after bytes ≡ checked_call i budget b present
+    pub run_done : {p : Pair} (q : r ≡ Ok p) (a : RunAnswer) (after : Buffers) (bytes : List ℕ)
+        → checked_result a after bytes ≡ checked_end budget (run (profile_of (take p.rows areas) (take p.limits others)) (readings_of i.variables i.numbers) budget)
+        → checked_result a after bytes ≡ checked_call i budget b present
     unfolding checked_call checked_unless checked_end run_of
-    run_done z r after bytes e =
+    run_done {p} q a after bytes e =
         e
-        ∙ ap₂ (λ (rows limits : List ℕ). checked_end budget (run (profile_of rows limits) (readings_of i.variables i.numbers) budget)) (h.taken z).files.rows (h.taken z).files.limits
-        ∙ ap (λ (k : ℕ). checked_unless k i budget b present) (sym z ∙ shares)
+        ∙ ap₂ (λ (rows limits : List ℕ). checked_end budget (run (profile_of rows limits) (readings_of i.variables i.numbers) budget)) (h.taken p q).files.rows (h.taken p q).files.limits
+        ∙ ap (λ (k : ℕ). checked_unless k i budget b present) (sym (ap (λ (x : Result Pair Refusal). refusal_of x) q) ∙ shares)
 
 -- ---- the type check's verdict on rows
 module _ (rows limits : List ℕ) (v : Verdict) (table : List ℕ) (c : (lims : List ℕ) → Concludes v table (check_profile (profile_of rows lims))) where
@@ -114,9 +120,11 @@ module _ (rows limits : List ℕ) (v : Verdict) (table : List ℕ) (c : (lims : 
   verdict_fails budget b layout (ok es) q h f = absurd (f h.passed)
   verdict_fails budget b layout (fail e) q h f = refl
 
-  pub faulted : (who : List ℕ) (numbers : List ℤ) (budget : ℕ) (b : Buffers) (layout : List ℕ) → (v.error ≡ 0 → ⊥) → erased_result (run_answer.Refused 17) b layout ≡ erased_rows rows limits who numbers budget b layout
+  pub faulted : (who : List ℕ) (numbers : List ℤ) (budget : ℕ) (b : Buffers) (layout : List ℕ) {n : ℕ} → n ≡ type_error_found → (v.error ≡ 0 → ⊥) → erased_result (run_answer.Refused n) b layout ≡ erased_rows rows limits who numbers budget b layout
   unfolding erased_rows
-  faulted who numbers budget b layout f = verdict_fails budget b layout (check_profile (profile_of rows limits)) (run (profile_of rows limits) (readings_of who numbers) budget) (c limits) f
+  faulted who numbers budget b layout e f =
+      ap (λ (k : ℕ). erased_result (run_answer.Refused k) b layout) e
+      ∙ verdict_fails budget b layout (check_profile (profile_of rows limits)) (run (profile_of rows limits) (readings_of who numbers) budget) (c limits) f
 
   record Found (o : Outcome TypeError (List Entry)) : Type 0 where
     pub entries : List Entry
@@ -146,29 +154,33 @@ module _ (i : Inputs) (b : Buffers) (layout : List ℕ) (budget : ℕ) where
   unfolding erased_result erased_call erased_unless run_meaning
   erased_refused n m e s = rw (e, s)
 
-  pub layout_wrong : (length layout ≡ layout_length → ⊥) → erased_result (run_answer.Refused 1) b layout ≡ erased_call i budget b layout
-  layout_wrong h = erased_refused 1 0 (short_layout i b layout h) refl
+  pub layout_wrong : {n : ℕ} → n ≡ bad_buffer → (length layout ≡ layout_length → ⊥) → erased_result (run_answer.Refused n) b layout ≡ erased_call i budget b layout
+  layout_wrong {n} e h = erased_refused n 0 (short_layout i b layout h ∙ sym e) e
 
-  module _ {areas others bodies : List ℕ} {n : ℕ} {p : Pair} (l : length layout ≡ layout_length) (h : RunIs n p i b areas others bodies) where
-    pub erased_run_refused : (n ≡ 0 → ⊥) → erased_result (run_answer.Refused n) b layout ≡ erased_call i budget b layout
-    erased_run_refused k =
-        erased_refused n _ (run_refuses i b layout l (λ z. k (h.refusal ∙ z)) ∙ sym h.refusal) (sym (suc-pred-eq_of_ne-zero k))
+  module _ {areas others bodies : List ℕ} {r : Result Pair Refusal} (l : length layout ≡ layout_length) (h : RunIs r i b areas others bodies) where
+    pub erased_run_refused : {e : Refusal} {n : ℕ} → n ≡ refusal_number e → r ≡ Err e → erased_result (run_answer.Refused n) b layout ≡ erased_call i budget b layout
+    erased_run_refused {e} {n} k q =
+        let g : run_refusal i b ≡ refusal_number e = sym h.refusal ∙ ap (λ (x : Result Pair Refusal). refusal_of x) q in
+        erased_refused n _ (run_refuses i b layout l (λ z. some_refusal e (sym g ∙ z)) ∙ g ∙ sym k) (k ∙ sym (suc-pred-eq_of_ne-zero (some_refusal e)))
 
-    module _ (z : n ≡ 0) where
+    module _ {p : Pair} (q : r ≡ Ok p) where
+      none_applies : run_refusal i b ≡ 0
+      none_applies = sym h.refusal ∙ ap (λ (x : Result Pair Refusal). refusal_of x) q
+
       rows_are : erased_rows (take p.rows areas) (take p.limits others) i.variables i.numbers budget b layout ≡ erased_rows (rows_of i.profile) (rows_of i.limits) i.variables i.numbers budget b layout
-      rows_are = ap₂ (λ (rows limits : List ℕ). erased_rows rows limits i.variables i.numbers budget b layout) (h.taken z).files.rows (h.taken z).files.limits
+      rows_are = ap₂ (λ (rows limits : List ℕ). erased_rows rows limits i.variables i.numbers budget b layout) (h.taken p q).files.rows (h.taken p q).files.limits
 
       by_verdict : (o : Outcome TypeError (List Entry)) → check_profile (profile_of (rows_of i.profile) (rows_of i.limits)) ≡ o
           → erased_verdict o budget (run_of i budget) b layout ≡ erased_call i budget b layout
       unfolding erased_verdict erased_call erased_unless
       by_verdict (ok es) e =
-          ap (with_layout (ran budget (run_of i budget))) (sym (passed_layout i.profile i.limits layout (record { accepted = (h.taken z).accepted; entries = es; checked = e }) l))
-          ∙ ap (λ (k : ℕ). erased_unless k i budget b layout) (sym (none_refuses i b layout l (sym h.refusal ∙ z) (ok es) e refl))
-      by_verdict (fail e) q =
-          ap (λ (k : ℕ). erased_unless k i budget b layout) (sym (type_error_refuses i b layout l (sym h.refusal ∙ z) (fail e) q refl))
+          ap (with_layout (ran budget (run_of i budget))) (sym (passed_layout i.profile i.limits layout (record { accepted = (h.taken p q).accepted; entries = es; checked = e }) l))
+          ∙ ap (λ (k : ℕ). erased_unless k i budget b layout) (sym (none_refuses i b layout l none_applies (ok es) e refl))
+      by_verdict (fail e) f =
+          ap (λ (k : ℕ). erased_unless k i budget b layout) (sym (type_error_refuses i b layout l none_applies (fail e) f refl))
 
-      pub erased_done : (r : RunAnswer) (after : Buffers) (table : List ℕ)
-          → erased_result r after table ≡ erased_rows (take p.rows areas) (take p.limits others) i.variables i.numbers budget b layout
-          → erased_result r after table ≡ erased_call i budget b layout
-      erased_done r after table e =
+      pub erased_done : (a : RunAnswer) (after : Buffers) (table : List ℕ)
+          → erased_result a after table ≡ erased_rows (take p.rows areas) (take p.limits others) i.variables i.numbers budget b layout
+          → erased_result a after table ≡ erased_call i budget b layout
+      erased_done a after table e =
           e ∙ rows_are ∙ (unfold erased_rows run_of in by_verdict (check_profile (profile_of (rows_of i.profile) (rows_of i.limits))) refl)

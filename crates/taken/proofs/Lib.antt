@@ -2,4 +2,3 @@ pub mod Refusing
 pub mod Taking
 pub mod Beginning
 pub mod Calling
-pub mod Copying

@@ -6,7 +6,7 @@ use Prim.Native.Nat.{ℕ}
 use native.Mathlib.Omega.{arith}
 use lib.ListN.{length}
 use borrow.Author.Tests.{eq-eqb, ne_eqb}
-use Rattle.lingua.specs.Numbers.{cells_length, states_length, open_cells_length, open_states_length, layout_length, present_bodies_length}
+use Rattle.lingua.specs.Numbers.{layout_length, present_bodies_length}
 use Rattle.lingua.specs.Errors.{bad_buffer, bad_reading, type_error_found}
 use Rattle.lingua.specs.Outcome.{Outcome, is_ok}
 use Rattle.lingua.specs.Typing.{TypeError, Entry, check_profile}
@@ -18,36 +18,15 @@ use Rattle.safety.specs.RunRules.{unfit_refused, files_refuse, readings_refuse, 
 use Rattle.safety.specs.RunRules as rules_17
 
 module _ (i : Inputs) (b : Buffers) where
-  unfit : run_fits i b ≡ false → run_refusal i b ≡ bad_buffer
+  pub unfit : run_fits i b ≡ false → run_refusal i b ≡ bad_buffer
   unfolding run_refusal
   unfit e = ap (λ (t : Bool). lowest (run_rules t i)) e ∙ unfit_refused i
 
-  pub short_inputs : (length i.variables ≡ length i.numbers → ⊥) → run_refusal i b ≡ bad_buffer
-  unfolding run_fits
-  short_inputs h = unfit (rw (ne_eqb (length i.variables) (length i.numbers) h))
-
-  pub short_cells : length i.variables ≡ length i.numbers → (length b.cells ≡ cells_length → ⊥) → run_refusal i b ≡ bad_buffer
-  unfolding run_fits
-  short_cells e h = unfit (rw (eq-eqb (length i.variables) (length i.numbers) e, ne_eqb (length b.cells) cells_length h))
-
-  pub short_states : length i.variables ≡ length i.numbers → length b.cells ≡ cells_length → (length b.states ≡ states_length → ⊥) → run_refusal i b ≡ bad_buffer
-  unfolding run_fits
-  short_states e f h = unfit (rw (eq-eqb (length i.variables) (length i.numbers) e, eq-eqb (length b.cells) cells_length f, ne_eqb (length b.states) states_length h))
-
-  pub short_open_cells : length i.variables ≡ length i.numbers → length b.cells ≡ cells_length → length b.states ≡ states_length → (length b.open_cells ≡ open_cells_length → ⊥) → run_refusal i b ≡ bad_buffer
-  unfolding run_fits
-  short_open_cells e f g h = unfit (rw (eq-eqb (length i.variables) (length i.numbers) e, eq-eqb (length b.cells) cells_length f, eq-eqb (length b.states) states_length g, ne_eqb (length b.open_cells) open_cells_length h))
-
-  pub short_open_states : length i.variables ≡ length i.numbers → length b.cells ≡ cells_length → length b.states ≡ states_length → length b.open_cells ≡ open_cells_length → (length b.open_states ≡ open_states_length → ⊥) → run_refusal i b ≡ bad_buffer
-  unfolding run_fits
-  short_open_states e f g f' h = unfit (rw (eq-eqb (length i.variables) (length i.numbers) e, eq-eqb (length b.cells) cells_length f, eq-eqb (length b.states) states_length g, eq-eqb (length b.open_cells) open_cells_length f', ne_eqb (length b.open_states) open_states_length h))
-
   -- ---- with the buffers as they should be
-  module _ (e : length i.variables ≡ length i.numbers) (f : length b.cells ≡ cells_length) (g : length b.states ≡ states_length)
-      (f' : length b.open_cells ≡ open_cells_length) (g' : length b.open_states ≡ open_states_length) where
+  module _ (f : run_fits i b ≡ true) where
     fit : run_refusal i b ≡ lowest (run_rules true i)
-    unfolding run_refusal run_fits
-    fit = rw (eq-eqb (length i.variables) (length i.numbers) e, eq-eqb (length b.cells) cells_length f, eq-eqb (length b.states) states_length g, eq-eqb (length b.open_cells) open_cells_length f', eq-eqb (length b.open_states) open_states_length g')
+    unfolding run_refusal
+    fit = ap (λ (t : Bool). lowest (run_rules t i)) f
 
     pub files_refused : (n : ℕ) → n ≡ lowest (pair_rules i.profile i.limits) → (n ≡ 0 → ⊥) → run_refusal i b ≡ n
     files_refused n q h = fit ∙ files_refuse i (λ z. h (q ∙ z)) ∙ sym q

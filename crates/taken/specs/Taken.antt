@@ -1,7 +1,8 @@
 -- A pair of files that was taken, and what is known of a run of it once its rules are asked. Assumes nothing: these are definitions.
-use Rattle.std.specs.Prelude.{◌≡◌, List, ℕ, length}
+use Rattle.std.specs.Prelude.{◌≡◌, List, ℕ, length, Result, Ok}
 use Rattle.lingua.specs.Numbers.{cells_length, states_length, open_cells_length, open_states_length}
-use Rattle.lingua.specs.Errors.{no_error}
+use Rattle.lingua.specs.declared.errors.Refusal.{Refusal}
+use Rattle.lingua.specs.Faults.{refusal_of}
 use Rattle.lingua.specs.Format.{rows_of}
 use Rattle.lingua.specs.Inputs.{Inputs, Buffers}
 use Rattle.lingua.specs.Refusal.{lowest, pair_rules, run_refusal}
@@ -9,11 +10,11 @@ use Rattle.pair.specs.Pair.{TakenPair, PairIs}
 use Rattle.pair.specs.declared.Pair.{Pair}
 use Rattle.whole_run.specs.Meaning.{Readable}
 
--- a pair that some two files gave
-pub record PairOf (t : Pair) (areas others bodies : List ℕ) : Type 0 where
+-- what some two files gave
+pub record PairOf (r : Result Pair Refusal) (areas others bodies : List ℕ) : Type 0 where
   pub prof : List ℕ
   pub lims : List ℕ
-  pub is : PairIs t prof lims areas others bodies
+  pub is : PairIs r prof lims areas others bodies
 
 -- where no rule applies: buffers of the listed lengths, both files' rows, and readings for number variables
 pub record RunTaken (t : Pair) (i : Inputs) (b : Buffers) (areas others bodies : List ℕ) : Type 0 where
@@ -25,7 +26,7 @@ pub record RunTaken (t : Pair) (i : Inputs) (b : Buffers) (areas others bodies :
   pub files : TakenPair t i.profile i.limits areas others bodies
   pub readable : Readable (rows_of i.profile) i.variables i.numbers
 
--- n is the lowest rule of 1 to 16 that applies
-pub record RunIs (n : ℕ) (t : Pair) (i : Inputs) (b : Buffers) (areas others bodies : List ℕ) : Type 0 where
-  pub refusal : n ≡ run_refusal i b
-  pub taken : n ≡ no_error → RunTaken t i b areas others bodies
+-- the lowest rule of 1 to 16 that applies, or the pair where none does
+pub record RunIs (r : Result Pair Refusal) (i : Inputs) (b : Buffers) (areas others bodies : List ℕ) : Type 0 where
+  pub refusal : refusal_of r ≡ run_refusal i b
+  pub taken : (t : Pair) → r ≡ Ok t → RunTaken t i b areas others bodies

@@ -6,10 +6,5 @@ pub fn copy_front(own: &[u8], present: &mut [u8])
     requires { length own.now ≤ length present.old }
     ensures { present.new ≡ followed own.now (drop (length own.now) present.old) }
 {
-    let n = own.len();
-    let mut i = 0;
-    while i < n {
-        present[i] = own[i];
-        i += 1;
-    }
+    present[..own.len()].copy_from_slice(own);
 }

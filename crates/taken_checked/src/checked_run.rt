@@ -16,7 +16,7 @@ ghost use Rattle.taken.specs.Ways.{Startable, checked_end};
 use decoder::tables::{Table, Tables};
 use frames::way::Way;
 use lingua::RunAnswer;
-use lingua::errors::{BAD_BUFFER, NO_ERROR};
+use lingua::errors::Refusal;
 use lingua::sizes::{
     LIMIT_CELLS_LENGTH, MOST_LIMITS, PRESENT_BODIES_LENGTH, VARIABLE_BODIES_LENGTH,
 };
@@ -137,7 +137,7 @@ fn checked_lent(
 
 // The lent present bodies must be as long as listed, as cells and state words must.
 pub fn checked_taken(
-    pair: Pair,
+    pair: Result<Pair, Refusal>,
     areas: &[u8],
     others: &[u8],
     bodies: &[u8],
@@ -155,9 +155,9 @@ pub fn checked_taken(
         → checked_result result (buffers cells.new states.new open_cells.new open_states.new) present.new ≡ checked_call (inputs prof lims who.now numbers.now) budget (buffers cells.old states.old open_cells.old open_states.old) present.old }
 {
     if present.len() != PRESENT_BODIES_LENGTH {
-        return RunAnswer::Refused(BAD_BUFFER);
+        return RunAnswer::Refused(Refusal::BadBuffer.number());
     }
-    let refusal = run_refusal(
+    let runnable = run_refusal(
         pair,
         areas,
         bodies,
@@ -168,20 +168,16 @@ pub fn checked_taken(
         open_cells,
         open_states,
     );
-    if refusal != NO_ERROR {
-        return RunAnswer::Refused(refusal);
-    }
-    let n = pair.rows;
-    let m = pair.limits;
-    let tables = pair.tables;
-    let named = pair.named;
-    let owners = pair.owners;
+    let taken = match runnable {
+        Ok(taken) => taken,
+        Err(refusal) => return RunAnswer::Refused(refusal.number()),
+    };
     checked_lent(
-        &areas[..n],
-        tables,
-        &others[..m],
-        named,
-        owners,
+        &areas[..taken.rows],
+        taken.tables,
+        &others[..taken.limits],
+        taken.named,
+        taken.owners,
         bodies,
         who,
         numbers,

@@ -17,7 +17,7 @@ ghost use Rattle.taken.specs.Ways.{Startable, QuantitiesLimited, PassedRows, era
 use decoder::tables::{Table, Tables};
 use frames::way::Way;
 use lingua::RunAnswer;
-use lingua::errors::{BAD_BUFFER, NO_ERROR, TYPE_ERROR_FOUND};
+use lingua::errors::{NO_ERROR, Refusal};
 use lingua::sizes::{LAYOUT_LENGTH, LIMIT_CELLS_LENGTH, MOST_LIMITS};
 use pair::Pair;
 use run::start::{clear_cells, clear_states, start};
@@ -86,19 +86,7 @@ fn passed_rows(
     )
 }
 
-// The type check's table becomes the caller's once no rule applies any more.
-fn copy_table(table: &[u16], layout: &mut [u16])
-    requires { (length table.now ≡ layout_length) × (length layout.old ≡ layout_length) }
-    ensures { layout.new ≡ table.now }
-{
-    let mut i = 0;
-    while i < LAYOUT_LENGTH {
-        layout[i] = table[i];
-        i += 1;
-    }
-}
-
-// The type check works on a table of its own: rule 17 leaves the caller's as it was.
+// The type check works on a table of its own, which becomes the caller's once no rule applies any more: rule 17 leaves that as it was.
 fn erased_rows(
     rows: &[u8],
     tables: Tables,
@@ -123,9 +111,9 @@ fn erased_rows(
     let mut table = [0u16; LAYOUT_LENGTH];
     let verdict = check_profile(rows, tables, bodies, &mut table);
     if verdict.error != NO_ERROR {
-        return RunAnswer::Refused(TYPE_ERROR_FOUND);
+        return RunAnswer::Refused(Refusal::TypeErrorFound.number());
     }
-    copy_table(&table, &mut *layout);
+    layout.copy_from_slice(&table);
     passed_rows(
         rows,
         tables,
@@ -145,7 +133,7 @@ fn erased_rows(
 
 // The lent layout table must be as long as listed, as cells and state words must.
 pub fn erased_taken(
-    pair: Pair,
+    pair: Result<Pair, Refusal>,
     areas: &[u8],
     others: &[u8],
     bodies: &[u8],
@@ -162,9 +150,9 @@ pub fn erased_taken(
     ensures { (prof lims : List ℕ) → PairIs pair prof lims areas.now others.now bodies.now → erased_result result (buffers cells.new states.new open_cells.new open_states.new) layout.new ≡ erased_call (inputs prof lims who.now numbers.now) budget (buffers cells.old states.old open_cells.old open_states.old) layout.old }
 {
     if layout.len() != LAYOUT_LENGTH {
-        return RunAnswer::Refused(BAD_BUFFER);
+        return RunAnswer::Refused(Refusal::BadBuffer.number());
     }
-    let refusal = run_refusal(
+    let runnable = run_refusal(
         pair,
         areas,
         bodies,
@@ -175,20 +163,16 @@ pub fn erased_taken(
         open_cells,
         open_states,
     );
-    if refusal != NO_ERROR {
-        return RunAnswer::Refused(refusal);
-    }
-    let n = pair.rows;
-    let m = pair.limits;
-    let tables = pair.tables;
-    let named = pair.named;
-    let owners = pair.owners;
+    let taken = match runnable {
+        Ok(taken) => taken,
+        Err(refusal) => return RunAnswer::Refused(refusal.number()),
+    };
     erased_rows(
-        &areas[..n],
-        tables,
-        &others[..m],
-        named,
-        owners,
+        &areas[..taken.rows],
+        taken.tables,
+        &others[..taken.limits],
+        taken.named,
+        taken.owners,
         bodies,
         who,
         numbers,

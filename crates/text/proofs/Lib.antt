@@ -1,5 +1,4 @@
 pub mod Texts
-mod Spelling
-pub mod Signs
+mod Decimals
 mod Cells
 mod Names

@@ -1,58 +1,26 @@
--- How a name is put byte by byte, up to its first zero. Assumes nothing.
-use mathlib.Core.Path.{◌≡◌, refl, sym, ap, ◌∙◌}
-use mathlib.Core.List.{List, [], ◌∷◌, ◌++◌, append_assoc, append-nil}
-use Prim.Native.Nat.{ℕ, suc, ◌+◌, ◌≤◌, ◌<◌}
-use native.Mathlib.Numerals.{add-one}
-use borrow.Author.Tests.{eq-eqb, ne_eqb}
-use lib.ListN.{length, take, drop, get_or, drop_of_length-le}
-use lib.Seq.{take-suc, drop-cons}
+-- What stands in front of a name's first zero. Assumes nothing.
+use Rattle.std.proofs.Common.{◌≡◌, refl, sym, ap, ◌∙◌, List, [], ◌∷◌, ℕ, suc, ◌+◌, take, length, cond, true, false, Bool, not, eqb, ltb, arith, Option, Some, None}
+use lib.Seq.{take_all}
+use borrow.Author.Tests.{ltb-false}
+use Rattle.std.specs.List.{position_or_len}
+use Rattle.std.specs.Option.{unwrap_or}
 use Rattle.lingua.specs.Rows.{until_zero}
 
-skip : (c : ℕ) (cs : List ℕ) → (c ≡ 0 → ⊥) → until_zero (c ∷ cs) ≡ c ∷ until_zero cs
+is_zero : ℕ → Bool
+is_zero c = eqb c 0
+
+next : (b : Bool) (c : ℕ) (cs : List ℕ) (n : ℕ) → take n cs ≡ until_zero cs → take (cond (not b) (1 + n) 0) (c ∷ cs) ≡ cond b [] (c ∷ until_zero cs)
+next true c cs n h = refl
+next false c cs n h = let e : 1 + n ≡ suc n = omega arith in rw e (ap (λ (l : List ℕ). c ∷ l) h)
+
+before : (name : List ℕ) → take (position_or_len (λ b. eqb b 0) name) name ≡ until_zero name
 unfolding until_zero
-skip c cs h = rw (ne_eqb c 0 h)
+before [] = refl
+before (c ∷ cs) = next (eqb c 0) c cs (position_or_len (λ b. eqb b 0) cs) (before cs)
 
-stop : (c : ℕ) (cs : List ℕ) → c ≡ 0 → until_zero (c ∷ cs) ≡ []
-unfolding until_zero
-stop c cs h = rw (eq-eqb c 0 h)
+chosen : (b : Bool) (name : List ℕ) (n : ℕ) → ltb n (length name) ≡ b → take (unwrap_or (cond b (Some n) None) (length name)) name ≡ take n name
+chosen true name n h = refl
+chosen false name n h = take_all (length name) name (omega arith) ∙ sym (take_all n name (omega (arith, ltb-false n (length name) h)))
 
-nothing : until_zero [] ≡ []
-unfolding until_zero
-nothing = refl
-
--- a byte that is no zero
-pub name_next :
-    (name : List ℕ) (i : ℕ) →
-    i < length name →
-    (get_or name i 0 ≡ 0 → ⊥) →
-    until_zero name ≡ take i name ++ until_zero (drop i name) →
-    until_zero name ≡ take (i + 1) name ++ until_zero (drop (i + 1) name)
-name_next name i h n e =
-    rw (add-one, take-suc name i 0 h)
-    (e
-    ∙ ap (λ (l : List ℕ). take i name ++ l)
-    (ap until_zero (drop-cons name i 0 h) ∙ skip (get_or name i 0) (drop (suc i) name) n)
-    ∙ sym (append_assoc (take i name) (get_or name i 0 ∷ []) (until_zero (drop (suc i) name))))
-
--- the first zero
-pub name_stop :
-    (name : List ℕ) (i : ℕ) →
-    i < length name →
-    get_or name i 0 ≡ 0 →
-    until_zero name ≡ take i name ++ until_zero (drop i name) →
-    take i name ≡ until_zero name
-name_stop name i h z e =
-    sym
-    (e
-    ∙ ap (λ (l : List ℕ). take i name ++ l)
-    (ap until_zero (drop-cons name i 0 h) ∙ stop (get_or name i 0) (drop (suc i) name) z)
-    ∙ append-nil (take i name))
-
--- no zero at all
-pub name_end :
-    (name : List ℕ) (i : ℕ) → length name ≤ i → until_zero name ≡ take i name ++ until_zero (drop i name) → take i name ≡ until_zero name
-name_end name i h e =
-    sym
-    (e
-    ∙ ap (λ (l : List ℕ). take i name ++ l) (ap until_zero (drop_of_length-le name {i = i} h) ∙ nothing)
-    ∙ append-nil (take i name))
+pub name_before : (name : List ℕ) (r : Option ℕ) → r ≡ cond (ltb (position_or_len (λ b. eqb b 0) name) (length name)) (Some (position_or_len (λ b. eqb b 0) name)) None → take (unwrap_or r (length name)) name ≡ until_zero name
+name_before name r e = rw e (chosen _ name _ refl ∙ before name)

@@ -16,10 +16,8 @@ pub fn put_bytes(out: &mut [u8], at: usize, bytes: &[u8]) -> usize
     ensures { Appended out.old at bytes.now out.new result }
 {
     let mut end = at;
-    let mut i = 0;
-    while i < bytes.len() {
-        end = put(out, end, bytes[i]);
-        i += 1;
+    for byte in bytes {
+        end = put(out, end, *byte);
     }
     end
 }

@@ -1,5 +1,6 @@
 // The lines of document 01's report.
 ghost use Rattle.std.specs.Prelude.{◌++◌};
+ghost use Rattle.std.specs.Option.{option_copied};
 ghost use Rattle.lingua.specs.Report.{decimal, end_line, refused_text, cell_texts};
 ghost use Rattle.lingua.specs.Answers.{ending};
 ghost use Rattle.lingua.specs.Rows.{until_zero};
@@ -40,11 +41,9 @@ pub fn put_cell_texts(out: &mut [u8], at: usize, cells: &[i64]) -> usize
     ensures { Appended out.old at (cell_texts cells.now) out.new result }
 {
     let mut end = at;
-    let mut i = 0;
-    while i < cells.len() {
+    for cell in cells {
         end = put(out, end, b' ');
-        end = put_signed(out, end, cells[i]);
-        i += 1;
+        end = put_signed(out, end, *cell);
     }
     end
 }
@@ -53,38 +52,27 @@ pub fn put_cell_texts(out: &mut [u8], at: usize, cells: &[i64]) -> usize
 fn put_name(out: &mut [u8], at: usize, name: &[u8]) -> usize
     ensures { Appended out.old at (until_zero name.now) out.new result }
 {
-    let mut end = at;
-    let mut i = 0;
-    while i < name.len() {
-        if name[i] == 0 {
-            return end;
-        }
-        end = put(out, end, name[i]);
-        i += 1;
-    }
-    end
+    let end = name
+        .iter()
+        .position(|byte| *byte == 0)
+        .unwrap_or(name.len());
+    put_bytes(out, at, &name[..end])
 }
 
 // What a variable holds: its cells, or - where it is not filled.
-fn put_content(out: &mut [u8], at: usize, filled: bool, cells: &[i64]) -> usize
-    ensures { Appended out.old at (content_of filled cells.now) out.new result }
+fn put_content(out: &mut [u8], at: usize, content: Option<&[i64]>) -> usize
+    ensures { Appended out.old at (content_of (option_copied content.entry)) out.new result }
 {
-    if filled {
-        return put_cell_texts(out, at, cells);
+    match content {
+        Some(cells) => put_cell_texts(out, at, cells),
+        None => put_bytes(out, at, b" -"),
     }
-    put_bytes(out, at, b" -")
 }
 
-pub fn put_variable_line(
-    out: &mut [u8],
-    at: usize,
-    name: &[u8],
-    filled: bool,
-    cells: &[i64],
-) -> usize
-    ensures { Appended out.old at (variable_line name.now filled cells.now) out.new result }
+pub fn put_variable_line(out: &mut [u8], at: usize, name: &[u8], content: Option<&[i64]>) -> usize
+    ensures { Appended out.old at (variable_line name.now (option_copied content.entry)) out.new result }
 {
     let named = put_name(out, at, name);
-    let end = put_content(out, named, filled, cells);
+    let end = put_content(out, named, content);
     put(out, end, b'\n')
 }

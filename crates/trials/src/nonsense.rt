@@ -1,39 +1,39 @@
 // What lent buffers hold before a call, and whether they still hold it: a refused call leaves them as they were.
+use lingua::sizes::{CELLS_LENGTH, OPEN_CELLS_LENGTH, OPEN_STATES_LENGTH, STATES_LENGTH};
+
 pub const BYTE: u8 = 165;
 
 pub const WORD: u16 = 42405;
 
 pub const CELL: i64 = -6510615555426900571;
 
-pub(crate) fn bytes_kept(bytes: &[u8]) -> bool {
-    let mut i = 0;
-    while i < bytes.len() {
-        if bytes[i] != BYTE {
-            return false;
-        }
-        i += 1;
-    }
-    true
+pub(crate) fn is_kept<T: PartialEq>(values: &[T], nonsense: &T) -> bool {
+    values.iter().all(|value| value == nonsense)
 }
 
-pub(crate) fn words_kept(words: &[u16]) -> bool {
-    let mut i = 0;
-    while i < words.len() {
-        if words[i] != WORD {
-            return false;
-        }
-        i += 1;
-    }
-    true
+// What every run is lent: the variables' memory, and the area for open calls.
+#[derive(Drop)]
+pub struct Lent {
+    pub cells: [i64; CELLS_LENGTH],
+    pub states: [u16; STATES_LENGTH],
+    pub open_cells: [i64; OPEN_CELLS_LENGTH],
+    pub open_states: [u16; OPEN_STATES_LENGTH],
 }
 
-pub(crate) fn cells_kept(cells: &[i64]) -> bool {
-    let mut i = 0;
-    while i < cells.len() {
-        if cells[i] != CELL {
-            return false;
+impl Lent {
+    pub(crate) fn new() -> Lent {
+        Lent {
+            cells: [CELL; CELLS_LENGTH],
+            states: [WORD; STATES_LENGTH],
+            open_cells: [CELL; OPEN_CELLS_LENGTH],
+            open_states: [WORD; OPEN_STATES_LENGTH],
         }
-        i += 1;
     }
-    true
+
+    pub(crate) fn is_kept(&self) -> bool {
+        is_kept(&self.cells, &CELL)
+            && is_kept(&self.states, &WORD)
+            && is_kept(&self.open_cells, &CELL)
+            && is_kept(&self.open_states, &WORD)
+    }
 }

@@ -1,147 +1,81 @@
-// Decimal numbers and lists of inputs, from text.
-ghost use Rattle.std.specs.Prelude.{◌≤◌, length};
-ghost use Rattle.trials.specs.Count.{AtMost};
+// Files, numbers and readings, from text: none where the text is malformed.
+ghost use Rattle.std.specs.Prelude.{◌≤◌, ◌<◌, length, IfSome};
 
-use crate::fields::{find, is_none};
-use crate::first;
+use std::str::FromStr;
 
-// How many elements were parsed into a caller's buffer.
-#[derive(Clone, Copy)]
-pub enum Count {
-    Of(usize),
-    Bad,
-}
+// A run takes at most 16 readings. So where there are more than the 64 that find room, it refuses those 64 as it would all.
+pub const MOST_READINGS: usize = 64;
 
-#[derive(Clone, Copy)]
-pub enum Natural {
-    Of(u64),
-    Bad,
-}
+// `-` stands for what is empty, so that no field is.
+const NOTHING: &str = "-";
 
-#[derive(Clone, Copy)]
-pub enum Word {
-    Of(u16),
-    Bad,
-}
-
-#[derive(Clone, Copy)]
-pub enum Whole {
-    Of(i64),
-    Bad,
-}
-
-const HIGHEST_WORD: u64 = 65535;
-
-const HIGHEST: u64 = 9223372036854775807;
-
-// A number from 0 to `most`, in decimal digits and nothing else.
-pub(crate) fn parse_natural(text: &[u8], most: u64) -> Natural
-    ensures { AtMost result most }
+fn digit_value(byte: u8) -> Option<u8>
+    ensures { IfSome result (λ digit. digit < 16) }
 {
-    if text.len() == 0 {
-        return Natural::Bad;
-    }
-    let mut value: u64 = 0;
-    let mut i = 0;
-    while i < text.len() {
-        let byte = text[i];
-        if byte < b'0' {
-            return Natural::Bad;
-        }
-        if b'9' < byte {
-            return Natural::Bad;
-        }
-        let digit = (byte - b'0') as u64;
-        if most / 10 < value {
-            return Natural::Bad;
-        }
-        if most - value * 10 < digit {
-            return Natural::Bad;
-        }
-        value = value * 10 + digit;
-        i += 1;
-    }
-    Natural::Of(value)
-}
-
-pub(crate) fn parse_word(text: &[u8]) -> Word {
-    match parse_natural(text, HIGHEST_WORD) {
-        Natural::Of(n) => Word::Of(n as u16),
-        Natural::Bad => Word::Bad,
+    match byte {
+        b'0'..=b'9' => Some(byte - b'0'),
+        b'a'..=b'f' => Some(byte - b'a' + 10),
+        _ => None,
     }
 }
 
-// A number of 64 bits with its sign: a minus and the size less one, so that the lowest number has a size too.
-pub(crate) fn parse_whole(text: &[u8]) -> Whole {
-    if text.len() == 0 {
-        return Whole::Bad;
-    }
-    if text[0] != b'-' {
-        return match parse_natural(text, HIGHEST) {
-            Natural::Of(n) => Whole::Of(n as i64),
-            Natural::Bad => Whole::Bad,
-        };
-    }
-    match parse_natural(&text[1..], HIGHEST + 1) {
-        Natural::Of(n) => Whole::Of(negative(n)),
-        Natural::Bad => Whole::Bad,
-    }
+fn byte_of(pair: &[u8; 2]) -> Option<u8> {
+    let high = digit_value(pair[0])?;
+    let low = digit_value(pair[1])?;
+    Some(high * 16 + low)
 }
 
-fn negative(n: u64) -> i64
-    requires { n ≤ 9223372036854775808 }
+// The bytes that `text` spells in lower-case hex, at the start of `out`, where they find room.
+pub(crate) fn decode<'a>(text: &str, out: &'a mut [u8]) -> Option<&'a [u8]>
+    ensures { IfSome result (λ bytes. length bytes.now ≤ length out.old) }
 {
-    if n == 0 {
-        return 0;
+    if text == NOTHING {
+        return Some(&[]);
     }
-    let less = (n - 1) as i64;
-    -1 - less
+    let (pairs, rest) = text.as_bytes().as_chunks::<2>();
+    if pairs.is_empty() || !rest.is_empty() || out.len() < pairs.len() {
+        return None;
+    }
+    for (i, pair) in pairs.iter().enumerate() {
+        out[i] = byte_of(pair)?;
+    }
+    Some(&out[..pairs.len()])
 }
 
-fn store_word(words: &mut [u16], at: usize, word: u16) {
-    if at < words.len() {
-        words[at] = word;
+// A number in decimal digits, behind a minus where it has one. `parse` alone would take a plus too.
+pub(crate) fn number<T: FromStr>(text: &str) -> Option<T>
+where
+    T::Err: Drop,
+{
+    if text.starts_with('+') {
+        return None;
     }
+    text.parse().ok()
 }
 
-fn store_whole(wholes: &mut [i64], at: usize, whole: i64) {
-    if at < wholes.len() {
-        wholes[at] = whole;
-    }
+// One reading, `variable:number`.
+fn reading(text: &str) -> Option<(u16, i64)> {
+    let (variable, value) = text.split_once(':')?;
+    Some((number(variable)?, number(value)?))
 }
 
-// One `variable:number`, put at place `at` of both buffers where they have it. False where it is malformed.
-fn parse_input(text: &[u8], at: usize, variables: &mut [u16], numbers: &mut [i64]) -> bool {
-    let colon = find(text, 0, b':');
-    if colon == text.len() {
-        return false;
-    }
-    let Word::Of(variable) = parse_word(first::bytes(text, colon)) else {
-        return false;
-    };
-    let rest = colon + 1;
-    let Whole::Of(number) = parse_whole(&text[rest..]) else {
-        return false;
-    };
-    store_word(variables, at, variable);
-    store_whole(numbers, at, number);
-    true
-}
-
-// A list of inputs, `-` where there are none: as many as find room, at the start of both buffers, and the count of all.
-pub(crate) fn parse_inputs(text: &[u8], variables: &mut [u16], numbers: &mut [i64]) -> Count {
-    if is_none(text) {
-        return Count::Of(0);
+// A list of readings: as many as find room, at the start of both buffers.
+pub(crate) fn readings<'a>(
+    text: &str,
+    variables: &'a mut [u16; MOST_READINGS],
+    numbers: &'a mut [i64; MOST_READINGS],
+) -> Option<(&'a [u16], &'a [i64])> {
+    if text == NOTHING {
+        return Some((&[], &[]));
     }
     let mut count = 0;
-    let mut from = 0;
-    while from <= text.len() {
-        let end = find(text, from, b',');
-        if !parse_input(&text[from..end], count, variables, numbers) {
-            return Count::Bad;
+    for entry in text.split(',') {
+        let (variable, value) = reading(entry)?;
+        if count < MOST_READINGS {
+            variables[count] = variable;
+            numbers[count] = value;
+            count += 1;
         }
-        count += 1;
-        from = end + 1;
     }
-    Count::Of(count)
+    Some((&variables[..count], &numbers[..count]))
 }

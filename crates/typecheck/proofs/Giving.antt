@@ -2,7 +2,7 @@
 use mathlib.Core.Path.{◌≡◌, refl, sym, ap, ap₂, ◌∙◌, subst}
 use mathlib.Core.Bool.{Bool, true, false, ◌&&◌}
 use mathlib.Core.List.{List, [], ◌∷◌, ◌++◌}
-use Prim.Native.Nat.{ℕ, zero, suc, ◌+◌, ◌-◌, ◌/◌, ◌%◌, ◌<◌, min}
+use Prim.Native.Nat.{ℕ, zero, suc, ◌+◌, ◌/◌, ◌%◌, min}
 use native.Mathlib.Numerals.{add-one}
 use native.Mathlib.Omega.{arith}
 use lib.ListN.{length}
@@ -15,10 +15,10 @@ use Rattle.safety.specs.Every.{Every, every_more, every_left, every_right}
 use Rattle.safety.specs.Accepted.{Parameters, length_groups}
 
 -- ---- group by group
-pub groups_more : (n w : ℕ) → 0 < n → groups n w ≡ w % 16 ∷ groups (n - 1) (w / 16)
+pub groups_more : (n r w : ℕ) → n ≡ r + 1 → groups n w ≡ w % 16 ∷ groups r (w / 16)
 unfolding groups
-groups_more zero w l = absurd (let z : ⊥ = omega arith in z)
-groups_more (suc n) w l = ap (λ (k : ℕ). w % 16 ∷ groups k (w / 16)) (let e : n ≡ suc n - 1 = omega arith in e)
+groups_more zero r w e = absurd (let z : ⊥ = omega (arith, e) in z)
+groups_more (suc n) r w e = ap (λ (k : ℕ). w % 16 ∷ groups k (w / 16)) (let q : n ≡ r = omega (arith, e) in q)
 
 groups_none : (n w : ℕ) → n ≡ 0 → groups n w ≡ []
 unfolding groups
@@ -32,29 +32,30 @@ module _ {P : ℕ → Type 0} where
   rest_of : {x : ℕ} {xs : List ℕ} → Every P (x ∷ xs) → Every P xs
   rest_of (every_more h hs) = hs
 
-  pub group_first : (n w : ℕ) → 0 < n → Every P (groups n w) → P (w % 16)
-  group_first n w l h = first_of (subst (Every P) (groups_more n w l) h)
+  pub group_first : (n r w : ℕ) → n ≡ r + 1 → Every P (groups n w) → P (w % 16)
+  group_first n r w e h = first_of (subst (Every P) (groups_more n r w e) h)
 
-  pub group_rest : (n w : ℕ) → 0 < n → Every P (groups n w) → Every P (groups (n - 1) (w / 16))
-  group_rest n w l h = rest_of (subst (Every P) (groups_more n w l) h)
+  pub group_rest : (n r w : ℕ) → n ≡ r + 1 → Every P (groups n w) → Every P (groups r (w / 16))
+  group_rest n r w e h = rest_of (subst (Every P) (groups_more n r w e) h)
 
 module _ (vars params : Bodies) (n w m : ℕ) (o : Bool) (e : given_fit vars (groups n w) params m ≡ o) where
-  one_more : 0 < n → (same_body (vars (w % 16)) (params m) && given_fit vars (groups (n - 1) (w / 16)) params (suc m)) ≡ o
-  unfolding given_fit
-  one_more l = ap (λ (ns : List ℕ). given_fit vars ns params m) (sym (groups_more n w l)) ∙ e
-
-  pub fit_fails : 0 < n → same_body (vars (w % 16)) (params m) ≡ false → false ≡ o
-  fit_fails l h = ap (λ (b : Bool). b && given_fit vars (groups (n - 1) (w / 16)) params (suc m)) (sym h) ∙ one_more l
-
-  pub fit_more : 0 < n → same_body (vars (w % 16)) (params m) ≡ true → given_fit vars (groups (n - 1) (w / 16)) params (m + 1) ≡ o
-  fit_more l h =
-      ap (λ (k : ℕ). given_fit vars (groups (n - 1) (w / 16)) params k) (add-one m)
-      ∙ ap (λ (b : Bool). b && given_fit vars (groups (n - 1) (w / 16)) params (suc m)) (sym h)
-      ∙ one_more l
-
   pub fit_all : n ≡ 0 → true ≡ o
   unfolding given_fit
   fit_all z = ap (λ (ns : List ℕ). given_fit vars ns params m) (sym (groups_none n w z)) ∙ e
+
+  module _ (r : ℕ) (l : n ≡ r + 1) where
+    one_more : (same_body (vars (w % 16)) (params m) && given_fit vars (groups r (w / 16)) params (suc m)) ≡ o
+    unfolding given_fit
+    one_more = ap (λ (ns : List ℕ). given_fit vars ns params m) (sym (groups_more n r w l)) ∙ e
+
+    pub fit_fails : same_body (vars (w % 16)) (params m) ≡ false → false ≡ o
+    fit_fails h = ap (λ (b : Bool). b && given_fit vars (groups r (w / 16)) params (suc m)) (sym h) ∙ one_more
+
+    pub fit_more : same_body (vars (w % 16)) (params m) ≡ true → given_fit vars (groups r (w / 16)) params (m + 1) ≡ o
+    fit_more h =
+        ap (λ (k : ℕ). given_fit vars (groups r (w / 16)) params k) (add-one m)
+        ∙ ap (λ (b : Bool). b && given_fit vars (groups r (w / 16)) params (suc m)) (sym h)
+        ∙ one_more
 
 -- ---- as a whole
 fit_append : (vars params : Bodies) (xs ys : List ℕ) (m : ℕ) → given_fit vars (xs ++ ys) params m ≡ (given_fit vars xs params m && given_fit vars ys params (m + length xs))

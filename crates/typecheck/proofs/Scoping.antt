@@ -27,7 +27,8 @@ use Rattle.profile.specs.Yokes.{every_yoke}
 use Rattle.profile.proofs.Declaring.{pairs}
 use Rattle.typing.specs.declared.walk.Scope.{Scope}
 use Rattle.typing.specs.Check.{variable_bodies, Ready, Sees}
-use Rattle.typecheck.specs.declared.verdicts.Verdict.{Verdict}
+use Rattle.std.specs.Prelude.{Result as CodeResult}
+use Rattle.typing.specs.declared.findings.TypeError.{TypeError as CodeError}
 use Rattle.typecheck.specs.Verdicts.{ScopeIs, procedure_bodies, Settles, declarations_check, before, scope_check, instruction_check}
 
 -- ---- tables
@@ -99,13 +100,13 @@ unfolding before
 before_more rows a = ap (before rows) (add-one a)
 
 -- ---- the same by the tables' own numbers
-pub scope_settles : {rows : List ℕ} {t : Table} {first : ℕ} (a : ℕ) (v : Verdict) (l m : List ℕ) → IsTable rows (scope_table a) t → first ≡ declaration_place + before rows a
+pub scope_settles : {rows : List ℕ} {t : Table} {first : ℕ} (a : ℕ) (v : CodeResult (Unit {0}) CodeError) (l m : List ℕ) → IsTable rows (scope_table a) t → first ≡ declaration_place + before rows a
     → Settles v l m (declarations_check rows t.section first) → Settles v l m (scope_check rows a)
 unfolding scope_check
 scope_settles {rows} a v l m is e h =
     subst (λ (o : Outcome TypeError (List Entry)). Settles v l m o) (ap₂ (λ (s n : ℕ). declarations_check rows s n) is.section e) h
 
-pub row_settles : {rows : List ℕ} {s : Scope} (r : ℕ) (v : Verdict) (l m : List ℕ) → ScopeIs rows (instruction_scope rows r) s
+pub row_settles : {rows : List ℕ} {s : Scope} (r : ℕ) (v : CodeResult (Unit {0}) CodeError) (l m : List ℕ) → ScopeIs rows (instruction_scope rows r) s
     → Settles v l m (check_instruction (procedure_bodies rows) (variable_bodies rows s.variables.section) (instruction_tree rows r)) → Settles v l m (instruction_check rows r)
 unfolding instruction_check
 row_settles {rows} r v l m is h =

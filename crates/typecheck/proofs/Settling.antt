@@ -2,7 +2,6 @@
 use mathlib.Core.Path.{◌≡◌, refl, sym, ap, ◌∙◌, subst}
 use mathlib.Core.Bool.{Bool, true, false}
 use mathlib.Core.List.{List, [], ◌∷◌, ◌++◌, append_assoc, append-nil}
-use mathlib.Core.Option.{some}
 use Prim.Native.Nat.{ℕ, zero, suc, ◌+◌, ◌-◌, ◌≤◌, ◌<◌}
 use native.Mathlib.Numerals.{add-one}
 use native.Mathlib.Omega.{arith}
@@ -12,21 +11,20 @@ use Rattle.lingua.specs.Outcome.{Outcome, ok, fail, all_answers, ◌>>=◌}
 use Rattle.lingua.specs.Body.{Body, boolean, size, nodes}
 use Rattle.lingua.specs.Value.{pad}
 use Rattle.lingua.specs.Encode.{bytes, encoded}
-use Rattle.lingua.specs.Expression.{Expression, yoke, call}
+use Rattle.lingua.specs.Expression.{yoke, call}
 use Rattle.lingua.specs.Rows.{pair_count}
 use Rattle.lingua.specs.Trees.{tabulate_from, tabulate, expression_tree, yoke_tree}
-use Rattle.lingua.specs.Typing.{TypeError, type_error, Entry, Typed, Finding, Bodies, check, judged, check_yoke, given_fit, check_instruction, joined, placed}
-use Rattle.laws.specs.Outcomes.{none_is_some}
+use Rattle.lingua.specs.Typing.{TypeError, type_error, Entry, Typed, Finding, Bodies, judged, check_yoke, given_fit, check_instruction, joined, placed}
 use Rattle.safety.specs.Constants.{ClosedYoke}
-use Rattle.safety.specs.Faults.{some_fault}
 use Rattle.body.specs.Encode.{Holds}
-use Rattle.typing.specs.declared.findings.Checked.{Checked}
-use Rattle.typecheck.specs.declared.verdicts.Verdict.{Verdict}
+use Rattle.std.specs.Prelude.{Option as CodeOption, Some, None, Result as CodeResult, Ok, Err, MatchResult}
+use Rattle.std.specs.Option.{unwrap_or}
+use Rattle.std.specs.Result.{IsOkAnd}
+use Rattle.typing.specs.declared.findings.TypeError.{TypeError as CodeError}
 use Rattle.typing.specs.declared.walk.Scope.{Scope}
-use Rattle.typing.specs.Check.{fault_at, Readable, Gives}
-use Rattle.typecheck.specs.Verdicts.{Judges, SettlesFailed, Settles, in_order}
+use Rattle.typing.specs.Check.{error_meaning, Readable, Fails, Gives}
+use Rattle.typecheck.specs.Verdicts.{JudgesBody, Judges, SettlesPassed, in_order}
 use Rattle.typing.proofs.Reading.{closed_reads}
-use Rattle.typing.proofs.Found.{Passed, fault_named}
 use Rattle.typing.proofs.Returns.{placed_append}
 
 -- the body that stands for no current value
@@ -35,65 +33,49 @@ unfolding encoded bytes size nodes
 none_holds x h = record { is = h; few_cells = omega arith; few_nodes = omega arith }
 
 -- ---- outcomes
-pub nothing_settles : (v : Verdict) (l : List ℕ) → (v.error ≡ 0) × (v.place ≡ 0) → Settles v l l (ok [])
-unfolding Settles placed
-nothing_settles v l h = record { passed = h.0; layout = refl }
-
-entries_settle : (v : Verdict) (l m : List ℕ) (es : List Entry) → v.error ≡ 0 → m ≡ placed es l → Settles v l m (ok es)
-unfolding Settles
-entries_settle v l m es e p = record { passed = e; layout = p }
-
-pub error_settles : (v : Verdict) (l m : List ℕ) (n p : ℕ) → (v.error ≡ n) × (v.place ≡ p) → 1 ≤ n → Settles v l m (fail (type_error n p))
-unfolding Settles
-error_settles v l m n p h k = record { some_error = k; error = h.0; place = h.1 }
+pub nothing_settles : (l : List ℕ) → SettlesPassed l l (ok [])
+unfolding placed
+nothing_settles l = record { entries = []; is = refl; layout = refl }
 
 -- ---- what a declaration's or an instruction's expression gives
-pub judges_by : (c : Checked) (suits : Bool) (e : Expression) (vars : Bodies) (b : Body) (asks : Body → Bool) (l m : List ℕ) → Gives c l m (check e vars (some b)) → ((d : Body) → Holds c.body d → suits ≡ asks d)
-    → Judges c suits (check e vars (some b)) asks l m
-judges_by c suits e vars b asks l m g h = record { gives = g; faulty = λ es q. some_fault vars e b es q; told = h }
+-- what is asked of its body, where it has one
+pub judges_by : (x : CodeResult (List ℕ) (CodeOption CodeError)) (s : CodeResult Bool (CodeOption CodeError)) (o : Finding Typed) (asks : Body → Bool) (l m : List ℕ) {P : List ℕ → Bool → Type 0}
+    → Gives x l m o → MatchResult x (λ y. IsOkAnd s (P y)) (λ f. s ≡ Err f) → ((y : List ℕ) (r : Bool) (b : Body) → P y r → Holds y b → r ≡ asks b) → Judges s o asks l m
+judges_by (Ok y) (Ok r) o asks l m g c k =
+    record { typed = g.typed; is = g.is; told = k y r g.typed.body c g.holds; layout = g.layout }
+judges_by (Ok y) (Err f) o asks l m g c k = absurd c
+judges_by (Err f) s o asks l m g c k = rw c g
 
--- the lowest row at fault is named
-pub judged_fails : (c : Checked) (suits : Bool) (own : TypeError) (v : Verdict) (o : Finding Typed) (asks : Body → Bool) (l m : List ℕ) → Judges c suits o asks l m
-    → (c.error ≡ 0 → ⊥) → (v.error ≡ c.error) × (v.place ≡ c.place) → Settles v l m (judged o asks own)
-unfolding judged Settles
-judged_fails c suits own v (ok t) asks l m j n h =
-    absurd (none_is_some (sym j.gives.finds.fault ∙ fault_named c.error c.place (omega (arith, n))))
-judged_fails c suits own v (fail es) asks l m j n h =
-    rw (sym j.gives.finds.fault ∙ fault_named c.error c.place (omega (arith, n))) (record { some_error = omega (arith, n); error = h.0; place = h.1 })
-
-module _ (c : Checked) (suits : Bool) (own : TypeError) (v : Verdict) (z : c.error ≡ 0) where
-  no_fault : (o : Finding Typed) (asks : Body → Bool) (l m : List ℕ) → Judges c suits o asks l m → Passed c l m o
-  no_fault (ok t) asks l m j = record { typed = t; is = refl; passes = j.gives.passes t refl }
-  no_fault (fail es) asks l m j = absurd (j.faulty es refl (sym j.gives.finds.fault ∙ ap (λ (n : ℕ). fault_at n c.place) z))
-
-  pub judged_own : (o : Finding Typed) (asks : Body → Bool) (l m : List ℕ) → Judges c suits o asks l m → suits ≡ false → 1 ≤ own.error → (v.error ≡ own.error) × (v.place ≡ own.place) → Settles v l m (judged o asks own)
+module _ (o : Finding Typed) (asks : Body → Bool) (l m : List ℕ) where
+  -- the lowest row at fault is named
+  pub judged_fails : (f : CodeOption CodeError) (own : CodeError) → Fails f o → judged o asks (error_meaning own) ≡ fail (error_meaning (unwrap_or f own))
   unfolding judged
-  judged_own o asks l m j s k h =
-      let q = no_fault o asks l m j in
-      rw (q.is, sym (j.told q.typed.body q.passes.holds) ∙ s) (error_settles v l m own.error own.place h k)
+  judged_fails (Some e) own h = rw (h.is, sym h.lowest) refl
+  judged_fails None own h = rw (h.is, sym h.lowest) refl
 
-  pub judged_passes : (o : Finding Typed) (asks : Body → Bool) (l m : List ℕ) → Judges c suits o asks l m → suits ≡ true → (v.error ≡ 0) × (v.place ≡ 0) → Settles v l m (judged o asks own)
+  pub judged_own : (own : TypeError) → JudgesBody false o asks l m → judged o asks own ≡ fail own
   unfolding judged
-  judged_passes o asks l m j s h =
-      let q = no_fault o asks l m j in
-      rw (q.is, sym (j.told q.typed.body q.passes.holds) ∙ s) (entries_settle v l m q.typed.entries h.0 q.passes.layout)
+  judged_own own j = rw (j.is, sym j.told) refl
+
+  pub judged_passes : (own : TypeError) → JudgesBody true o asks l m → SettlesPassed l m (judged o asks own)
+  unfolding judged
+  judged_passes own j = rw (j.is, sym j.told) (record { entries = j.typed.entries; is = refl; layout = j.layout })
 
 -- ---- calls
-pub call_fails : (v : Verdict) (l : List ℕ) (row place : ℕ) → place ≡ instruction_place + row → (procs : ℕ → Bodies) (vars : Bodies) (k : ℕ) (vs rs : List ℕ) → given_fit vars (vs ++ rs) (procs k) 0 ≡ false
-    → (v.error ≡ no_coherence) × (v.place ≡ place) → Settles v l l (check_instruction procs vars (call row k vs rs))
+pub call_fails : (row place : ℕ) → place ≡ instruction_place + row → (procs : ℕ → Bodies) (vars : Bodies) (k : ℕ) (vs rs : List ℕ) → given_fit vars (vs ++ rs) (procs k) 0 ≡ false
+    → check_instruction procs vars (call row k vs rs) ≡ fail (type_error no_coherence place)
 unfolding check_instruction
-call_fails v l row place e procs vars k vs rs h s =
-    rw h (error_settles v l l no_coherence (instruction_place + row) (s.0, s.1 ∙ e) (omega arith))
+call_fails row place e procs vars k vs rs h = rw (h, e) refl
 
-pub call_passes : (v : Verdict) (l : List ℕ) (row : ℕ) (procs : ℕ → Bodies) (vars : Bodies) (k : ℕ) (vs rs : List ℕ) → given_fit vars (vs ++ rs) (procs k) 0 ≡ true
-    → (v.error ≡ 0) × (v.place ≡ 0) → Settles v l l (check_instruction procs vars (call row k vs rs))
+pub call_passes : (l : List ℕ) (row : ℕ) (procs : ℕ → Bodies) (vars : Bodies) (k : ℕ) (vs rs : List ℕ) → given_fit vars (vs ++ rs) (procs k) 0 ≡ true
+    → SettlesPassed l l (check_instruction procs vars (call row k vs rs))
 unfolding check_instruction
-call_passes v l row procs vars k vs rs h s = rw h (nothing_settles v l s)
+call_passes l row procs vars k vs rs h = rw h (nothing_settles l)
 
 -- ---- yokes
-pub no_yoke : (rows : List ℕ) (y : ℕ) (vars : Bodies) (b : Body) (p : ℕ) (v : Verdict) (l : List ℕ) → y ≡ 0 → (v.error ≡ 0) × (v.place ≡ 0) → Settles v l l (check_yoke (yoke_tree rows y) vars b p)
+pub no_yoke : (rows : List ℕ) (y : ℕ) (vars : Bodies) (b : Body) (p : ℕ) (l : List ℕ) → y ≡ 0 → SettlesPassed l l (check_yoke (yoke_tree rows y) vars b p)
 unfolding check_yoke yoke_tree
-no_yoke rows y vars b p v l e h = rw e (nothing_settles v l h)
+no_yoke rows y vars b p l e = rw e (nothing_settles l)
 
 pub yoke_row : (rows : List ℕ) (y : ℕ) → (y ≡ 0 → ⊥) → yoke_tree rows y ≡ yoke (expression_tree rows (y - 1))
 unfolding yoke_tree
@@ -107,26 +89,6 @@ yoke_reads rows s y n h =
     closed_reads (pair_count rows s.variables.section) (expression_tree rows (y - 1)) (subst ClosedYoke (yoke_row rows y n) h).reads_none
 
 -- ---- one after the other
-pub record Settled (v : Verdict) (l m : List ℕ) (o : Outcome TypeError (List Entry)) : Type 0 where
-  pub entries : List Entry
-  pub is : o ≡ ok entries
-  pub layout : m ≡ placed entries l
-
-pub settled : (v : Verdict) (l m : List ℕ) (o : Outcome TypeError (List Entry)) → Settles v l m o → v.error ≡ 0 → Settled v l m o
-unfolding Settles
-settled v l m (ok es) h e = record { entries = es; is = refl; layout = h.layout }
-settled v l m (fail x) h e = absurd (let z : ⊥ = omega (arith, h.some_error, h.error) in z)
-
-record Unsettled (v : Verdict) (o : Outcome TypeError (List Entry)) : Type 0 where
-  error : TypeError
-  is : o ≡ fail error
-  fails : SettlesFailed v error
-
-unsettled : (v : Verdict) (l m : List ℕ) (o : Outcome TypeError (List Entry)) → Settles v l m o → (v.error ≡ 0 → ⊥) → Unsettled v o
-unfolding Settles
-unsettled v l m (ok es) h n = absurd (n h.passed)
-unsettled v l m (fail x) h n = record { error = x; is = refl; fails = h }
-
 abbrev prefixed : List (List Entry) → Outcome TypeError (List (List Entry)) → Outcome TypeError (List (List Entry))
 prefixed ps (ok qs) = ok (ps ++ qs)
 prefixed ps (fail e) = fail e
@@ -165,10 +127,9 @@ done_none f n l =
     }
 
 module _ (f : ℕ → Outcome TypeError (List Entry)) (n i : ℕ) (l0 l : List ℕ) (d : Done f n i l0 l) where
-  pub done_more : (v : Verdict) (m : List ℕ) → i < n → Settles v l m (f i) → v.error ≡ 0 → Done f n (i + 1) l0 m
+  pub done_more : (m : List ℕ) → i < n → SettlesPassed l m (f i) → Done f n (i + 1) l0 m
   unfolding all_answers
-  done_more v m h s e =
-      let q = settled v l m (f i) s e in
+  done_more m h q =
       record {
         parts = d.parts ++ (q.entries ∷ []);
         layout = q.layout ∙ ap (placed q.entries) d.layout ∙ sym (placed_append (joined d.parts) q.entries l0) ∙ ap (λ (x : List Entry). placed x l0) (sym (joined_more d.parts q.entries));
@@ -179,16 +140,14 @@ module _ (f : ℕ → Outcome TypeError (List Entry)) (n i : ℕ) (l0 l : List �
             ∙ ap (λ (k : ℕ). prefixed (d.parts ++ (q.entries ∷ [])) (all_answers (tabulate_from k (n - k) f))) (sym (add-one i));
       }
 
-  pub done_fails : (v : Verdict) (m m' : List ℕ) → i < n → Settles v l m (f i) → (v.error ≡ 0 → ⊥) → Settles v l0 m' (in_order n f)
-  unfolding all_answers in_order Settles
-  done_fails v m m' h s e =
-      let q = unsettled v l m (f i) s e in
-      rw (d.rest, next_at f n i h, q.is) q.fails
-
-  pub done_all : (v : Verdict) → i ≡ n → v.error ≡ 0 → Settles v l0 l (in_order n f)
+  pub done_fails : (e : TypeError) → i < n → f i ≡ fail e → in_order n f ≡ fail e
   unfolding all_answers in_order
-  done_all v h e =
+  done_fails e h q = rw (d.rest, next_at f n i h, q) refl
+
+  pub done_all : n ≤ i → i ≤ n → SettlesPassed l0 l (in_order n f)
+  unfolding all_answers in_order
+  done_all h k =
       let z : n - i ≡ 0 = omega arith in
       let r : all_answers (tabulate n f) ≡ ok d.parts =
       d.rest ∙ ap (λ (k : ℕ). prefixed d.parts (all_answers (tabulate_from i k f))) z ∙ unfold tabulate_from in ap ok (append-nil d.parts) in
-      rw r (entries_settle v l0 l (joined d.parts) e d.layout)
+      rw r (record { entries = joined d.parts; is = refl; layout = d.layout })

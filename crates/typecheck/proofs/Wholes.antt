@@ -1,11 +1,10 @@
 -- The whole check by its two lists, of scopes and of instruction rows, and how it ends. Assumes nothing.
 use mathlib.Core.Path.{◌≡◌, refl, sym, ap, ap₂, ◌∙◌, fun_ext}
-use mathlib.Core.List.{List, [], ◌∷◌, ◌++◌, map, append-nil, append_assoc}
+use mathlib.Core.List.{List, [], ◌∷◌, ◌++◌, map, append_assoc}
 use mathlib.Core.Option.{Option, none}
 use Prim.Native.Nat.{ℕ, zero, suc, ◌+◌}
 use native.Mathlib.Omega.{arith}
-use lib.ListN.{length, replicate, drop}
-use lib.Seq.{drop-length}
+use lib.ListN.{length, replicate}
 use Rattle.lingua.specs.Numbers.{layout_length, declaration_section, instruction_section, declaration_place, scope_table}
 use Rattle.lingua.specs.Outcome.{Outcome, ok, fail, all_answers, ◌>>=◌}
 use Rattle.lingua.specs.Store.{Limit}
@@ -16,11 +15,11 @@ use Rattle.lingua.specs.References.{yoke_in}
 use Rattle.lingua.specs.Typing.{TypeError, Entry, Bodies, check_yoke, check_instruction, check_declarations, check_scoped, check_profile, bodies_of, joined, all_declarations, placed, layout_of}
 use Rattle.laws.specs.Scopes.{scope_at_most}
 use Rattle.safety.specs.Every.{length_tabulate}
-use Rattle.typecheck.specs.declared.verdicts.Verdict.{Verdict}
-use Rattle.typing.specs.Check.{variable_bodies}
-use Rattle.typecheck.specs.Verdicts.{procedure_bodies, Settles, in_order, declaration_check, declarations_check, before, scope_check, instruction_check, Concludes}
+use Rattle.std.specs.Prelude.{Result as CodeResult, Ok, Err}
+use Rattle.typing.specs.declared.findings.TypeError.{TypeError as CodeError}
+use Rattle.typing.specs.Check.{error_meaning, variable_bodies}
+use Rattle.typecheck.specs.Verdicts.{procedure_bodies, SettlesPassed, Settles, in_order, declaration_check, declarations_check, before, scope_check, instruction_check, whole_check, ConcludesPassed}
 use Rattle.typing.proofs.Returns.{placed_append}
-use Rattle.typecheck.proofs.Settling.{Settled, settled}
 use Rattle.typecheck.proofs.Scoping.{map_tabulate, scope_bodies_lem}
 
 -- ---- one after the other
@@ -138,7 +137,7 @@ both_same (ok ds) (ok rs) = refl
 both_same (ok ds) (fail e) = refl
 both_same (fail e) y = refl
 
-pub by_rows : (rows limits : List ℕ)
+by_rows : (rows limits : List ℕ)
     → check_profile (profile_of rows limits) ≡ in_turn (in_order (suc (procedure_count rows)) (scope_check rows)) (in_order (table_count rows instruction_section) (instruction_check rows))
 unfolding check_profile
 by_rows rows limits =
@@ -149,34 +148,31 @@ by_rows rows limits =
     (instructions_of rows limits)
 
 -- ---- how it ends
-pub first_fails : (x y : Outcome TypeError (List Entry)) (v : Verdict) (l m z : List ℕ) → Settles v l m x → (v.error ≡ 0 → ⊥) → z ≡ replicate layout_length 0 → Concludes v z (in_turn x y)
-unfolding Settles Concludes
-first_fails (ok es) y v l m z s n e = absurd (n s.passed)
-first_fails (fail t) y v l m z s n e =
-    record { some_error = s.some_error; error = s.error; place = s.place; layout = e }
+pub whole_is : (rows limits : List ℕ) → check_profile (profile_of rows limits) ≡ whole_check rows
+unfolding whole_check
+whole_is rows limits = by_rows rows limits
 
-second_by : (ds : List Entry) (y : Outcome TypeError (List Entry)) (v : Verdict) (l m z : List ℕ) → Settles v l m y → (v.error ≡ 0 → ⊥) → z ≡ replicate layout_length 0 → Concludes v z (in_turn (ok ds) y)
-unfolding Settles Concludes
-second_by ds (ok es) v l m z s n e = absurd (n s.passed)
-second_by ds (fail t) v l m z s n e =
-    record { some_error = s.some_error; error = s.error; place = s.place; layout = e }
+pub first_fails : (rows : List ℕ) (e : TypeError) → in_order (suc (procedure_count rows)) (scope_check rows) ≡ fail e → whole_check rows ≡ fail e
+unfolding whole_check
+first_fails rows e h = rw h refl
 
-module _ (x y : Outcome TypeError (List Entry)) (u : Verdict) (l0 l1 : List ℕ) (q : Settled u l0 l1 x) (v : Verdict) (l2 : List ℕ) (s : Settles v l1 l2 y) where
-  pub second_fails : (z : List ℕ) → (v.error ≡ 0 → ⊥) → z ≡ replicate layout_length 0 → Concludes v z (in_turn x y)
-  second_fails z n e = rw q.is (second_by q.entries y v l1 l2 z s n e)
+module _ (rows : List ℕ) {l0 l1 : List ℕ} (q : SettlesPassed l0 l1 (in_order (suc (procedure_count rows)) (scope_check rows))) where
+  second_fails : (e : TypeError) → in_order (table_count rows instruction_section) (instruction_check rows) ≡ fail e → whole_check rows ≡ fail e
+  unfolding whole_check
+  second_fails e h = rw (q.is, h) refl
 
-  pub both_pass : l0 ≡ replicate layout_length 0 → v.error ≡ 0 → Concludes v l2 (in_turn x y)
-  unfolding Concludes layout_of
-  both_pass e n =
-      let w = settled v l1 l2 y s n in
+  both_pass : (l2 : List ℕ) → SettlesPassed l1 l2 (in_order (table_count rows instruction_section) (instruction_check rows)) → SettlesPassed l0 l2 (whole_check rows)
+  unfolding whole_check
+  both_pass l2 w =
       rw (q.is, w.is)
-      (record {
-        passed = n;
-        layout = w.layout ∙ ap (placed w.entries) q.layout ∙ sym (placed_append q.entries w.entries l0) ∙ ap (placed (q.entries ++ w.entries)) e;
-      })
+      (record { entries = q.entries ++ w.entries; is = refl; layout = w.layout ∙ ap (placed w.entries) q.layout ∙ sym (placed_append q.entries w.entries l0) })
 
--- ---- zeros
-pub filled : (l0 l : List ℕ) (i : ℕ) → l ≡ replicate i 0 ++ drop i l0 → i ≡ layout_length → length l0 ≡ layout_length → l ≡ replicate layout_length 0
-filled l0 l i e h k =
-    let s : i ≡ length l0 = omega arith in
-    e ∙ ap (λ (x : List ℕ). replicate i 0 ++ x) (ap (λ (n : ℕ). drop n l0) s ∙ drop-length l0) ∙ append-nil (replicate i 0) ∙ ap (λ (n : ℕ). replicate n 0) h
+  pub both_settle : (v : CodeResult (Unit {0}) CodeError) (l2 : List ℕ) → Settles v l1 l2 (in_order (table_count rows instruction_section) (instruction_check rows)) → Settles v l0 l2 (whole_check rows)
+  both_settle (Ok u) l2 h = both_pass l2 h
+  both_settle (Err e) l2 h = second_fails (error_meaning e) h
+
+-- from zeros
+pub whole_passes : (rows limits l0 l1 : List ℕ) → l0 ≡ replicate layout_length 0 → SettlesPassed l0 l1 (whole_check rows) → ConcludesPassed l1 (check_profile (profile_of rows limits))
+unfolding layout_of
+whole_passes rows limits l0 l1 z h =
+    record { entries = h.entries; is = whole_is rows limits ∙ h.is; layout = h.layout ∙ ap (placed h.entries) z }

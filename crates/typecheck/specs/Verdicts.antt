@@ -1,10 +1,9 @@
 -- What the check of declarations and instructions asks and gives. Assumes nothing: these are definitions.
-use Rattle.std.specs.Prelude.{◌≡◌, Bool, List, [], ◌++◌, ℕ, zero, suc, ◌+◌, ◌≤◌, ◌<◌, length, replicate}
-use Rattle.std.proofs.Math.Option.{none}
-use Rattle.lingua.specs.Numbers.{layout_length, declaration_section, expression_section, declaration_place, scope_table}
+use Rattle.std.specs.Prelude.{◌≡◌, Bool, List, [], ◌++◌, ℕ, zero, suc, ◌+◌, ◌≤◌, ◌<◌, length, replicate, Option as CodeOption, Result as CodeResult, Ok, Err}
+use Rattle.lingua.specs.Numbers.{layout_length, declaration_section, expression_section, instruction_section, declaration_place, scope_table}
 use Rattle.lingua.specs.Outcome.{Outcome, ok, fail, all_answers, ◌>>=◌}
 use Rattle.lingua.specs.Body.{Body}
-use Rattle.lingua.specs.Typing.{TypeError, Entry, Typed, Finding, Bodies, scope_bodies, lowest_fault, check_yoke, check_instruction, joined, placed, layout_of}
+use Rattle.lingua.specs.Typing.{TypeError, Entry, Typed, Finding, Bodies, scope_bodies, check_yoke, check_instruction, joined, placed, layout_of}
 use Rattle.lingua.specs.Rows.{table_count, pair_count, procedure_count, groups}
 use Rattle.lingua.specs.Trees.{tabulate, yoke_tree, given_values, given_references, instruction_tree, instruction_scope, body_or, body_in, profile_of}
 use Rattle.lingua.specs.References.{yoke_in}
@@ -13,12 +12,11 @@ use Rattle.safety.specs.Every.{Every}
 use Rattle.decoder.specs.Tables.{IsTable}
 use Rattle.decoder.specs.declared.tables.Table.{Table}
 use Rattle.decoder.specs.declared.tables.Tables.{Tables}
-use Rattle.body.specs.Encode.{Holds, Held}
+use Rattle.body.specs.Encode.{Held}
 use Rattle.profile.specs.Variables.{VariablesKnown}
-use Rattle.typing.specs.declared.findings.Checked.{Checked}
+use Rattle.typing.specs.declared.findings.TypeError.{TypeError as CodeError}
 use Rattle.typing.specs.declared.walk.Scope.{Scope}
-use Rattle.typing.specs.Check.{Ready, Sees, Readable, Gives, variable_bodies}
-use Rattle.typecheck.specs.declared.verdicts.Verdict.{Verdict}
+use Rattle.typing.specs.Check.{Ready, Sees, Readable, error_meaning, Fails, variable_bodies}
 
 -- ---- whose variables
 -- the tables are those of the expressions and of scope a
@@ -74,27 +72,27 @@ pub record DeclarationsAsked (rows : List ℕ) (own : Scope) (t : Table) (bodies
   pub room : length layout ≡ layout_length
 
 -- ---- what is given
--- what was found of a declaration's or an instruction's expression: without a body it has a fault, with one it is told whether that
--- is what is asked
-pub record Judges (c : Checked) (suits : Bool) (o : Finding Typed) (asks : Body → Bool) (entry exit : List ℕ) : Type 0 where
-  pub gives : Gives c entry exit o
-  pub faulty : (es : List TypeError) → o ≡ fail es → lowest_fault es ≡ none → ⊥
-  pub told : (b : Body) → Holds c.body b → suits ≡ asks b
+-- whether a declaration's or an instruction's expression has a body that suits it, or the lowest fault
+pub record JudgesBody (suits : Bool) (o : Finding Typed) (asks : Body → Bool) (entry exit : List ℕ) : Type 0 where
+  pub typed : Typed
+  pub is : o ≡ ok typed
+  pub told : suits ≡ asks typed.body
+  pub layout : exit ≡ placed typed.entries entry
+
+abbrev pub Judges : CodeResult Bool (CodeOption CodeError) → Finding Typed → (Body → Bool) → List ℕ → List ℕ → Type 0
+Judges (Ok suits) o asks entry exit = JudgesBody suits o asks entry exit
+Judges (Err f) o asks entry exit = Fails f o
 
 -- no type error, and the entries are in the layout table
-pub record SettlesPassed (v : Verdict) (entry exit : List ℕ) (es : List Entry) : Type 0 where
-  pub passed : v.error ≡ 0
-  pub layout : exit ≡ placed es entry
+pub record SettlesPassed (entry exit : List ℕ) (o : Outcome TypeError (List Entry)) : Type 0 where
+  pub entries : List Entry
+  pub is : o ≡ ok entries
+  pub layout : exit ≡ placed entries entry
 
--- the type error
-pub record SettlesFailed (v : Verdict) (e : TypeError) : Type 0 where
-  pub some_error : 1 ≤ e.error
-  pub error : v.error ≡ e.error
-  pub place : v.place ≡ e.place
-
-unfoldable pub Settles : Verdict → List ℕ → List ℕ → Outcome TypeError (List Entry) → Type 0
-Settles v entry exit (ok es) = SettlesPassed v entry exit es
-Settles v entry exit (fail e) = SettlesFailed v e
+-- that, or the type error
+abbrev pub Settles : CodeResult (Unit {0}) CodeError → List ℕ → List ℕ → Outcome TypeError (List Entry) → Type 0
+Settles (Ok u) entry exit o = SettlesPassed entry exit o
+Settles (Err e) entry exit o = o ≡ fail (error_meaning e)
 
 -- ---- one after the other
 -- f at 0 to n - 1: the type error of the first that has one, or all entries
@@ -126,17 +124,23 @@ unfoldable pub instruction_check : List ℕ → ℕ → Outcome TypeError (List 
 instruction_check rows r =
     check_instruction (procedure_bodies rows) (variable_bodies rows (scope_table (instruction_scope rows r))) (instruction_tree rows r)
 
--- the whole check: a pass leaves the layout table of the entries, a type error leaves zeros
-pub record ConcludesPassed (v : Verdict) (exit : List ℕ) (es : List Entry) : Type 0 where
-  pub passed : v.error ≡ 0
-  pub layout : exit ≡ layout_of es
+-- declared yokes first, those of all scopes, and then instructions
+unfoldable pub whole_check : List ℕ → Outcome TypeError (List Entry)
+whole_check rows = do
+  ds ← in_order (suc (procedure_count rows)) (scope_check rows)
+  rs ← in_order (table_count rows instruction_section) (instruction_check rows)
+  ok (ds ++ rs)
 
-pub record ConcludesFailed (v : Verdict) (exit : List ℕ) (e : TypeError) : Type 0 where
-  pub some_error : 1 ≤ e.error
-  pub error : v.error ≡ e.error
-  pub place : v.place ≡ e.place
+-- the whole check: a pass leaves the layout table of the entries, a type error leaves zeros
+pub record ConcludesPassed (exit : List ℕ) (o : Outcome TypeError (List Entry)) : Type 0 where
+  pub entries : List Entry
+  pub is : o ≡ ok entries
+  pub layout : exit ≡ layout_of entries
+
+pub record ConcludesFailed (e : CodeError) (exit : List ℕ) (o : Outcome TypeError (List Entry)) : Type 0 where
+  pub is : o ≡ fail (error_meaning e)
   pub layout : exit ≡ replicate layout_length 0
 
-unfoldable pub Concludes : Verdict → List ℕ → Outcome TypeError (List Entry) → Type 0
-Concludes v exit (ok es) = ConcludesPassed v exit es
-Concludes v exit (fail e) = ConcludesFailed v exit e
+abbrev pub Concludes : CodeResult (Unit {0}) CodeError → List ℕ → Outcome TypeError (List Entry) → Type 0
+Concludes (Ok u) exit o = ConcludesPassed exit o
+Concludes (Err e) exit o = ConcludesFailed e exit o

@@ -25,17 +25,13 @@ fn given_fit(
     ensures { result ≡ given_fit (variable_bodies rows.now own.section) (groups n w) (variable_bodies rows.now parameters.section) first }
 {
     let mut rest = w;
-    let mut left = n;
-    let mut m = first;
-    while left > 0 {
+    for m in first..first + n {
         let given = variable_body(rows, own, bodies, rest % 16);
         let wanted = variable_body(rows, parameters, bodies, m);
         if !same(given, wanted) {
             return false;
         }
-        rest = rest / 16;
-        left -= 1;
-        m += 1;
+        rest /= 16;
     }
     true
 }

@@ -1,14 +1,14 @@
 // The check of tests, yokes, assignments and instructions: each its expression, and then what it asks of the body. Variables are those of
 // the scope that is given.
-ghost use Rattle.std.specs.Prelude.{◌≡◌, Bool, List, ℕ, ◌+◌, ◌≤◌, ◌<◌, length};
+ghost use Rattle.std.specs.Prelude.{◌≡◌, Bool, List, ℕ, ◌+◌, ◌<◌, length};
 ghost use Rattle.lingua.specs.Numbers.{layout_length, instruction_section, instruction_place};
-ghost use Rattle.lingua.specs.Body.{Body};
+ghost use Rattle.lingua.specs.Body.{Body, same_body};
 ghost use Rattle.lingua.specs.Expression.{assign, call};
 ghost use Rattle.lingua.specs.Rows.{table_count};
-ghost use Rattle.lingua.specs.Typing.{type_error, Typed, Finding, judged, check_yoke, check_test, check_instruction};
+ghost use Rattle.lingua.specs.Typing.{Typed, Finding, judged, check_yoke, check_test, check_instruction};
 ghost use Rattle.lingua.specs.Trees.{expression_tree, yoke_tree, given_values, given_references, instruction_tree, instruction_scope};
 ghost use Rattle.body.specs.Encode.{Holds};
-ghost use Rattle.typing.specs.Check.{Ready, variable_bodies};
+ghost use Rattle.typing.specs.Check.{Ready, error_meaning, variable_bodies};
 ghost use Rattle.typecheck.specs.Verdicts.{ScopeIs, procedure_bodies, YokeAsked, ExpressionAsked, Assigned, CallAsked, Judges, Settles};
 
 use crate::given::call_fits;
@@ -18,42 +18,23 @@ use body::walk::BOOLEAN;
 use body_half::unary::is_boolean;
 use decoder::decode::InstructionRow as Row;
 use decoder::tables::{Table, Tables};
-use lingua::errors::{BOOLEAN_EXPECTED, NO_COHERENCE, YOKE_EXPECTED};
+use lingua::errors::Error;
 use lingua::sizes::{BODY_BYTES, INSTRUCTION_PLACE};
 use profile::row::instruction_row;
-use typing::findings::Checked;
+use typing::findings::{Found, TypeError};
 use typing::leaves::variable_body;
 use typing::walk::{Scope, check};
 
-// The type error that is named and its place, or error 0.
-#[derive(Clone, Copy)]
-pub struct Verdict {
-    pub error: u8,
-    pub place: u16,
-}
-
-pub fn settled(error: u8, place: u16) -> Verdict
-    ensures { (result.error ≡ error) × (result.place ≡ place) }
+// The fault that is named: that of the expression's lowest row at fault, or, where its body does not suit, its own. It names its own also
+// where there is neither a body nor a fault, which never is.
+fn judge(suits: Found<bool>, own: TypeError) -> Result<(), TypeError>
+    ensures { (o : Finding Typed) (asks : Body → Bool) (entry exit : List ℕ) → Judges suits o asks entry exit → Settles result entry exit (judged o asks (error_meaning own)) }
 {
-    Verdict {
-        error: error,
-        place: place,
+    match suits {
+        Ok(true) => Ok(()),
+        Ok(false) => Err(own),
+        Err(fault) => Err(fault.unwrap_or(own)),
     }
-}
-
-// The fault that is named: that of the expression's lowest row at fault; without one the expression has a body, and unless that
-// suits, `error` at `place`. Where the expression has no body, `suits` says nothing.
-fn judge(x: Checked, suits: bool, error: u8, place: u16) -> Verdict
-    requires { 1 ≤ error }
-    ensures { (o : Finding Typed) (asks : Body → Bool) (entry exit : List ℕ) → Judges x suits o asks entry exit → Settles result entry exit (judged o asks (type_error error place)) }
-{
-    if x.error != 0 {
-        return settled(x.error, x.place);
-    }
-    if !suits {
-        return settled(error, place);
-    }
-    settled(0, 0)
 }
 
 // A yoke as in the marks: 0 has no expression, and asks nothing.
@@ -65,16 +46,19 @@ pub fn check_yoke(
     current: [u8; BODY_BYTES],
     place: u16,
     layout: &mut [u16],
-) -> Verdict
+) -> Result<(), TypeError>
     requires { YokeAsked rows.now scope bodies.now yoke current layout.old }
     ensures { (b : Body) → Holds current b → Settles result layout.old layout.new (check_yoke (yoke_tree rows.now yoke) (variable_bodies rows.now scope.variables.section) b place) }
 {
     if yoke == 0 {
-        return settled(0, 0);
+        return Ok(());
     }
-    let x = check(yoke - 1, rows, scope, bodies, true, current, layout);
-    let result = x.body;
-    judge(x, is_boolean(result), YOKE_EXPECTED, place)
+    let x = check(yoke - 1, rows, scope, bodies, Some(current), layout);
+    let own = TypeError {
+        error: Error::YokeExpected,
+        place: place,
+    };
+    judge(x.map(is_boolean), own)
 }
 
 // Outside yokes there is no current value; its body is that of a Boolean.
@@ -85,14 +69,17 @@ fn check_test(
     e: usize,
     place: u16,
     layout: &mut [u16],
-) -> Verdict
+) -> Result<(), TypeError>
     requires { ExpressionAsked rows.now scope bodies.now e layout.old }
     ensures { Settles result layout.old layout.new (check_test (expression_tree rows.now e) (variable_bodies rows.now scope.variables.section) place) }
 {
     let none = simple(BOOLEAN);
-    let x = check(e, rows, scope, bodies, true, none, layout);
-    let result = x.body;
-    judge(x, is_boolean(result), BOOLEAN_EXPECTED, place)
+    let x = check(e, rows, scope, bodies, Some(none), layout);
+    let own = TypeError {
+        error: Error::BooleanExpected,
+        place: place,
+    };
+    judge(x.map(is_boolean), own)
 }
 
 // The expression, and then that its body is the variable's declared one.
@@ -104,16 +91,23 @@ fn check_assignment(
     n: usize,
     e: usize,
     layout: &mut [u16],
-) -> Verdict
+) -> Result<(), TypeError>
     requires { Assigned rows.now scope bodies.now row n e layout.old }
     ensures { Settles result layout.old layout.new (check_instruction (procedure_bodies rows.now) (variable_bodies rows.now scope.variables.section) (assign row n (expression_tree rows.now e))) }
 {
     let none = simple(BOOLEAN);
-    let x = check(e, rows, scope, bodies, true, none, layout);
+    let x = check(e, rows, scope, bodies, Some(none), layout);
     let declared = variable_body(rows, scope.variables, bodies, n);
-    let given = x.body;
-    let place = (INSTRUCTION_PLACE + row) as u16;
-    judge(x, same(declared, given), NO_COHERENCE, place)
+    let own = TypeError {
+        error: Error::NoCoherence,
+        place: (INSTRUCTION_PLACE + row) as u16,
+    };
+    let suits = x.map(
+        |given|
+            ensures { (b c : Body) → Holds declared b → Holds given c → result ≡ same_body b c }
+        { same(declared, given) },
+    );
+    judge(suits, own)
 }
 
 // A call evaluates nothing: only what it gives is asked.
@@ -126,14 +120,17 @@ fn check_call(
     b: usize,
     c: usize,
     place: u16,
-) -> Verdict
+) -> Result<(), TypeError>
     requires { CallAsked rows.now tables own bodies.now k b c }
     ensures { (row : ℕ) (layout : List ℕ) → place ≡ instruction_place + row → Settles result layout layout (check_instruction (procedure_bodies rows.now) (variable_bodies rows.now own.section) (call row k (given_values rows.now k b) (given_references rows.now k c))) }
 {
     if !call_fits(rows, tables, own, bodies, k, b, c) {
-        return settled(NO_COHERENCE, place);
+        return Err(TypeError {
+            error: Error::NoCoherence,
+            place: place,
+        });
     }
-    settled(0, 0)
+    Ok(())
 }
 
 // An instruction's own row, by the variables that it names; its parts are rows of their own.
@@ -144,7 +141,7 @@ pub fn check_instruction(
     bodies: &[u8],
     row: usize,
     layout: &mut [u16],
-) -> Verdict
+) -> Result<(), TypeError>
     requires ready { Ready rows.now tables bodies.now }
     requires scope_is { ScopeIs rows.now (instruction_scope rows.now row) scope }
     requires row_bound { (row < table_count rows.now instruction_section) × (length layout.old ≡ layout_length) }
@@ -162,6 +159,6 @@ pub fn check_instruction(
         Row::Branch(e, _, _) => check_test(rows, scope, bodies, e, place, layout),
         Row::Loop(e, _) => check_test(rows, scope, bodies, e, place, layout),
         Row::Call(k, b, c) => check_call(rows, tables, scope.variables, bodies, k, b, c, place),
-        _ => settled(0, 0),
+        _ => Ok(()),
     }
 }

@@ -1,6 +1,6 @@
 // The whole type check: declared yokes first, the procedures' too, then instructions by rising row; the earliest that has a fault gives the
 // answer.
-ghost use Rattle.std.specs.Prelude.{◌≡◌, List, ℕ, suc, ◌≤◌, ◌<◌, length, replicate};
+ghost use Rattle.std.specs.Prelude.{◌≡◌, List, ℕ, suc, ◌≤◌, ◌<◌, length};
 ghost use Rattle.lingua.specs.Numbers.{layout_length, instruction_section};
 ghost use Rattle.lingua.specs.Rows.{table_count, pair_count, procedure_count};
 ghost use Rattle.lingua.specs.Typing.{check_profile};
@@ -8,14 +8,15 @@ ghost use Rattle.lingua.specs.Trees.{profile_of};
 ghost use Rattle.decoder.specs.Tables.{AreTables, Described};
 ghost use Rattle.scopes.specs.Marks.{InstructionScopes};
 ghost use Rattle.typing.specs.Check.{Ready};
-ghost use Rattle.typecheck.specs.Verdicts.{ScopeIs, DeclarationsAsked, Settles, in_order, declaration_check, declarations_check, scope_check, instruction_check, Concludes};
+ghost use Rattle.typecheck.specs.Verdicts.{ScopeIs, DeclarationsAsked, Settles, in_order, declaration_check, declarations_check, scope_check, instruction_check, whole_check, Concludes};
 
-use crate::verdicts::{Verdict, check_instruction, check_yoke, settled};
+use crate::verdicts::{check_instruction, check_yoke};
 use decoder::procedures::scope_table;
 use decoder::tables::{Table, Tables};
-use lingua::sizes::{DECLARATION_PLACE, LAYOUT_LENGTH, MOST_INSTRUCTIONS};
+use lingua::sizes::{DECLARATION_PLACE, MOST_INSTRUCTIONS};
 use profile::declarations::declared_yoke;
 use scopes::pass::instruction_scopes;
+use typing::findings::TypeError;
 use typing::leaves::variable_body;
 use typing::walk::Scope;
 
@@ -42,7 +43,7 @@ fn check_declaration(
     d: usize,
     place: u16,
     layout: &mut [u16],
-) -> Verdict
+) -> Result<(), TypeError>
     requires declarations_asked { DeclarationsAsked rows.now own t bodies.now layout.old }
     requires d_bound { d < pair_count rows.now t.section }
     ensures { Settles result layout.old layout.new (declaration_check rows.now t.section d place) }
@@ -60,44 +61,37 @@ fn check_declarations(
     bodies: &[u8],
     first: usize,
     layout: &mut [u16],
-) -> Verdict
+) -> Result<(), TypeError>
     requires declarations_asked { DeclarationsAsked rows.now own t bodies.now layout.old }
     requires first_bound { first ≤ 1024 }
     ensures { Settles result layout.old layout.new (declarations_check rows.now t.section first) }
 {
-    let count = t.count / 2;
-    let mut d = 0;
-    while d < count {
+    for d in 0..t.count / 2 {
         let place = (first + d) as u16;
-        let v = check_declaration(rows, own, t, bodies, d, place, layout);
-        if v.error != 0 {
-            return v;
-        }
-        d += 1;
+        check_declaration(rows, own, t, bodies, d, place, layout)?;
     }
-    settled(0, 0)
+    Ok(())
 }
 
 // All declared yokes: the profile's, and places count on through the procedures'.
-fn check_scopes(rows: &[u8], tables: Tables, bodies: &[u8], layout: &mut [u16]) -> Verdict
+fn check_scopes(
+    rows: &[u8],
+    tables: Tables,
+    bodies: &[u8],
+    layout: &mut [u16],
+) -> Result<(), TypeError>
     requires ready { Ready rows.now tables bodies.now }
     requires layout_len { length layout.old ≡ layout_length }
     ensures { Settles result layout.old layout.new (in_order (suc (procedure_count rows.now)) (scope_check rows.now)) }
 {
     let own = scope_at(tables, 0);
-    let count = tables.procedures.count;
     let mut first = DECLARATION_PLACE;
-    let mut s = 0;
-    while s <= count {
+    for s in 0..tables.procedures.count + 1 {
         let t = scope_table(tables, s);
-        let u = check_declarations(rows, own, t, bodies, first, layout);
-        if u.error != 0 {
-            return u;
-        }
+        check_declarations(rows, own, t, bodies, first, layout)?;
         first += t.count / 2;
-        s += 1;
     }
-    settled(0, 0)
+    Ok(())
 }
 
 // Each row by the variables of its own scope.
@@ -107,54 +101,52 @@ fn check_instructions(
     scopes: &[u8; MOST_INSTRUCTIONS],
     bodies: &[u8],
     layout: &mut [u16],
-) -> Verdict
+) -> Result<(), TypeError>
     requires ready { Ready rows.now tables bodies.now }
     requires instruction_scopes { InstructionScopes rows.now scopes.now }
     requires layout_len { length layout.old ≡ layout_length }
     ensures { Settles result layout.old layout.new (in_order (table_count rows.now instruction_section) (instruction_check rows.now)) }
 {
-    let table = tables.instructions;
-    let count = table.count;
-    let mut r = 0;
-    while r < count {
+    for r in 0..tables.instructions.count {
         let scope = scope_at(tables, scopes[r] as usize);
-        let w = check_instruction(rows, tables, scope, bodies, r, layout);
-        if w.error != 0 {
-            return w;
-        }
-        r += 1;
+        check_instruction(rows, tables, scope, bodies, r, layout)?;
     }
-    settled(0, 0)
+    Ok(())
 }
 
-fn clear(layout: &mut [u16])
-    requires { length layout.old ≡ layout_length }
-    ensures { layout.new ≡ replicate layout_length 0 }
+// Declared yokes first, then instructions.
+fn check_rows(
+    rows: &[u8],
+    tables: Tables,
+    bodies: &[u8],
+    layout: &mut [u16],
+) -> Result<(), TypeError>
+    requires ready { Ready rows.now tables bodies.now }
+    requires layout_len { length layout.old ≡ layout_length }
+    ensures { Settles result layout.old layout.new (whole_check rows.now) }
 {
-    let mut i = 0;
-    while i < LAYOUT_LENGTH {
-        layout[i] = 0;
-        i += 1;
-    }
+    check_scopes(rows, tables, bodies, layout)?;
+    let scopes = instruction_scopes(rows, tables);
+    check_instructions(rows, tables, &scopes, bodies, layout)
 }
 
 // The layout table starts from zeros, and a type error zeroes it again.
-pub fn check_profile(rows: &[u8], tables: Tables, bodies: &[u8], layout: &mut [u16]) -> Verdict
+pub fn check_profile(
+    rows: &[u8],
+    tables: Tables,
+    bodies: &[u8],
+    layout: &mut [u16],
+) -> Result<(), TypeError>
     requires ready { Ready rows.now tables bodies.now }
     requires layout_len { length layout.old ≡ layout_length }
     ensures { (limits : List ℕ) → Concludes result layout.new (check_profile (profile_of rows.now limits)) }
 {
-    clear(layout);
-    let yokes = check_scopes(rows, tables, bodies, layout);
-    if yokes.error != 0 {
-        clear(layout);
-        return yokes;
+    layout.fill(0);
+    match check_rows(rows, tables, bodies, layout) {
+        Ok(()) => Ok(()),
+        Err(error) => {
+            layout.fill(0);
+            Err(error)
+        }
     }
-    let scopes = instruction_scopes(rows, tables);
-    let rest = check_instructions(rows, tables, &scopes, bodies, layout);
-    if rest.error != 0 {
-        clear(layout);
-        return rest;
-    }
-    rest
 }

@@ -1,139 +1,100 @@
 -- What is found of one row, of two at once and of a list's elements, as the code has it and as the definition has it. Assumes nothing.
-use mathlib.Core.Path.{◌≡◌, refl, sym, ap, ap₂, ◌∙◌, subst}
-use mathlib.Core.Bool.{Bool, true, false, ◌&&◌}
-use mathlib.Core.List.{List}
-use mathlib.Core.Option.{some}
-use Prim.Native.Nat.{ℕ, zero, suc, ◌≤◌, ◌<◌}
-use native.Mathlib.Omega.{arith}
-use borrow.Author.Tests.{lt-ltb, le-ltb}
-use Rattle.lingua.specs.Outcome.{ok, fail, both, ◌>>=◌}
+use mathlib.Core.Path.{◌≡◌, refl, sym, ap, ap₂, ◌∙◌}
+use mathlib.Core.List.{List, [], ◌++◌}
+use mathlib.Core.Option.{Option, some, none}
+use Prim.Native.Nat.{ℕ}
+use Rattle.std.specs.Prelude.{Option as CodeOption, Some, None, Result as CodeResult, Ok, Err}
+use Rattle.std.specs.Result.{result_ok}
+use Rattle.lingua.specs.Outcome.{Outcome, ok, fail, both, answer_of, ◌>>=◌}
+use Rattle.lingua.specs.Faults.{error_number}
+use Rattle.lingua.specs.declared.errors.Error.{Error}
 use Rattle.lingua.specs.Body.{Body}
 use Rattle.lingua.specs.Operation.{top, unary_body}
-use Rattle.lingua.specs.Typing.{type_error, Typed, Finding, fault, own_rule, unary_second, current_body, elements_at, lower, lowest_fault}
-use Rattle.laws.specs.Outcomes.{and_left, and_right, false_is_true}
-use Rattle.safety.specs.Answers.{never_ok, same_answer, true_is_false}
+use Rattle.lingua.specs.Typing.{Finding, fault, own_rule, current_body, elements_at, lower, lowest_fault}
+use Rattle.laws.specs.Outcomes.{false_is_true}
 use Rattle.safety.specs.Faults.{lower_none, lowest_fault_append}
 use Rattle.body.specs.Encode.{Holds}
+use Rattle.body_half.specs.Half.{HalfPassed, Half}
 use Rattle.body.specs.declared.typed.Typed.{Typed as HalfTyped}
-use Rattle.body_half.specs.Half.{Half}
-use Rattle.body_half.proofs.HalfEnds.{half_error, half_passed}
-use Rattle.typing.specs.declared.findings.Checked.{Checked}
-use Rattle.typing.specs.Check.{current_if, fault_at, Finds, Together, Elements, Passes, Gives}
+use Rattle.typing.specs.declared.findings.TypeError.{TypeError as CodeError}
+use Rattle.typing.specs.Check.{fault_meaning, own_fault, own_found, HoldsIf, Fails, Together, Elements, Gives}
 
 -- ---- one row
--- a body, with what else is given there
-pub record Passed (c : Checked) (entry exit : List ℕ) (o : Finding Typed) : Type 0 where
-  pub typed : Typed
-  pub is : o ≡ ok typed
-  pub passes : Passes c entry exit typed
-
-pub passed : (c : Checked) (l m : List ℕ) (o : Finding Typed) → Gives c l m o → c.known ≡ true → Passed c l m o
-passed c l m (ok t) g e = record { typed = t; is = refl; passes = g.passes t refl }
-passed c l m (fail es) g e = false_is_true (sym g.finds.known ∙ e)
-
-pub gives_body : (c : Checked) (l m : List ℕ) (t : Typed) → c.known ≡ true → c.error ≡ 0 → Passes c l m t → Gives c l m (ok t)
-gives_body c l m t k e p =
-    record {
-      finds = record { known = k; fault = ap (λ (n : ℕ). fault_at n c.place) e };
-      passes = λ u q. subst (λ (v : Typed). Passes c l m v) (same_answer q) p;
-    }
-
--- no body: what is asked behind it is not
-pub gives_none : {A : Type 0} (c : Checked) (l m : List ℕ) (o : Finding A) (k : A → Finding Typed) → Finds c o → c.known ≡ false → Gives c l m (o >>= k)
-gives_none c l m (ok a) k f e = true_is_false (sym f.known ∙ e)
-gives_none c l m (fail es) k f e = record { finds = record { known = e; fault = f.fault }; passes = λ t q. never_ok q }
+-- no answer: what is asked behind it is not
+pub fails_on : {A B : Type 0} (f : CodeOption CodeError) (o : Finding A) (k : A → Finding B) → Fails f o → Fails f (o >>= k)
+fails_on f o k h = record { faults = h.faults; is = ap (λ (p : Finding _). p >>= k) h.is; lowest = h.lowest }
 
 -- a fault of the row's own
-pub fault_named : (n p : ℕ) → 1 ≤ n → fault_at n p ≡ some (type_error n p)
-fault_named zero p l = absurd (let z : ⊥ = omega arith in z)
-fault_named (suc n) p l = refl
-
-pub faulted : (c : Checked) (l m : List ℕ) (n p : ℕ) → (c.known ≡ false) × (c.error ≡ n) × (c.place ≡ p) → 1 ≤ n → Gives c l m (fail (fault n p))
+pub faulted : {A : Type 0} (e : Error) (r : ℕ) → Fails {A = A} (own_fault e r) (fail (fault (error_number e) r))
 unfolding lowest_fault
-faulted c l m n p h k =
-    record { finds = record { known = h.0; fault = ap₂ fault_at h.1 h.2 ∙ fault_named n p k }; passes = λ t q. never_ok q }
+faulted e r = record { faults = fault (error_number e) r; is = refl; lowest = refl }
+
+-- a row's own rule, by its half on bodies
+module _ (h : CodeResult HalfTyped Error) (r : ℕ) (o : Outcome ℕ Body) (second : Body → ℕ) where
+  pub own_fails : Half h o second → (f : CodeOption CodeError) → Err f ≡ own_found h r → Fails f (own_rule r o)
+  own_fails g f e = by h g e
+    where
+      by : (h : CodeResult HalfTyped Error) → Half h o second → Err f ≡ own_found h r → Fails f (own_rule r o)
+      by (Ok t) g e = absurd (let z : ⊥ = cc in z)
+      by (Err d) g e = let q : f ≡ own_fault d r = cc in rw (q, g) (faulted d r)
+
+  pub own_passes : Half h o second → (t : HalfTyped) → Ok t ≡ own_found h r → HalfPassed t o second
+  own_passes g t e = by h g e
+    where
+      by : (h : CodeResult HalfTyped Error) → Half h o second → Ok t ≡ own_found h r → HalfPassed t o second
+      by (Ok u) g e = let q : t ≡ u = cc in rw q g
+      by (Err d) g e = absurd (let z : ⊥ = cc in z)
+
+-- ---- the current value
+pub current_some : (x : List ℕ) (b : Option Body) → HoldsIf (Some x) b → (d : Body) × (b ≡ some d) × Holds x d
+current_some x (some d) h = (d, refl, h)
+current_some x none h = absurd h
+
+pub current_none : (b : Option Body) → HoldsIf None b → b ≡ none
+current_none (some d) h = absurd h
+current_none none h = refl
 
 -- ---- two at once
--- the code's ways to the lower of two faults
-module _ (m p n q : ℕ) where
-  pub second_alone : m ≡ 0 → fault_at n q ≡ lower (fault_at m p) (fault_at n q)
-  second_alone e = ap (λ (i : ℕ). lower (fault_at i p) (fault_at n q)) (sym e)
+-- what the definition has beside what the code found
+abbrev pub Finds : {A B : Type 0} → CodeResult A (CodeOption CodeError) → Finding B → Type 0
+Finds {B = B} (Ok a) o = (b : B) × (o ≡ ok b)
+Finds (Err f) o = Fails f o
 
-  pub first_alone : n ≡ 0 → fault_at m p ≡ lower (fault_at m p) (fault_at n q)
-  first_alone e = sym (lower_none (fault_at m p)) ∙ ap (λ (i : ℕ). lower (fault_at m p) (fault_at i q)) (sym e)
+pub gives_finds : (x : CodeResult (List ℕ) (CodeOption CodeError)) (l m : List ℕ) (o : Finding _) → Gives x l m o → Finds x o
+gives_finds (Ok x) l m o g = (g.typed, g.is)
+gives_finds (Err f) l m o g = g
 
-  pub second_lower : (m ≡ 0 → ⊥) → (n ≡ 0 → ⊥) → q < p → fault_at n q ≡ lower (fault_at m p) (fault_at n q)
-  second_lower j k l =
-      let a = fault_named m p (omega (arith, j)) in
-      let b = fault_named n q (omega (arith, k)) in
-      rw (a, b, lt-ltb q p l) refl
+pub elements_finds : (x : CodeResult (List ℕ) (CodeOption CodeError)) (o : Finding Body) → Elements x o → Finds x o
+elements_finds (Ok x) o g = (g.element, g.is)
+elements_finds (Err f) o g = g
 
-  pub first_lower : (m ≡ 0 → ⊥) → (n ≡ 0 → ⊥) → p ≤ q → fault_at m p ≡ lower (fault_at m p) (fault_at n q)
-  first_lower j k l =
-      let a = fault_named m p (omega (arith, j)) in
-      let b = fault_named n q (omega (arith, k)) in
-      rw (a, b, le-ltb q p l) refl
-
-module _ {A B : Type 0} (c x y : Checked) (h : Together c x y) where
-  pub finds_both : (o : Finding A) (p : Finding B) → Finds x o → Finds y p → Finds c (both o p)
+module _ {A B C D : Type 0} where
+  pub both_found : (c : CodeResult (A × B) (CodeOption CodeError)) (x : CodeResult A (CodeOption CodeError)) (y : CodeResult B (CodeOption CodeError))
+      (o : Finding C) (p : Finding D) → Together c x y → Finds x o → Finds y p → Finds c (both o p)
   unfolding lowest_fault
-  finds_both (ok a) (ok b) f g =
-      record { known = h.known ∙ ap₂ ◌&&◌ f.known g.known; fault = h.fault ∙ ap₂ lower f.fault g.fault }
-  finds_both (ok a) (fail fs) f g =
-      record { known = h.known ∙ ap₂ ◌&&◌ f.known g.known; fault = h.fault ∙ ap₂ lower f.fault g.fault }
-  finds_both (fail es) (ok b) f g =
-      record { known = h.known ∙ ap₂ ◌&&◌ f.known g.known; fault = h.fault ∙ ap₂ lower f.fault g.fault ∙ lower_none (lowest_fault es) }
-  finds_both (fail es) (fail fs) f g =
-      record { known = h.known ∙ ap₂ ◌&&◌ f.known g.known; fault = h.fault ∙ ap₂ lower f.fault g.fault ∙ sym (lowest_fault_append es fs) }
-
-module _ (c x y : Checked) (h : Together c x y) where
-  pub first_known : c.known ≡ true → x.known ≡ true
-  first_known e = and_left x.known y.known (sym h.known ∙ e)
-
-  pub second_known : c.known ≡ true → y.known ≡ true
-  second_known e = and_right x.known y.known (sym h.known ∙ e)
+  both_found (Ok c) (Ok a) (Ok b) o p t f g = ((f.0, g.0), rw (f.1, g.1) refl)
+  both_found (Ok c) (Ok a) (Err e) o p t f g = absurd (let z : ⊥ = cc in z)
+  both_found (Ok c) (Err e) y o p t f g = absurd (let z : ⊥ = cc in z)
+  both_found (Err e) (Ok a) (Ok b) o p t f g = false_is_true (sym t.0)
+  both_found (Err e) (Ok a) (Err h) o p t f g = record { faults = g.faults; is = rw (f.1, g.is) refl; lowest = t.1 ∙ g.lowest }
+  both_found (Err e) (Err h) (Ok b) o p t f g =
+      record { faults = f.faults; is = rw (f.is, g.1) refl; lowest = t.1 ∙ lower_none (fault_meaning h) ∙ f.lowest }
+  both_found (Err e) (Err h) (Err i) o p t f g =
+      record { faults = f.faults ++ g.faults; is = rw (f.is, g.is) refl; lowest = t.1 ∙ ap₂ lower f.lowest g.lowest ∙ sym (lowest_fault_append f.faults g.faults) }
 
 -- ---- a list's elements: their body is what `top` gives of the list's
-elements_are : (r : ℕ) (b : Body) → elements_at r (some b) ≡ own_rule r (unary_body top b)
+pub elements_are : (r : ℕ) (b : Body) → elements_at r (some b) ≡ own_rule r (unary_body top b)
 unfolding elements_at current_body unary_body
 elements_are r b = refl
 
-pub current_missing : (c : Checked) (r : ℕ) (known : Bool) (b : Body) → known ≡ false → c.known ≡ false → c.error ≡ 0 → Holds c.body b → Elements c (elements_at r (current_if known b))
+pub no_current : (r : ℕ) → Fails None (elements_at r none)
 unfolding elements_at current_body lowest_fault
-current_missing c r known b k e z h =
-    rw k (record {
-      finds = record { known = e; fault = ap (λ (n : ℕ). fault_at n c.place) z };
-      element = b;
-      holds = h;
-      is = ap (λ (t : Bool). current_if t b) (sym e);
-    })
+no_current r = record { faults = []; is = refl; lowest = refl }
 
-module _ (c : Checked) (r : ℕ) (known : Bool) (b : Body) (k : known ≡ true) (h : HalfTyped) (g : Half h (unary_body top b) (λ d. unary_second top b)) where
-  pub no_list : (h.error ≡ 0 → ⊥) → c.known ≡ false → c.error ≡ h.error → c.place ≡ r → Holds c.body b → Elements c (elements_at r (current_if known b))
-  unfolding lowest_fault
-  no_list n e z p held =
-      rw (k, elements_are r b, half_error h _ _ g n)
-      (record {
-        finds = record { known = e; fault = ap₂ fault_at z p ∙ fault_named h.error r (omega (arith, n)) };
-        element = b;
-        holds = held;
-        is = ap (λ (t : Bool). current_if t b) (sym e);
-      })
-
-  pub list_there : h.error ≡ 0 → c.known ≡ true → c.error ≡ 0 → c.body ≡ h.body → Elements c (elements_at r (current_if known b))
-  list_there n e z q =
-      let w = half_passed h _ _ g n in
-      rw (k, elements_are r b, w.is)
-      (record {
-        finds = record { known = e; fault = ap (λ (i : ℕ). fault_at i c.place) z };
-        element = w.body;
-        holds = subst (λ (y : List ℕ). Holds y w.body) (sym q) w.passes.holds;
-        is = ap (λ (t : Bool). current_if t w.body) (sym e);
-      })
-
--- where there is a list, what is held is its elements' body
-pub element_is : (c : Checked) (o : Finding Body) (w : Elements c o) → c.known ≡ true → o ≡ ok w.element
-element_is c (ok b) w e =
-    let q : some b ≡ some w.element = w.is ∙ ap (λ (t : Bool). current_if t w.element) e in
-    cc
-element_is c (fail es) w e = false_is_true (sym w.finds.known ∙ e)
+-- the current value of an inner yoke
+pub inner_holds : (x : CodeResult (List ℕ) (CodeOption CodeError)) (y : CodeOption (List ℕ)) (o : Finding Body) → Elements x o → y ≡ result_ok x → HoldsIf y (answer_of o)
+inner_holds x y o g e = rw e (by x g)
+  where
+    by : (x : CodeResult (List ℕ) (CodeOption CodeError)) → Elements x o → HoldsIf (result_ok x) (answer_of o)
+    by (Ok x) g = rw g.is g.holds
+    by (Err f) g = rw g.is tt

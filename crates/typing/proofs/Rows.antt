@@ -4,6 +4,7 @@ use mathlib.Core.List.{List}
 use Prim.Native.Nat.{ℕ, ◌+◌, ◌*◌, ◌<◌}
 use native.Mathlib.Omega.{arith}
 use lib.ListN.{length}
+use Rattle.std.specs.Prelude.{Option as CodeOption}
 use Rattle.lingua.specs.Numbers.{expression_section, instruction_section}
 use Rattle.lingua.specs.Rows.{table_count, pair_count, instruction_row}
 use Rattle.lingua.specs.Trees.{expression_tree, instruction_tree}
@@ -16,9 +17,8 @@ use Rattle.profile.specs.Row.{RowSays}
 use Rattle.profile.specs.Variables.{VariablesKnown}
 use Rattle.rules.specs.Accepted.{counts}
 use Rattle.profile.specs.Facts.{RowFacts, row_facts, row_tree, row_tree_lem, InstructionFacts, instruction_facts, instruction_row_tree, instruction_row_tree_lem}
-use Rattle.body.specs.Encode.{Held}
 use Rattle.typing.specs.declared.walk.Scope.{Scope}
-use Rattle.typing.specs.Check.{ReadsBelow, Readable, Asked, Operand}
+use Rattle.typing.specs.Check.{ReadsBelow, Readable, HeldIf, Asked, Operand}
 
 -- ---- an expression row as the code has it
 -- operands are lower rows, and each reads variables of the scope, as does a row that reads one
@@ -64,8 +64,8 @@ module _ (rows : List ℕ) (accepted : AcceptedRows rows) (r : ℕ) (l : r < tab
       instruction_row_tree_lem rows r c s (instruction_facts rows accepted r l c s) ∙ ap (instruction_row_tree rows r) e
 
 -- ---- what a call asks
-module _ {rows : List ℕ} {s : Scope} {bodies : List ℕ} {r : ℕ} {cur l : List ℕ} (h : Asked r rows s bodies cur l) where
-  pub asked_below : {a : ℕ} {cur' : List ℕ} (l' : List ℕ) → Operand rows s r a → Held cur' → length l' ≡ length l → Asked a rows s bodies cur' l'
+module _ {rows : List ℕ} {s : Scope} {bodies : List ℕ} {r : ℕ} {cur : CodeOption (List ℕ)} {l : List ℕ} (h : Asked r rows s bodies cur l) where
+  pub asked_below : {a : ℕ} {cur' : CodeOption (List ℕ)} (l' : List ℕ) → Operand rows s r a → HeldIf cur' → length l' ≡ length l → Asked a rows s bodies cur' l'
   asked_below l' p k e =
       record { sees = h.sees; here = let q = h.here in let b = p.below in omega arith; reads = p.reads; held = k; room = e ∙ h.room }
 

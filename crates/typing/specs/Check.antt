@@ -1,8 +1,10 @@
 -- What the check of an expression asks and gives. Assumes nothing: these are definitions.
-use Rattle.std.specs.Prelude.{◌≡◌, Bool, true, false, ◌&&◌, List, ℕ, zero, suc, ◌+◌, ◌*◌, ◌<◌, length, get_or, set}
+use Rattle.std.specs.Prelude.{◌≡◌, false, ◌&&◌, List, ℕ, ◌+◌, ◌*◌, ◌<◌, length, get_or, set, is_ok, Option as CodeOption, Some, None, Result as CodeResult, Ok, Err}
 use Rattle.std.proofs.Math.Option.{Option, some, none}
 use Rattle.lingua.specs.Numbers.{layout_length, type_section, expression_section}
-use Rattle.lingua.specs.Outcome.{ok, fail, is_ok, answer_of}
+use Rattle.lingua.specs.Outcome.{ok, fail}
+use Rattle.lingua.specs.Faults.{error_number}
+use Rattle.lingua.specs.declared.errors.Error.{Error}
 use Rattle.lingua.specs.Body.{Body, boolean, size}
 use Rattle.lingua.specs.Expression.{Expression, constant, variable, current, unary, binary, lazy, choice, all_list}
 use Rattle.lingua.specs.Typing.{TypeError, type_error, Typed, Finding, Bodies, lower, lowest_fault, placed}
@@ -12,9 +14,10 @@ use Rattle.safety.specs.Accepted.{AcceptedRows}
 use Rattle.rules.specs.Types.{BodiesBelow}
 use Rattle.decoder.specs.Tables.{IsTable, AreTables}
 use Rattle.decoder.specs.declared.tables.Tables.{Tables}
-use Rattle.body.specs.Encode.{Holds, Held}
+use Rattle.body.specs.Encode.{Holds}
+use Rattle.body.specs.declared.typed.Typed.{Typed as HalfTyped}
 use Rattle.profile.specs.Variables.{HasScope}
-use Rattle.typing.specs.declared.findings.Checked.{Checked}
+use Rattle.typing.specs.declared.findings.TypeError.{TypeError as CodeError}
 use Rattle.typing.specs.declared.walk.Scope.{Scope}
 
 -- ---- what is given
@@ -50,12 +53,23 @@ ReadsBelow m (all_list r e) = ReadsBelow m e
 unfoldable pub Readable : List ℕ → Scope → ℕ → Type 0
 Readable rows s row = ReadsBelow (pair_count rows s.variables.section) (expression_tree rows row)
 
+-- the current value's body, if it has one
+abbrev pub HoldsIf : CodeOption (List ℕ) → Option Body → Type 0
+HoldsIf (Some x) (some b) = Holds x b
+HoldsIf (Some x) none = ⊥
+HoldsIf None (some b) = ⊥
+HoldsIf None none = Unit {0}
+
+pub record HeldIf (x : CodeOption (List ℕ)) : Type 0 where
+  pub body : Option Body
+  pub holds : HoldsIf x body
+
 -- what the check of an expression row asks
-pub record Asked (row : ℕ) (rows : List ℕ) (s : Scope) (bodies current layout : List ℕ) : Type 0 where
+pub record Asked (row : ℕ) (rows : List ℕ) (s : Scope) (bodies : List ℕ) (current : CodeOption (List ℕ)) (layout : List ℕ) : Type 0 where
   pub sees : Sees rows s bodies
   pub here : row < table_count rows expression_section
   pub reads : Readable rows s row
-  pub held : Held current
+  pub held : HeldIf current
   pub room : length layout ≡ layout_length
 
 -- what is known of a row's operand
@@ -63,52 +77,60 @@ pub record Operand (rows : List ℕ) (s : Scope) (row a : ℕ) : Type 0 where
   pub below : a < row
   pub reads : Readable rows s a
 
--- the current value's body, if it has one
-abbrev pub current_if : Bool → Body → Option Body
-current_if true b = some b
-current_if false b = none
-
 -- ---- what it gives
--- an error's number and its place; with 0 there is none
-abbrev pub fault_at : ℕ → ℕ → Option TypeError
-fault_at zero p = none
-fault_at (suc n) p = some (type_error (suc n) p)
+-- a type error of the code, as the definitions have it
+abbrev pub error_meaning : CodeError → TypeError
+error_meaning e = type_error (error_number e.error) e.place
 
--- the lowest fault of a finding, if it has any
-abbrev pub lowest_of : {A : Type 0} → Finding A → Option TypeError
-lowest_of (ok a) = none
-lowest_of (fail es) = lowest_fault es
+abbrev pub fault_meaning : CodeOption CodeError → Option TypeError
+fault_meaning (Some e) = some (error_meaning e)
+fault_meaning None = none
 
--- whether there is a body, and the lowest fault
-pub record Finds {A : Type 0} (c : Checked) (o : Finding A) : Type 0 where
-  pub known : c.known ≡ is_ok o
-  pub fault : fault_at c.error c.place ≡ lowest_of o
+-- a row's own fault, and its rule
+abbrev pub own_fault : Error → ℕ → CodeOption CodeError
+own_fault e r = Some (record { error = e; place = r })
 
--- two at once
-pub record Together (c x y : Checked) : Type 0 where
-  pub known : c.known ≡ (x.known && y.known)
-  pub fault : fault_at c.error c.place ≡ lower (fault_at x.error x.place) (fault_at y.error y.place)
+abbrev pub own_found : CodeResult HalfTyped Error → ℕ → CodeResult HalfTyped (CodeOption CodeError)
+own_found (Ok h) r = Ok h
+own_found (Err e) r = Err (own_fault e r)
 
--- the body of the elements; what is held is a body in any case, and that of the inner yoke's current value where this has one
-pub record Elements (c : Checked) (o : Finding Body) : Type 0 where
-  pub finds : Finds c o
+-- no answer, and the lowest fault if there is any
+pub record Fails {A : Type 0} (f : CodeOption CodeError) (o : Finding A) : Type 0 where
+  pub faults : List TypeError
+  pub is : o ≡ fail faults
+  pub lowest : fault_meaning f ≡ lowest_fault faults
+
+-- two at once: both, or the lower of their faults
+abbrev pub lowest_of : {A : Type 0} → CodeResult A (CodeOption CodeError) → Option TypeError
+lowest_of (Ok a) = none
+lowest_of (Err f) = fault_meaning f
+
+abbrev pub Together : {A B : Type 0} → CodeResult (A × B) (CodeOption CodeError) → CodeResult A (CodeOption CodeError) → CodeResult B (CodeOption CodeError) → Type 0
+Together (Ok c) x y = (x ≡ Ok c.0) × (y ≡ Ok c.1)
+Together (Err f) x y = ((is_ok x && is_ok y) ≡ false) × (fault_meaning f ≡ lower (lowest_of x) (lowest_of y))
+
+-- the body of the elements
+pub record ElementsBody (x : List ℕ) (o : Finding Body) : Type 0 where
   pub element : Body
-  pub holds : Holds c.body element
-  pub is : answer_of o ≡ current_if c.known element
+  pub is : o ≡ ok element
+  pub holds : Holds x element
+
+abbrev pub Elements : CodeResult (List ℕ) (CodeOption CodeError) → Finding Body → Type 0
+Elements (Ok x) o = ElementsBody x o
+Elements (Err f) o = Fails f o
 
 -- the row's two numbers are in the layout table
-pub record Noted (c : Checked) (row : ℕ) (body : List ℕ) (second : ℕ) (entry exit : List ℕ) : Type 0 where
-  pub known : c.known ≡ true
-  pub passed : c.error ≡ 0
-  pub same : c.body ≡ body
+pub record Noted (row : ℕ) (body : List ℕ) (second : ℕ) (entry exit : List ℕ) : Type 0 where
   pub layout : (b : Body) → Holds body b → exit ≡ set (set entry (2 * row) (size b)) (2 * row + 1) second
 
 -- the body, and the layout table with the entries in it
-pub record Passes (c : Checked) (entry exit : List ℕ) (t : Typed) : Type 0 where
-  pub holds : Holds c.body t.body
-  pub layout : exit ≡ placed t.entries entry
+pub record Passes (x entry exit : List ℕ) (o : Finding Typed) : Type 0 where
+  pub typed : Typed
+  pub is : o ≡ ok typed
+  pub holds : Holds x typed.body
+  pub layout : exit ≡ placed typed.entries entry
 
 -- the code's answer is the definition's; what the layout table holds where there is no body is not said
-pub record Gives (c : Checked) (entry exit : List ℕ) (o : Finding Typed) : Type 0 where
-  pub finds : Finds c o
-  pub passes : (t : Typed) → o ≡ ok t → Passes c entry exit t
+abbrev pub Gives : CodeResult (List ℕ) (CodeOption CodeError) → List ℕ → List ℕ → Finding Typed → Type 0
+Gives (Ok x) entry exit o = Passes x entry exit o
+Gives (Err f) entry exit o = Fails f o

@@ -1,14 +1,14 @@
 // The check of an expression, down its tree: operands are lower rows, so the row number falls at each call. It goes on behind a
 // fault, so that every row is gone through once. A row that has a body is noted in the layout table, after its operands.
+ghost use Rattle.std.proofs.Math.Option.{Option};
 ghost use Rattle.lingua.specs.Body.{Body};
 ghost use Rattle.lingua.specs.Expression.{Connective, unary, binary, lazy, choice, all_list};
 ghost use Rattle.lingua.specs.Operations.{unary_meaning, binary_meaning};
 ghost use Rattle.lingua.specs.Typing.{check};
 ghost use Rattle.lingua.specs.Trees.{expression_tree};
-ghost use Rattle.body.specs.Encode.{Holds};
-ghost use Rattle.typing.specs.Check.{Asked, Operand, Gives, current_if, variable_bodies};
+ghost use Rattle.typing.specs.Check.{Asked, Operand, HoldsIf, Gives, variable_bodies};
 
-use crate::findings::{Checked, elements, fault, together};
+use crate::findings::{Found, elements, fault, own_rule, together};
 use crate::leaves::{note_current, note_row, variable_body};
 use body::parts::same;
 use body::walk::measure_body;
@@ -16,7 +16,7 @@ use body_half::operation::{binary_half, unary_half};
 use body_half::unary::is_boolean;
 use decoder::decode::ExpressionRow as Row;
 use decoder::tables::Table;
-use lingua::errors::{BOOLEAN_EXPECTED, NO_COHERENCE, YOKE_EXPECTED};
+use lingua::errors::Error;
 use lingua::operations::{BinaryOperation, UnaryOperation};
 use lingua::sizes::BODY_BYTES;
 use profile::constants::constant_body;
@@ -29,37 +29,38 @@ pub struct Scope {
     pub variables: Table,
 }
 
-// What is found of an expression row. The current value has the body `current`, or none unless `known`.
+// What is found of an expression row. The current value has the body `current`, or none.
 #[cycle(all_list_binary_check_choice_lazy_unary)]
 pub fn check(
     row: usize,
     rows: &[u8],
     scope: Scope,
     bodies: &[u8],
-    known: bool,
-    current: [u8; BODY_BYTES],
+    current: Option<[u8; BODY_BYTES]>,
     layout: &mut [u16],
-) -> Checked
+) -> Found<[u8; BODY_BYTES]>
     requires { Asked row rows.now scope bodies.now current layout.old }
-    ensures { (b : Body) → Holds current b → Gives result layout.old layout.new (check (expression_tree rows.now row) (variable_bodies rows.now scope.variables.section) (current_if known b)) }
+    ensures { (b : Option Body) → HoldsIf current b → Gives result layout.old layout.new (check (expression_tree rows.now row) (variable_bodies rows.now scope.variables.section) b) }
 {
     let table = scope.expressions;
     let e = expression_row(rows, table, row);
     match e {
         Row::Constant(_) => {
             let body = constant_body(rows, table, row);
-            note_row(row, body, 0, layout)
+            note_row(row, body, 0, layout);
+            Ok(body)
         }
         Row::Variable(n) => {
             let body = variable_body(rows, scope.variables, bodies, n);
-            note_row(row, body, 0, layout)
+            note_row(row, body, 0, layout);
+            Ok(body)
         }
-        Row::Current => note_current(row, known, current, layout),
-        Row::Unary(o, a) => unary(row, rows, scope, bodies, o, a, known, current, layout),
-        Row::Binary(o, a, b) => binary(row, rows, scope, bodies, o, a, b, known, current, layout),
-        Row::Lazy(_, a, b) => lazy(row, rows, scope, bodies, a, b, known, current, layout),
-        Row::Choice(a, b, c) => choice(row, rows, scope, bodies, a, b, c, known, current, layout),
-        Row::AllList(a) => all_list(row, rows, scope, bodies, a, known, current, layout),
+        Row::Current => note_current(row, current, layout),
+        Row::Unary(o, a) => unary(row, rows, scope, bodies, o, a, current, layout),
+        Row::Binary(o, a, b) => binary(row, rows, scope, bodies, o, a, b, current, layout),
+        Row::Lazy(_, a, b) => lazy(row, rows, scope, bodies, a, b, current, layout),
+        Row::Choice(a, b, c) => choice(row, rows, scope, bodies, a, b, c, current, layout),
+        Row::AllList(a) => all_list(row, rows, scope, bodies, a, current, layout),
     }
 }
 
@@ -72,25 +73,17 @@ fn unary(
     bodies: &[u8],
     o: UnaryOperation,
     a: usize,
-    known: bool,
-    current: [u8; BODY_BYTES],
+    current: Option<[u8; BODY_BYTES]>,
     layout: &mut [u16],
-) -> Checked
+) -> Found<[u8; BODY_BYTES]>
     requires asked { Asked row rows.now scope bodies.now current layout.old }
     requires operand { Operand rows.now scope row a }
-    ensures { (b : Body) → Holds current b → Gives result layout.old layout.new (check (unary row (unary_meaning o) (expression_tree rows.now a)) (variable_bodies rows.now scope.variables.section) (current_if known b)) }
+    ensures { (b : Option Body) → HoldsIf current b → Gives result layout.old layout.new (check (unary row (unary_meaning o) (expression_tree rows.now a)) (variable_bodies rows.now scope.variables.section) b) }
 {
-    let x = check(a, rows, scope, bodies, known, current, layout);
-    if !x.known {
-        return x;
-    }
-    let of = x.body;
-    let h = unary_half(o, of);
-    if h.error != 0 {
-        return fault(h.error, row);
-    }
-    let body = h.body;
-    note_row(row, body, h.offset, layout)
+    let x = check(a, rows, scope, bodies, current, layout)?;
+    let h = own_rule(unary_half(o, x), row)?;
+    note_row(row, h.body, h.offset, layout);
+    Ok(h.body)
 }
 
 // Both operands, then the row's own half on bodies.
@@ -103,28 +96,19 @@ fn binary(
     o: BinaryOperation,
     a: usize,
     b: usize,
-    known: bool,
-    current: [u8; BODY_BYTES],
+    current: Option<[u8; BODY_BYTES]>,
     layout: &mut [u16],
-) -> Checked
+) -> Found<[u8; BODY_BYTES]>
     requires asked { Asked row rows.now scope bodies.now current layout.old }
     requires operand { Operand rows.now scope row a × Operand rows.now scope row b }
-    ensures { (d : Body) → Holds current d → Gives result layout.old layout.new (check (binary row (binary_meaning o) (expression_tree rows.now a) (expression_tree rows.now b)) (variable_bodies rows.now scope.variables.section) (current_if known d)) }
+    ensures { (d : Option Body) → HoldsIf current d → Gives result layout.old layout.new (check (binary row (binary_meaning o) (expression_tree rows.now a) (expression_tree rows.now b)) (variable_bodies rows.now scope.variables.section) d) }
 {
-    let x = check(a, rows, scope, bodies, known, current, layout);
-    let y = check(b, rows, scope, bodies, known, current, layout);
-    let all = together(x, y);
-    if !all.known {
-        return all;
-    }
-    let left = x.body;
-    let right = y.body;
-    let h = binary_half(o, left, right);
-    if h.error != 0 {
-        return fault(h.error, row);
-    }
-    let body = h.body;
-    note_row(row, body, h.offset, layout)
+    let x = check(a, rows, scope, bodies, current, layout);
+    let y = check(b, rows, scope, bodies, current, layout);
+    let (left, right) = together(x, y)?;
+    let h = own_rule(binary_half(o, left, right), row)?;
+    note_row(row, h.body, h.offset, layout);
+    Ok(h.body)
 }
 
 // And and or: both operands, and then that each is Boolean.
@@ -136,29 +120,24 @@ fn lazy(
     bodies: &[u8],
     a: usize,
     b: usize,
-    known: bool,
-    current: [u8; BODY_BYTES],
+    current: Option<[u8; BODY_BYTES]>,
     layout: &mut [u16],
-) -> Checked
+) -> Found<[u8; BODY_BYTES]>
     requires asked { Asked row rows.now scope bodies.now current layout.old }
     requires operand { Operand rows.now scope row a × Operand rows.now scope row b }
-    ensures { (k : Connective) (d : Body) → Holds current d → Gives result layout.old layout.new (check (lazy row k (expression_tree rows.now a) (expression_tree rows.now b)) (variable_bodies rows.now scope.variables.section) (current_if known d)) }
+    ensures { (k : Connective) (d : Option Body) → HoldsIf current d → Gives result layout.old layout.new (check (lazy row k (expression_tree rows.now a) (expression_tree rows.now b)) (variable_bodies rows.now scope.variables.section) d) }
 {
-    let x = check(a, rows, scope, bodies, known, current, layout);
-    let y = check(b, rows, scope, bodies, known, current, layout);
-    let all = together(x, y);
-    if !all.known {
-        return all;
+    let x = check(a, rows, scope, bodies, current, layout);
+    let y = check(b, rows, scope, bodies, current, layout);
+    let (one, other) = together(x, y)?;
+    if !is_boolean(one) {
+        return Err(fault(Error::BooleanExpected, row));
     }
-    let left = x.body;
-    if !is_boolean(left) {
-        return fault(BOOLEAN_EXPECTED, row);
+    if !is_boolean(other) {
+        return Err(fault(Error::BooleanExpected, row));
     }
-    let right = y.body;
-    if !is_boolean(right) {
-        return fault(BOOLEAN_EXPECTED, row);
-    }
-    note_row(row, right, 0, layout)
+    note_row(row, other, 0, layout);
+    Ok(other)
 }
 
 // The test and both branches, that the test is Boolean, and then that the branches' bodies are equal.
@@ -171,32 +150,25 @@ fn choice(
     a: usize,
     b: usize,
     c: usize,
-    known: bool,
-    current: [u8; BODY_BYTES],
+    current: Option<[u8; BODY_BYTES]>,
     layout: &mut [u16],
-) -> Checked
+) -> Found<[u8; BODY_BYTES]>
     requires asked { Asked row rows.now scope bodies.now current layout.old }
     requires operand { Operand rows.now scope row a × (Operand rows.now scope row b × Operand rows.now scope row c) }
-    ensures { (d : Body) → Holds current d → Gives result layout.old layout.new (check (choice row (expression_tree rows.now a) (expression_tree rows.now b) (expression_tree rows.now c)) (variable_bodies rows.now scope.variables.section) (current_if known d)) }
+    ensures { (d : Option Body) → HoldsIf current d → Gives result layout.old layout.new (check (choice row (expression_tree rows.now a) (expression_tree rows.now b) (expression_tree rows.now c)) (variable_bodies rows.now scope.variables.section) d) }
 {
-    let t = check(a, rows, scope, bodies, known, current, layout);
-    let yes = check(b, rows, scope, bodies, known, current, layout);
-    let no = check(c, rows, scope, bodies, known, current, layout);
-    let branches = together(yes, no);
-    let all = together(t, branches);
-    if !all.known {
-        return all;
-    }
-    let test = t.body;
+    let t = check(a, rows, scope, bodies, current, layout);
+    let yes = check(b, rows, scope, bodies, current, layout);
+    let no = check(c, rows, scope, bodies, current, layout);
+    let (test, (chosen, other)) = together(t, together(yes, no))?;
     if !is_boolean(test) {
-        return fault(BOOLEAN_EXPECTED, row);
+        return Err(fault(Error::BooleanExpected, row));
     }
-    let chosen = yes.body;
-    let other = no.body;
     if !same(chosen, other) {
-        return fault(NO_COHERENCE, row);
+        return Err(fault(Error::NoCoherence, row));
     }
-    note_row(row, chosen, 0, layout)
+    note_row(row, chosen, 0, layout);
+    Ok(chosen)
 }
 
 // The inner yoke on an element's body, if there is one, and then that it is Boolean. A current value that is no list is a fault
@@ -208,25 +180,20 @@ fn all_list(
     scope: Scope,
     bodies: &[u8],
     a: usize,
-    known: bool,
-    current: [u8; BODY_BYTES],
+    current: Option<[u8; BODY_BYTES]>,
     layout: &mut [u16],
-) -> Checked
+) -> Found<[u8; BODY_BYTES]>
     requires asked { Asked row rows.now scope bodies.now current layout.old }
     requires operand { Operand rows.now scope row a }
-    ensures { (b : Body) → Holds current b → Gives result layout.old layout.new (check (all_list row (expression_tree rows.now a)) (variable_bodies rows.now scope.variables.section) (current_if known b)) }
+    ensures { (b : Option Body) → HoldsIf current b → Gives result layout.old layout.new (check (all_list row (expression_tree rows.now a)) (variable_bodies rows.now scope.variables.section) b) }
 {
-    let list = elements(row, known, current);
-    let element = list.body;
-    let x = check(a, rows, scope, bodies, list.known, element, layout);
-    let all = together(x, list);
-    if !all.known {
-        return all;
-    }
-    let result = x.body;
-    if !is_boolean(result) {
-        return fault(YOKE_EXPECTED, row);
+    let list = elements(row, current);
+    let x = check(a, rows, scope, bodies, list.ok(), layout);
+    let (inner, element) = together(x, list)?;
+    if !is_boolean(inner) {
+        return Err(fault(Error::YokeExpected, row));
     }
     let m = measure_body(element);
-    note_row(row, result, m.cells, layout)
+    note_row(row, inner, m.cells, layout);
+    Ok(inner)
 }

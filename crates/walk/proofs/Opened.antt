@@ -1,13 +1,13 @@
 -- A call for which there is room, by what its parts ask and give: its variables before the body, the body on them with a shorter area, and what
 -- comes behind it. Assumes nothing.
-use mathlib.Core.Path.{◌≡◌, sym, ap, ◌∙◌, subst}
+use mathlib.Core.Path.{◌≡◌, refl, sym, ap, ◌∙◌, subst}
 use mathlib.Core.Bool.{false}
 use mathlib.Core.List.{List, [], ◌++◌, append-nil}
 use Prim.Native.Nat.{ℕ, zero, suc, ◌+◌, ◌-◌, ◌≤◌, ◌<◌}
 use native.Mathlib.Omega.{arith}
-use lib.IntN.{ℤ}
-use lib.ListN.{length, take, drop, replicate, length-replicate, length-append, length-drop, take-append-drop}
-use lib.Seq.{length-take-le, take_at, drop-length}
+use lib.IntN.{ℤ, pos}
+use lib.ListN.{length, take, drop, replicate, length-replicate, length-drop}
+use lib.Seq.{length-take-le, drop-length}
 use borrow.Author.Rules.{part_to_end}
 use Rattle.lingua.specs.Numbers.{cells_length, states_length, variable_bodies_length, instruction_section}
 use Rattle.lingua.specs.Errors.{no_error, too_deep}
@@ -27,9 +27,9 @@ use Rattle.frames.specs.declared.way.Way.TheVariants as way
 use Rattle.frames.specs.Meaning.{Holds, HeadsOf}
 use Rattle.frames.specs.Kept.{BodiesAre, holds_fills}
 use Rattle.opening.specs.Meaning.{Setting, AreaBodies, AreaOf}
-use Rattle.opening.specs.Calls.{unlimited, fresh_of, given_all, Calls, Calling, ZeroBodies, ZerosBy, Enters, rest, with_rest, bodies_of_call, Left, Leaving, Leaves}
+use Rattle.opening.specs.Calls.{unlimited, alone, fresh_of, given_all, Calls, Calling, ZeroBodies, ZerosBy, Enters, rest, with_rest, bodies_of_call, Left, Leaving, Leaves}
 use Rattle.opening.proofs.Rows.{holds_accepted, scope_row_lem, root_under}
-use Rattle.walk.specs.Meaning.{calling, Stands, Asked, Executes, Opening, Zeros, Opens}
+use Rattle.walk.specs.Meaning.{calling, Stands, Asked, Executes, Opening, Opens}
 use Rattle.walk.proofs.Rows.{facts, row_inside}
 use Rattle.walk.proofs.Calling.{call_deep, call_opened, call_failed, callable_unlimited, rest_area}
 
@@ -53,19 +53,6 @@ bodies_by way.Erased bodies vs h = ap length h
 few_bodies : (w : Way) → bodies_of_call w ≤ variable_bodies_length
 few_bodies way.Checked = omega arith
 few_bodies way.Erased = omega arith
-
--- what is lent of a memory's front is as long as it is said to be
-pub front_long : (n : ℕ) (xs : List ℕ) → n ≤ length xs → n ≡ length (take n xs)
-front_long n xs l = sym (length-take-le n xs l)
-
--- a memory is as long as it was once its front came back
-pub back_long : (n : ℕ) (xs ys : List ℕ) → length ys ≡ length (take n xs) → length (ys ++ drop n xs) ≡ length xs
-back_long n xs ys e =
-    length-append ys (drop n xs) ∙ ap (λ (k : ℕ). k + length (drop n xs)) e ∙ sym (length-append (take n xs) (drop n xs)) ∙ ap length (take-append-drop n xs)
-
--- the front that came back, lent again
-pub front_again : (cells : List ℤ) (states ys zs : List ℕ) (n : ℕ) → length ys ≡ n → lent cells states (take n (ys ++ zs)) ≡ lent cells states ys
-front_again cells states ys zs n e = ap (λ (q : List ℕ). lent cells states q) (take_at ys zs n e)
 
 -- what lies behind a list's front, lent and come back
 nothing_left : {A : Type 0} (xs : List A) (n : ℕ) → drop (length xs - n) (drop n xs) ≡ []
@@ -104,14 +91,28 @@ unfolding AreaBodies
 area_bodies way.Checked n bodies e = omega (arith, e)
 area_bodies way.Erased n bodies e = omega arith
 
--- what a procedure's variables are run with
-abbrev pub alone : Setting → Setting
-alone s = record { context = unlimited s.context; types = s.types; heads = s.heads }
-
 -- the same of other names for it
 pub ran_as : {i j : ℕ} {w : Way} {s : Setting} {l own o before after free : Lent} {m r : Status} → i ≡ j → l ≡ own → o ≡ before → Executes i w s l o after free m r → Executes j w s own before after free m r
 ran_as {i} {j} {w} {s} {l} {own} {o} {before} {after} {free} {m} {r} e f g x =
     subst (λ (q : ℕ). Executes q w s own before after free m r) e (subst (λ (q : Lent). Executes i w s q before after free m r) f (subst (λ (q : Lent). Executes i w s l q after free m r) g x))
+
+-- ---- memory for a call's variables, as the machine gives it
+module _ {row : ℕ} {w : Way} {s : Setting} {u : Table} {l o : Lent} {m : Status} {room : ℕ} (a : Asked row w s u l o m room) where
+  bodies_as : length l.bodies ≡ bodies_of_call w
+  bodies_as = bodies_by w l.bodies a.store (holds_fills w a.stands.holds).bodies_are
+
+  -- there is room for the bodies of a call's variables
+  pub front_fits : length l.bodies ≤ variable_bodies_length
+  front_fits = omega (arith, bodies_as, few_bodies w)
+
+  -- what is lent of them is as long as it is said to be
+  pub front_long : length l.bodies ≡ length {A = ℕ} (take (length l.bodies) (replicate variable_bodies_length 0))
+  front_long =
+      sym (length-take-le (length l.bodies) (replicate variable_bodies_length 0) (omega (arith, front_fits, (let e : length (replicate variable_bodies_length zero) ≡ variable_bodies_length = length-replicate {A = ℕ} variable_bodies_length 0 in e))))
+
+  pub zeros_by : {bodies : List ℕ} → bodies ≡ take (length l.bodies) (replicate variable_bodies_length 0) → ZerosBy w (lent (replicate cells_length (pos 0)) (replicate states_length 0) bodies)
+  zeros_by e =
+      record { cells_are = refl; states_are = refl; bodies_are = subst (λ (q : List ℕ). ZeroBodies w q) (sym (e ∙ ap (λ (q : ℕ). take q (replicate variable_bodies_length 0)) bodies_as)) (zero_front w (replicate variable_bodies_length 0) refl) }
 
 module _ {row k b c : ℕ} {w : Way} {s : Setting} {u : Table} {l o : Lent} {m : Status} {room : ℕ} (a : Opening row k b c w s u l o m room) where
   rows : List ℕ
@@ -132,15 +133,7 @@ module _ {row k b c : ℕ} {w : Way} {s : Setting} {u : Table} {l o : Lent} {m :
   heads_there = a.asked.stands.callable.heads_are
 
   pub own_bodies : length l.bodies ≡ bodies_of_call w
-  own_bodies = bodies_by w l.bodies a.asked.store (holds_fills w a.asked.stands.holds).bodies_are
-
-  pub zeros_by : {cells : List ℤ} {states bodies : List ℕ} → Zeros cells states bodies → (n : ℕ) → n ≡ length l.bodies → ZerosBy w (lent cells states (take n bodies))
-  zeros_by {bodies = bodies} z n e =
-      record { cells_are = z.cells_are; states_are = z.states_are; bodies_are = subst (λ (q : ℕ). ZeroBodies w (take q bodies)) (sym (e ∙ own_bodies)) (zero_front w bodies z.bodies_are) }
-
-  -- the bodies of a call's variables lie in the memory that it has for them
-  pub front_fits : {cells : List ℤ} {states bodies : List ℕ} → Zeros cells states bodies → length l.bodies ≤ length bodies
-  front_fits z = omega (arith, own_bodies, few_bodies w, ap length z.bodies_are ∙ (let e : length (replicate variable_bodies_length zero) ≡ variable_bodies_length = length-replicate {A = ℕ} variable_bodies_length 0 in e))
+  own_bodies = bodies_as a.asked
 
   -- ---- there is room
   some_left : (n : ℕ) → AreaOf w n o → 1 ≤ n

@@ -1,6 +1,6 @@
 -- What the one walk of instructions asks of its memory and gives, in each of the two ways to run. Assumes nothing: these are definitions.
-use Rattle.std.specs.Prelude.{◌≡◌, List, ℕ, ◌+◌, ◌*◌, ◌≤◌, ◌<◌, ℤ, pos, length, replicate}
-use Rattle.lingua.specs.Numbers.{body_cells, cells_length, states_length, variable_bodies_length, instruction_section}
+use Rattle.std.specs.Prelude.{◌≡◌, List, ℕ, ◌+◌, ◌*◌, ◌≤◌, ◌<◌, length}
+use Rattle.lingua.specs.Numbers.{body_cells, cells_length, instruction_section}
 use Rattle.lingua.specs.Store.{Variable, assigned}
 use Rattle.lingua.specs.Run.{Calling, exec, called, Profile}
 use Rattle.lingua.specs.Trees.{instruction_tree, given_values, given_references}
@@ -59,12 +59,6 @@ pub record Opening (row k b c : ℕ) (w : Way) (s : Setting) (u : Table) (l o : 
   pub called : CallAt s.context.rows row k b c
   pub room_left : cells_length ≤ length o.cells
   pub clean : m.error ≡ 0
-
--- memory for a call's variables, as the machine gives it
-pub record Zeros (cells : List ℤ) (states bodies : List ℕ) : Type 0 where
-  pub cells_are : cells ≡ replicate cells_length (pos 0)
-  pub states_are : states ≡ replicate states_length 0
-  pub bodies_are : bodies ≡ replicate variable_bodies_length 0
 
 -- what the call does
 pub record Opens (row k b c : ℕ) (w : Way) (s : Setting) (l o after free : Lent) (m r : Status) : Type 0 where

@@ -15,8 +15,16 @@ use Rattle.run.specs.Statuses.{state_of}
 use Rattle.run.specs.Reached.{Lent, Holding, Going}
 use Rattle.frames.specs.declared.way.Way.{Way}
 use Rattle.frames.specs.declared.way.Way.TheVariants as way
+use Rattle.frames.specs.declared.memory.Context.{Context as ContextRead}
+use Rattle.frames.specs.Lending.{context_of}
+use Rattle.decoder.specs.declared.tables.Tables.{Tables}
 use Rattle.frames.specs.Meaning.{Context, Holds, Callable}
 use Rattle.opening.specs.Meaning.{Setting}
+
+-- ---- what is given
+-- a context with where the tables say that procedures begin, and the bodies of the type rows
+abbrev pub setting_in : ContextRead → Tables → List ℕ → Setting
+setting_in c t types = record { context = context_of c; types = types; heads = t.procedures.heads }
 
 -- ---- readings
 -- two slices of one length, each of whose variables is a number variable (document 01: rule 16)

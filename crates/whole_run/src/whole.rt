@@ -1,82 +1,56 @@
 // A whole run on begun memory: the inputs, then the program, which is the last instruction row.
 ghost use Rattle.lingua.specs.Calls.{readings_of};
 ghost use Rattle.decoder.specs.Tables.{AreTables};
-ghost use Rattle.run.specs.Reached.{lent};
-ghost use Rattle.opening.specs.Meaning.{setting};
-ghost use Rattle.whole_run.specs.Meaning.{Begins, Readable, Runs};
+ghost use Rattle.frames.specs.Lending.{lent_in, SameSlices};
+ghost use Rattle.whole_run.specs.Meaning.{setting_in, Begins, Readable, Runs};
 
 use crate::inputs::take_readings;
 use decoder::tables::Tables;
-use frames::way::Way;
+use frames::memory::{Context, Memory};
 use lingua::RunAnswer;
 use lingua::sizes::STACK_LENGTH;
+use opening::setting::Setting;
 use run::steps::{ended, fresh};
 use walk::exec::exec;
 
 // Each level of an expression's tree has 64 cells of the operand stack.
 pub fn run(
-    way: Way,
-    rows: &[u8],
+    context: &Context,
     tables: Tables,
-    heads: &[usize],
     types: &[u8],
-    bodies: &mut [u8],
-    layout: &[u16],
-    kept: &[i64],
+    memory: &mut Memory,
+    area: &mut Memory,
     who: &[u16],
     numbers: &[i64],
     budget: u16,
-    cells: &mut [i64],
-    states: &mut [u16],
-    open_bodies: &mut [u8],
-    open_cells: &mut [i64],
-    open_states: &mut [u16],
 ) -> RunAnswer
-    requires are_tables { AreTables rows.now tables }
-    requires begins { Begins way (setting rows.now tables.expressions layout.now kept.now types.now heads.now) (lent cells.old states.old bodies.old) (lent open_cells.old open_states.old open_bodies.old) }
-    requires readable { Readable rows.now who.now numbers.now }
-    ensures { Runs way (setting rows.now tables.expressions layout.now kept.now types.now heads.now) (lent cells.old states.old bodies.old) (lent open_cells.old open_states.old open_bodies.old)
-        (lent cells.new states.new bodies.new) (lent open_cells.new open_states.new open_bodies.new) (readings_of who.now numbers.now) budget result }
+    requires are_tables { AreTables context.now.rows.now tables }
+    requires begins { Begins context.now.way (setting_in context.now tables types.now) (lent_in memory.old) (lent_in area.old) }
+    requires readable { Readable context.now.rows.now who.now numbers.now }
+    ensures runs { Runs context.now.way (setting_in context.now tables types.now) (lent_in memory.old) (lent_in area.old) (lent_in memory.new) (lent_in area.new) (readings_of who.now numbers.now) budget result }
+    ensures same_slices { SameSlices memory.old memory.new × SameSlices area.old area.new }
 {
-    let t = tables.expressions;
-    let u = tables.instructions;
+    let procedures = tables.procedures;
+    let heads = procedures.heads;
+    let setting = Setting {
+        context: *context,
+        instructions: tables.instructions,
+        heads: &heads,
+        types,
+    };
     let mut stack = [0i64; STACK_LENGTH];
     let first = fresh(budget);
     let taken = take_readings(
-        way,
-        rows,
-        t,
+        context,
         tables.declarations,
         tables.types,
-        &mut *bodies,
-        layout,
-        kept,
-        &mut *cells,
-        &mut *states,
+        memory,
         who,
         numbers,
         first,
         &mut stack,
     );
-    let row = u.count - 1;
-    let last = exec(
-        row,
-        way,
-        rows,
-        t,
-        u,
-        heads,
-        types,
-        bodies,
-        layout,
-        kept,
-        cells,
-        states,
-        open_bodies,
-        open_cells,
-        open_states,
-        taken,
-        &mut stack,
-    );
+    let row = tables.instructions.count - 1;
+    let last = exec(row, &setting, memory, area, taken, &mut stack);
     ended(last, budget)
 }

@@ -3,7 +3,6 @@ use mathlib.Core.Path.{ap, ◌∙◌}
 use lib.IntN.{ℤ}
 use mir.ValLaws.{to_z-of_z}
 use Rattle.lingua.specs.Compute.{ranged}
-use Rattle.arith.specs.Image.{image}
 use Rattle.arith.proofs.Range.{add_fits}
 use Rattle.arith.proofs.add.Goals as goal
 
@@ -16,5 +15,5 @@ returns c =
     let s = c in
     let h = s.args.hundredths in
     c.checked.ensures
-    ∙ ap (λ (z : ℤ). image (ranged h z))
+    ∙ ap (λ (z : ℤ). ranged h z)
     (simp (to_z-of_z _ _ s.ranges.x, to_z-of_z _ _ s.ranges.y) (to_z-of_z _ _ (add_fits h _ _ s.requires.x_value s.requires.y_value)))

@@ -1,15 +1,17 @@
 -- `divide` meets its contract: the bits of a divisor are 0 for 0 alone, and each of the three ends has its law in `Range`. Assumes nothing.
 use mathlib.Core.Path.{ap, ◌∙◌}
-use mathlib.Core.Bool.{true}
+use mathlib.Core.Bool.{Bool, true}
 use native.Mathlib.Omega.{arith}
 use lib.IntN.{ℤ}
 use mir.Syntax.{w64}
-use mir.Val.{of_z}
+use mir.Val.{to_z, of_z}
 use mir.ValLaws.{to_z-of_z}
 use Rattle.lingua.specs.Compute.{ranged}
-use Rattle.arith.specs.Image.{image}
+use Rattle.arith.specs.Told.{told_quantity}
 use Rattle.arith.specs.Ranges.{quantity_size}
-use Rattle.arith.specs.declared.Number.TheVariants.{Whole}
+use Rattle.std.specs.Prelude.{Ok}
+use Rattle.lingua.specs.Outcome.{ok}
+use Rattle.lingua.specs.Value.{whole}
 use Rattle.arith.proofs.Range.{hundredfold_size, hundredfold_fits, bits_zero, divide_zero, divide_counts, divide_numbers}
 use Rattle.arith.proofs.divide.Goals as goal
 
@@ -38,8 +40,9 @@ pub returns-then-hundredths : goal.returns-then-hundredths
 returns-then-hundredths c =
     let s = c in
     let h = s.args.hundredths in
-    c.checked.ensures
-    ∙ ap (λ (z : ℤ). image (ranged true z))
+    ap (λ (b : Bool). told_quantity b c.checked.result) c.if-hundredths.true
+    ∙ c.checked.ensures
+    ∙ ap (λ (z : ℤ). ranged true z)
     (to_z-of_z w64 c.nearest-q.result (record { sfits = c.nearest-q.type_inv })
     ∙ simp (to_z-of_z _ _ s.ranges.x, to_z-of_z _ _ s.ranges.y, to_z-of_z _ _ (hundredfold_fits h s.args.x s.requires.x_value)) at c.nearest-q.ensures)
     ∙ divide_counts h s.args.x s.args.y c.if-hundredths.true (λ e. c.if-y-eq0.false (ap (of_z w64) e))
@@ -59,6 +62,7 @@ quotient-requires-clause-fact c =
 pub returns : goal.returns
 returns c =
     let s = c in
-    ap Whole (to_z-of_z w64 c.quotient.result (record { sfits = c.quotient.type_inv })
+    ap (λ (b : Bool). told_quantity b (Ok (to_z w64 (of_z w64 c.quotient.result)))) c.if-hundredths.false
+    ∙ ap (λ (z : ℤ). ok (whole z)) (to_z-of_z w64 c.quotient.result (record { sfits = c.quotient.type_inv })
     ∙ simp (to_z-of_z _ _ s.ranges.x, to_z-of_z _ _ s.ranges.y) at c.quotient.ensures)
     ∙ divide_numbers s.args.hundredths s.args.x s.args.y c.if-hundredths.false (λ e. c.if-y-eq0.false (ap (of_z w64) e))

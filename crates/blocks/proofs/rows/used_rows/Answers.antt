@@ -1,29 +1,21 @@
-use Rattle.std.proofs.Common.{sym, refl, ◌∙◌, arith, rules}
+use Rattle.std.proofs.Common.{ℕ, sym, ap, refl, ◌∙◌, arith}
 use Rattle.lingua.specs.Rows.{row_count}
-use Rattle.blocks.proofs.Steps.{used_here, used_before, used_none}
+use Rattle.lingua.specs.Format.{used_rows}
+use Rattle.blocks.proofs.Steps.{used_here, used_before}
 use Rattle.blocks.proofs.rows.used_rows.Goals as goal
+use Rattle.blocks.proofs.rows.used_rows.Goals.{then-not-all_zero, else-not-all_zero}
 
-pub loop-n-init : goal.loop-n-init
-unfolding row_count
-loop-n-init c = (search rules, refl)
+pub loop-r-init : goal.loop-r-init
+unfolding used_rows
+loop-r-init c = refl
 
-pub overflow_mul-at : goal.overflow_mul-at
-unfolding row_count
-overflow_mul-at c = omega arith
-
-pub overflow_add-at : goal.overflow_add-at
-unfolding row_count
-overflow_add-at c = omega arith
-
-pub slice_bounds-all_zero-end : goal.slice_bounds-all_zero-end
-unfolding row_count
-slice_bounds-all_zero-end c = omega arith
+pub loop-r-preserved : goal.loop-r-preserved
+loop-r-preserved c =
+    elim c.if-not-all_zero.branch [
+      | then-not-all_zero w ↦ w.used-is ∙ sym (used_here c.args.areas.now c.loop-r.r c.all_zero.result c.all_zero.ensures w.if-not-all_zero.true)
+      | else-not-all_zero w ↦ w.used-is ∙ (c.loop-r.invariant ∙ sym (used_before c.args.areas.now c.loop-r.r c.all_zero.result c.all_zero.ensures w.if-not-all_zero.false))
+    ]
 
 pub returns : goal.returns
-returns c = sym (used_none c.args.areas.now c.loop-n.n (omega arith)) ∙ c.loop-n.invariant.1
-
-pub returns-then-not-all_zero : goal.returns-then-not-all_zero
-returns-then-not-all_zero c = sym (used_here c.args.areas.now c.loop-n.n c.loop-n-test.true c.all_zero.result c.all_zero.ensures c.if-not-all_zero.true) ∙ c.loop-n.invariant.1
-
-pub loop-n-preserved : goal.loop-n-preserved
-loop-n-preserved c = (omega arith, sym (used_before c.args.areas.now c.loop-n.n c.loop-n-test.true c.all_zero.result c.all_zero.ensures c.if-not-all_zero.false) ∙ c.loop-n.invariant.1)
+unfolding row_count
+returns c = c.loop-r.invariant ∙ ap (λ (n : ℕ). used_rows n c.args.areas.now) (omega arith)

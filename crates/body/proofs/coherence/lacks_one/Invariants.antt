@@ -3,8 +3,5 @@
 use Rattle.body.proofs.Lacking.{Lacking}
 use Rattle.body.proofs.coherence.lacks_one.Given as goal
 
-abbrev pub invariant-loop-left : goal.invariant-loop-left
-invariant-loop-left l = Lacking l.narrow l.wide l.left l.at
-
-abbrev pub decreases-loop-left : goal.decreases-loop-left
-decreases-loop-left l = l.left
+abbrev pub invariant-loop : goal.invariant-loop
+invariant-loop l = Lacking l.narrow l.wide l.counter l.at

@@ -1,89 +1,32 @@
-use mathlib.Core.Path.{◌≡◌}
-use Prim.Native.Nat.{◌+◌}
 use native.Mathlib.Omega.{arith}
-use lib.ListN.{length}
-use Rattle.body.proofs.Places.{at_below}
-use Rattle.body.proofs.Measures.{first_at}
-use Rattle.body.proofs.Finding.{some_ahead, next_body, search_start, search_hit, search_on, search_miss}
-use borrow.Author.Rules.{rules}
+use Rattle.body.proofs.Finding.{some_next, next_below, search_start, search_hit, search_on, search_miss}
 use Rattle.body.proofs.find.find.Goals as goal
 
-pub loop-left-init : goal.loop-left-init
-loop-left-init c = search_start c.args.body c.args.n c.requires
+pub loop-init : goal.loop-init
+loop-init c = search_start c.args.body c.args.n c.requires
 
 pub bounds-body-at : goal.bounds-body-at
-bounds-body-at c =
-    let args = c.args in
-    let l = c.loop-left in
-    let s = l.invariant.state in
-    let n : length args.body ≡ 96 = search rules in
-    omega (arith, n, at_below args.body (l.at + 1) _ (next_body args.body l.left l.at c.loop-left-test.true s))
+bounds-body-at c = omega (arith, next_below c.loop.invariant.state c.loop-test.true)
 
 pub overflow_add-result : goal.overflow_add-result
-overflow_add-result c =
-    let loop = c.loop-left in
-    let args = c.args in
-    let l = loop in
-    let s = l.invariant.state in
-    let n : length args.body ≡ 96 = search rules in
-    omega (arith, n, at_below args.body (l.at + 1) _ (next_body args.body l.left l.at c.loop-left-test.true s))
+overflow_add-result c = omega (arith, next_below c.loop.invariant.state c.loop-test.true)
 
 pub returns-then-body-at : goal.returns-then-body-at
-returns-then-body-at c =
-    let loop = c.loop-left in
-    let args = c.args in
-    let l = loop in
-    search_hit args.body args.n l.left l.at l.offset l.invariant c.loop-left-test.true c.if-body-at.true
+returns-then-body-at c = search_hit _ _ _ _ _ c.loop.invariant c.loop-test.true c.if-body-at.true
 
 pub overflow_add-at : goal.overflow_add-at
-overflow_add-at c =
-    let loop = c.loop-left in
-    let args = c.args in
-    let l = loop in
-    let s = l.invariant.state in
-    let n : length args.body ≡ 96 = search rules in
-    omega (arith, n, at_below args.body (l.at + 1) _ (next_body args.body l.left l.at c.loop-left-test.true s))
+overflow_add-at c = omega (arith, next_below c.loop.invariant.state c.loop-test.true)
 
 pub measured-m-requires : goal.measured-m-requires
-measured-m-requires c =
-    let loop = c.loop-left in
-    let args = c.args in
-    let l = loop in
-    first_at args.body l.at l.left c.loop-left-test.true (some_ahead args.body l.left l.at l.invariant.state)
+measured-m-requires c = some_next c.loop.invariant.state c.loop-test.true
 
 pub overflow_add-offset : goal.overflow_add-offset
 overflow_add-offset c =
-    let loop = c.loop-left in
-    let args = c.args in
-    let loop_test = c.loop-left-test in
-    let if1 = c.if-body-at in
-    let measured = c.measured-m in
-    let l = loop in
-    omega (arith, (search_on args.body args.n l.left l.at l.offset l.invariant loop_test.true if1.false measured.result measured.ensures).few_cells)
+    omega (arith, (search_on _ _ _ _ _ c.loop.invariant c.loop-test.true c.if-body-at.false c.measured-m.result c.measured-m.ensures).few_cells)
 
-pub overflow_sub-left : goal.overflow_sub-left
-overflow_sub-left c =
-    let loop_test = c.loop-left-test in
-    let f = loop_test.true in omega (arith, f)
-
-pub loop-left-smaller : goal.loop-left-smaller
-loop-left-smaller c =
-    let loop_test = c.loop-left-test in
-    let f = loop_test.true in omega (arith, f)
-
-pub loop-left-preserved : goal.loop-left-preserved
-loop-left-preserved c =
-    let loop = c.loop-left in
-    let args = c.args in
-    let loop_test = c.loop-left-test in
-    let if1 = c.if-body-at in
-    let measured = c.measured-m in
-    let l = loop in
-    search_on args.body args.n l.left l.at l.offset l.invariant loop_test.true if1.false
-    measured.result measured.ensures
+pub loop-preserved : goal.loop-preserved
+loop-preserved c =
+    search_on _ _ _ _ _ c.loop.invariant c.loop-test.true c.if-body-at.false c.measured-m.result c.measured-m.ensures
 
 pub returns : goal.returns
-returns c =
-    let args = c.args in
-    let l = c.loop-left in
-    search_miss args.body args.n l.left l.at l.offset l.invariant c.loop-left-test.false
+returns c = search_miss _ _ _ _ _ c.loop.invariant c.loop-test.false

@@ -3,8 +3,5 @@
 use Rattle.body.proofs.Finding.{Searching}
 use Rattle.body.proofs.find.find.Given as goal
 
-abbrev pub invariant-loop-left : goal.invariant-loop-left
-invariant-loop-left l = Searching l.body l.n l.left l.at l.offset
-
-abbrev pub decreases-loop-left : goal.decreases-loop-left
-decreases-loop-left l = l.left
+abbrev pub invariant-loop : goal.invariant-loop
+invariant-loop l = Searching l.body l.n l.counter l.at l.offset

@@ -3,8 +3,5 @@
 use Rattle.body.proofs.Finding.{Placing}
 use Rattle.body.proofs.find.place.Given as goal
 
-abbrev pub invariant-loop-left : goal.invariant-loop-left
-invariant-loop-left l = Placing l.body l.n l.left l.at
-
-abbrev pub decreases-loop-left : goal.decreases-loop-left
-decreases-loop-left l = l.left
+abbrev pub invariant-loop : goal.invariant-loop
+invariant-loop l = Placing l.body l.n l.counter l.at

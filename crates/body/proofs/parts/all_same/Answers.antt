@@ -6,7 +6,7 @@ use Rattle.body.proofs.Equal.{none_compared, all_compared}
 use Rattle.body.proofs.parts.all_same.Goals as goal
 
 pub loop-i-init : goal.loop-i-init
-loop-i-init c = (search rules, none_compared _ _)
+loop-i-init c = none_compared _ _
 
 pub returns : goal.returns
 returns c =
@@ -15,4 +15,4 @@ returns c =
     let lx : length args.x ≡ 96 = search rules in
     let ly : length args.y ≡ 96 = search rules in
     let e : loop.i ≡ 96 = omega arith in
-    all_compared args.x args.y loop.alike loop.i loop.invariant.1 (omega arith) (omega arith)
+    all_compared args.x args.y loop.alike loop.i loop.invariant (omega arith) (omega arith)

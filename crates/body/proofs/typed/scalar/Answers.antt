@@ -3,4 +3,4 @@ use Rattle.body.proofs.Answers.{scalar_is}
 use Rattle.body.proofs.typed.scalar.Goals as goal
 
 pub returns : goal.returns
-returns c = scalar_is c.args.tag c.simple-body.result c.simple-body.ensures c.requires
+returns c = scalar_is c.args.tag c.simple.result c.simple.ensures c.requires

@@ -8,76 +8,70 @@ use Rattle.body.proofs.Measures.{few_measured, few_attributes, some_list, measur
 use Rattle.body.proofs.walk.+attributes_at_measure_at.Goals.{attributes_at-then-body-next-le-WORD, attributes_at-else-body-next-le-WORD}
 use Rattle.body.proofs.walk.+attributes_at_measure_at.Goals as goal
 
-pub attributes_at-loop-left-init : goal.attributes_at-loop-left-init
-attributes_at-loop-left-init t c = none_passed _ _ _
+pub attributes_at-loop-init : goal.attributes_at-loop-init
+attributes_at-loop-init t c = none_passed _ _ _
 
 pub attributes_at-overflow_add-next : goal.attributes_at-overflow_add-next
 attributes_at-overflow_add-next t c =
     let l : length c.args.body ≡ 96 = search rules in
-    omega (arith, l, next_below c.loop-left.invariant c.loop-left-test.true c.requires)
+    omega (arith, l, next_below c.loop.invariant c.loop-test.true c.requires)
 
 pub attributes_at-bounds-body-next : goal.attributes_at-bounds-body-next
 attributes_at-bounds-body-next t c =
     let l : length c.args.body ≡ 96 = search rules in
-    omega (arith, l, next_below c.loop-left.invariant c.loop-left-test.true c.requires)
+    omega (arith, l, next_below c.loop.invariant c.loop-test.true c.requires)
 
 pub attributes_at-overflow_add-cells : goal.attributes_at-overflow_add-cells
-attributes_at-overflow_add-cells t c = omega (arith, few_passed c.loop-left.invariant c.requires)
+attributes_at-overflow_add-cells t c = omega (arith, few_passed c.loop.invariant c.requires)
 
 pub attributes_at-overflow_add-nodes : goal.attributes_at-overflow_add-nodes
-attributes_at-overflow_add-nodes t c = omega (arith, few_passed c.loop-left.invariant c.requires)
+attributes_at-overflow_add-nodes t c = omega (arith, few_passed c.loop.invariant c.requires)
 
 pub attributes_at-overflow_add-next-then-body-next-le-WORD : goal.attributes_at-overflow_add-next-then-body-next-le-WORD
 attributes_at-overflow_add-next-then-body-next-le-WORD t c =
     let l : length c.args.body ≡ 96 = search rules in
-    omega (arith, l, next_below c.loop-left.invariant c.loop-left-test.true c.requires)
+    omega (arith, l, next_below c.loop.invariant c.loop-test.true c.requires)
 
 pub attributes_at-overflow_add-next-else-body-next-le-WORD : goal.attributes_at-overflow_add-next-else-body-next-le-WORD
 attributes_at-overflow_add-next-else-body-next-le-WORD t c =
     let l : length c.args.body ≡ 96 = search rules in
-    omega (arith, l, next_below c.loop-left.invariant c.loop-left-test.true c.requires)
+    omega (arith, l, next_below c.loop.invariant c.loop-test.true c.requires)
 
 pub attributes_at-measure_at-m-requires : goal.attributes_at-measure_at-m-requires
 attributes_at-measure_at-m-requires t c =
     let l : length c.args.body ≡ 96 = search rules in (
-      omega (arith, l, c.decreases, few_passed c.loop-left.invariant c.requires, next_below c.loop-left.invariant c.loop-left-test.true c.requires),
-      some_next c.loop-left.invariant c.loop-left-test.true c.requires,
+      omega (arith, l, c.decreases, few_passed c.loop.invariant c.requires, next_below c.loop.invariant c.loop-test.true c.requires),
+      some_next c.loop.invariant c.loop-test.true c.requires,
     )
 
 pub attributes_at-overflow_add-cells-else-body-next-le-WORD : goal.attributes_at-overflow_add-cells-else-body-next-le-WORD
 attributes_at-overflow_add-cells-else-body-next-le-WORD t c =
-    let b = some_next c.loop-left.invariant c.loop-left-test.true c.requires in
-    omega (arith, few_passed c.loop-left.invariant c.requires, few_measured c.args.body (c.loop-left.next + 1) c.measure_at-m.result c.measure_at-m.ensures b)
+    let b = some_next c.loop.invariant c.loop-test.true c.requires in
+    omega (arith, few_passed c.loop.invariant c.requires, few_measured c.args.body (c.loop.next + 1) c.measure_at-m.result c.measure_at-m.ensures b)
 
 pub attributes_at-overflow_add-nodes-else-body-next-le-WORD : goal.attributes_at-overflow_add-nodes-else-body-next-le-WORD
 attributes_at-overflow_add-nodes-else-body-next-le-WORD t c =
-    let b = some_next c.loop-left.invariant c.loop-left-test.true c.requires in
-    omega (arith, few_passed c.loop-left.invariant c.requires, few_measured c.args.body (c.loop-left.next + 1) c.measure_at-m.result c.measure_at-m.ensures b)
+    let b = some_next c.loop.invariant c.loop-test.true c.requires in
+    omega (arith, few_passed c.loop.invariant c.requires, few_measured c.args.body (c.loop.next + 1) c.measure_at-m.result c.measure_at-m.ensures b)
 
-pub attributes_at-overflow_sub-left : goal.attributes_at-overflow_sub-left
-attributes_at-overflow_sub-left t c = let f = c.loop-left-test.true in omega (arith, f)
-
-pub attributes_at-loop-left-smaller : goal.attributes_at-loop-left-smaller
-attributes_at-loop-left-smaller t c = let f = c.loop-left-test.true in omega (arith, f)
-
-pub attributes_at-loop-left-preserved : goal.attributes_at-loop-left-preserved
-attributes_at-loop-left-preserved t c =
-    let l = c.loop-left in
-    let f = c.loop-left-test.true in
+pub attributes_at-loop-preserved : goal.attributes_at-loop-preserved
+attributes_at-loop-preserved t c =
+    let l = c.loop in
+    let f = c.loop-test.true in
     elim c.if-body-next-le-WORD.branch [
       | attributes_at-then-body-next-le-WORD w ↦
           one_passed l.invariant f
           (record { cells = 1; nodes = 1; depth = 1; next = l.next + 1 + 1 })
           (measured_first c.args.body (l.next + 1) w.if-body-next-le-WORD.true)
-          w.cells-is w.nodes-is (omega (arith, w.depth-is, w.larger-depth.ensures)) (omega (arith, w.next-is))
+          w.cells-is w.nodes-is (omega (arith, w.depth-is, w.max-depth.ensures)) (omega (arith, w.next-is))
       | attributes_at-else-body-next-le-WORD w ↦
           one_passed l.invariant f
           w.measure_at-m.result w.measure_at-m.ensures
-          w.cells-is w.nodes-is (omega (arith, w.depth-is, w.larger-depth-else-body-next-le-WORD.ensures)) w.next-is
+          w.cells-is w.nodes-is (omega (arith, w.depth-is, w.max-depth-else-body-next-le-WORD.ensures)) w.next-is
     ]
 
 pub attributes_at-returns : goal.attributes_at-returns
-attributes_at-returns t c = all_passed c.loop-left.invariant c.loop-left-test.false
+attributes_at-returns t c = all_passed c.loop.invariant c.loop-test.false
 
 pub measure_at-bounds-body-at : goal.measure_at-bounds-body-at
 measure_at-bounds-body-at t c =

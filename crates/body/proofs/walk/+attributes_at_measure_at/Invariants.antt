@@ -10,8 +10,5 @@ decreases-attributes_at l = 96 - l.at
 abbrev pub decreases-measure_at : goal.decreases-measure_at
 decreases-measure_at l = 96 - l.at
 
-abbrev pub invariant-attributes_at-loop-left : goal.invariant-attributes_at-loop-left
-invariant-attributes_at-loop-left l = Passed l.body l.at l.n l.left l.cells l.nodes l.depth l.next
-
-abbrev pub decreases-attributes_at-loop-left : goal.decreases-attributes_at-loop-left
-decreases-attributes_at-loop-left l = l.left
+abbrev pub invariant-attributes_at-loop : goal.invariant-attributes_at-loop
+invariant-attributes_at-loop l = Passed l.body l.at l.n l.counter l.cells l.nodes l.depth l.next

@@ -2,24 +2,21 @@
 use mathlib.Core.Path.{refl, sym, ◌∙◌}
 use Rattle.lingua.specs.Body.{boolean}
 use Rattle.lingua.specs.Encode.{bytes}
-use Rattle.lingua.specs.Operation.{quantities_to}
 use Rattle.body.specs.Typed.{simple_of}
-use Rattle.body.proofs.Answers.{failing, likewise}
+use Rattle.body.proofs.Answers.{likewise}
 use Rattle.body_half.proofs.Halves.{quantities_other, quantities_both}
 use Rattle.body_half.proofs.binary.compared.Goals as goal
 
 pub returns-then-not-quantities : goal.returns-then-not-quantities
 returns-then-not-quantities c = λ b d h k.
     let q = c.quantities in
-    failing c.failed.result 8 c.failed.ensures (quantities_to boolean b d)
-    (quantities_other boolean b d (sym (q.ensures b d h k) ∙ c.if-not-quantities.true)) 0
+    quantities_other boolean b d (sym (q.ensures b d h k) ∙ c.if-not-quantities.true)
 
 pub returns : goal.returns
 unfolding simple_of
 returns c = λ b d h k.
     let q = c.quantities in
-    likewise c.scalar.result boolean 0 c.scalar.ensures (quantities_to boolean b d)
-    (quantities_both boolean b d (sym (q.ensures b d h k) ∙ c.if-not-quantities.false))
+    likewise c.scalar.ensures (quantities_both boolean b d (sym (q.ensures b d h k) ∙ c.if-not-quantities.false))
 
 pub scalar-requires : goal.scalar-requires
 unfolding bytes simple_of

@@ -1,7 +1,7 @@
 -- `body_half::operation::simple_binary` meets its contract: two first bytes give the tag. Assumes nothing.
 use Rattle.lingua.specs.Operation.{add, subtract, multiply, divide, less}
 use Rattle.lingua.specs.Operations.{binary_meaning}
-use Rattle.body_half.proofs.Simple.{no_tag, add_gives, subtract_gives, multiply_gives, divide_gives, less_gives, numbers_simple, equal_simple, glue_simple}
+use Rattle.body_half.proofs.Simple.{add_gives, subtract_gives, multiply_gives, divide_gives, less_gives, numbers_simple, equal_simple, glue_simple}
 use Rattle.body_half.proofs.operation.simple_binary.Goals as goal
 
 pub returns-in-Add : goal.returns-in-Add
@@ -36,12 +36,3 @@ returns-in-Equal c = λ b d h k. rw c.in-Equal.is (equal_simple c.args.x c.args.
 pub returns-in-Glue : goal.returns-in-Glue
 unfolding binary_meaning
 returns-in-Glue c = λ b d h k. rw c.in-Glue.is (glue_simple c.args.x c.args.y b d h k c.when_both-in-Glue.result c.when_both-in-Glue.ensures)
-
-pub returns-in-Expand : goal.returns-in-Expand
-returns-in-Expand c = λ b d h k. no_tag _ _
-
-pub returns-in-Change : goal.returns-in-Change
-returns-in-Change c = λ b d h k. no_tag _ _
-
-pub returns-in-Push : goal.returns-in-Push
-returns-in-Push c = λ b d h k. no_tag _ _

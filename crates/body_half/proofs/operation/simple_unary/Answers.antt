@@ -1,29 +1,11 @@
 -- `body_half::operation::simple_unary` meets its contract: a first byte gives the tag. Assumes nothing.
 use Rattle.lingua.specs.Operations.{unary_meaning}
-use Rattle.body_half.proofs.Simple.{no_tag, negation_simple, to_hundredths_simple, to_number_simple}
+use Rattle.body_half.proofs.Simple.{negation_simple, to_hundredths_simple, to_number_simple}
 use Rattle.body_half.proofs.operation.simple_unary.Goals as goal
 
 pub returns-in-Negation : goal.returns-in-Negation
 unfolding unary_meaning
 returns-in-Negation c = λ b h. rw c.in-Negation.is (negation_simple c.args.x b h c.when_it.result c.when_it.ensures)
-
-pub returns-in-MakeRecord : goal.returns-in-MakeRecord
-returns-in-MakeRecord c = λ b h. no_tag _ _
-
-pub returns-in-Select : goal.returns-in-Select
-returns-in-Select c = λ b h. no_tag _ _
-
-pub returns-in-MakeList : goal.returns-in-MakeList
-returns-in-MakeList c = λ b h. no_tag _ _
-
-pub returns-in-Top : goal.returns-in-Top
-returns-in-Top c = λ b h. no_tag _ _
-
-pub returns-in-Pop : goal.returns-in-Pop
-returns-in-Pop c = λ b h. no_tag _ _
-
-pub returns-in-Remove : goal.returns-in-Remove
-returns-in-Remove c = λ b h. no_tag _ _
 
 pub returns-in-ToHundredths : goal.returns-in-ToHundredths
 unfolding unary_meaning

@@ -1,10 +1,7 @@
 -- `body_half::unary::make_list` meets its contract: the bounds are asked of the list that is to be made. Assumes nothing.
 use mathlib.Core.Path.{refl, sym, ◌∙◌}
-use Prim.Native.Nat.{◌+◌, ◌*◌}
 use native.Mathlib.Omega.{arith}
 use Rattle.lingua.specs.Body.{list_of}
-use Rattle.lingua.specs.Operation.{unary_body, make_list}
-use Rattle.body.proofs.Answers.{failing, given}
 use Rattle.body_half.proofs.Halves.{list_large, list_bounded}
 use Rattle.body_half.proofs.Bounds.{few_held, bounded_holds, list_size, list_test}
 use Rattle.body_half.proofs.unary.make_list.Goals as goal
@@ -42,8 +39,7 @@ returns-then-too_large c = λ b h.
     let measure-body = c.measure_body-m in
     let too_large = c.too_large in
     let r = measure-body.ensures b h in
-    failing c.failed.result 18 c.failed.ensures (unary_body make_list b)
-    (list_large b (sym (list_test measure-body.result b r) ∙ sym too_large.ensures ∙ c.if-too_large.true)) 0
+    list_large b (sym (list_test measure-body.result b r) ∙ sym too_large.ensures ∙ c.if-too_large.true)
 
 pub returns : goal.returns
 returns c = λ b h.
@@ -51,6 +47,10 @@ returns c = λ b h.
     let too_large = c.too_large in
     let r = measure-body.ensures b h in
     let e = sym (list_test measure-body.result b r) ∙ sym too_large.ensures ∙ c.if-too_large.false in
-    given c.list_of-body.result (1 + 8 * measure-body.result.cells) 0 (list_of b) 0
-    (bounded_holds c.list_of-body.result (list_of b) (c.list_of-body.ensures b h) e) (list_size measure-body.result b r) refl
-    (unary_body make_list b) (list_bounded b e)
+    record {
+      body = list_of b;
+      is = list_bounded b e;
+      holds = bounded_holds c.list_of-body.result (list_of b) (c.list_of-body.ensures b h) e;
+      is_cells = list_size measure-body.result b r;
+      is_offset = refl;
+    }

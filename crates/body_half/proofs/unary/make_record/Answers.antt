@@ -2,8 +2,6 @@
 use mathlib.Core.Path.{refl, sym, ◌∙◌}
 use native.Mathlib.Omega.{arith}
 use Rattle.lingua.specs.Body.{record_of, attribute, end}
-use Rattle.lingua.specs.Operation.{unary_body, make_record}
-use Rattle.body.proofs.Answers.{failing, given}
 use Rattle.body_half.proofs.Halves.{record_large, record_bounded}
 use Rattle.body_half.proofs.Bounds.{few_held, bounded_holds, record_size, record_test, record_room}
 use Rattle.body_half.proofs.unary.make_record.Goals as goal
@@ -28,8 +26,7 @@ returns-then-too_large c = λ b h.
     let args = c.args in
     let too_large = c.too_large in
     let r = measure-body.ensures b h in
-    failing c.failed.result 18 c.failed.ensures (unary_body (make_record args.n) b)
-    (record_large args.n b (sym (record_test measure-body.result args.n b r) ∙ sym too_large.ensures ∙ c.if-too_large.true)) 0
+    record_large args.n b (sym (record_test measure-body.result args.n b r) ∙ sym too_large.ensures ∙ c.if-too_large.true)
 
 pub returns : goal.returns
 returns c = λ b h.
@@ -39,6 +36,10 @@ returns c = λ b h.
     let r = measure-body.ensures b h in
     let n = args.n in
     let e = sym (record_test measure-body.result n b r) ∙ sym too_large.ensures ∙ c.if-too_large.false in
-    given c.record_of-body.result measure-body.result.cells 0 (record_of (attribute n b end)) 0
-    (bounded_holds c.record_of-body.result (record_of (attribute n b end)) (c.record_of-body.ensures b h (record_room n b e)) e)
-    (record_size measure-body.result n b r) refl (unary_body (make_record n) b) (record_bounded n b e)
+    record {
+      body = record_of (attribute n b end);
+      is = record_bounded n b e;
+      holds = bounded_holds c.record_of-body.result (record_of (attribute n b end)) (c.record_of-body.ensures b h (record_room n b e)) e;
+      is_cells = record_size measure-body.result n b r;
+      is_offset = refl;
+    }

@@ -7,11 +7,5 @@ use Rattle.calls.proofs.both.run_both.Goals as goal
 pub take_pair-pair-requires : goal.take_pair-pair-requires
 take_pair-pair-requires c = room_there _ _ _ refl refl refl
 
-pub checked_taken-checked-requires : goal.checked_taken-checked-requires
-checked_taken-checked-requires c = record { prof = _; lims = _; is = c.take_pair-pair.ensures }
-
-pub erased_taken-erased-requires : goal.erased_taken-erased-requires
-erased_taken-erased-requires c = record { prof = _; lims = _; is = c.take_pair-pair.ensures }
-
 pub returns : goal.returns
 returns c = both_run _ (c.checked_taken-checked.ensures _ _ c.take_pair-pair.ensures) (c.erased_taken-erased.ensures _ _ c.take_pair-pair.ensures)

@@ -7,11 +7,5 @@ use Rattle.calls.proofs.checked_run.run_checked.Goals as goal
 pub take_pair-pair-requires : goal.take_pair-pair-requires
 take_pair-pair-requires c = room_there _ _ _ refl refl refl
 
-pub checked_taken-requires : goal.checked_taken-requires
-checked_taken-requires c = record { prof = _; lims = _; is = c.take_pair-pair.ensures }
-
-pub returns-clause-bodies_after : goal.returns-clause-bodies_after
-returns-clause-bodies_after c = c.checked_taken.ensures _ _ c.take_pair-pair.ensures
-
 pub returns-clause-checked_holds : goal.returns-clause-checked_holds
 returns-clause-checked_holds c = checked_holds _ c.args.budget _ _ _ (c.checked_taken.ensures _ _ c.take_pair-pair.ensures)

@@ -6,8 +6,3 @@ use Rattle.calls.proofs.erased_run.run_erased.Goals as goal
 pub take_pair-pair-requires : goal.take_pair-pair-requires
 take_pair-pair-requires c = room_there _ _ _ refl refl refl
 
-pub erased_taken-requires : goal.erased_taken-requires
-erased_taken-requires c = record { prof = _; lims = _; is = c.take_pair-pair.ensures }
-
-pub returns : goal.returns
-returns c = c.erased_taken.ensures _ _ c.take_pair-pair.ensures

@@ -1,118 +1,112 @@
 -- `binary` meets its contract: in each arm, what the operation asks follows from the operands, and what it leaves is what the
 -- operation's own function ensures. Assumes nothing.
-use native.Mathlib.Omega.{arith}
 use Rattle.lingua.specs.Operations.{binary_meaning}
 use Rattle.lingua.specs.declared.operations.BinaryOperation.TheVariants.{Add, Subtract, Multiply, Divide, Less, Equal, Glue, Expand, Change, Push}
+use Rattle.laws.specs.Faults.{passed_on}
 use Rattle.cells.proofs.Binary.{glue_words, expand_place, expand_room, change_room, push_counted, less_leaves, equal_leaves, glue_leaves, expand_leaves, change_leaves, push_leaves, named, have_named, leave_named}
 use Rattle.cells.proofs.Numbers.{add_ranges, subtract_ranges, multiply_ranges, divide_ranges, add_leaves, subtract_leaves, multiply_leaves, divide_leaves}
 use Rattle.cells.proofs.apply.binary.Goals as goal
 
-pub returns-in-Add : goal.returns-in-Add
-unfolding binary_meaning
-returns-in-Add c = λ b e d x y h.
-    leave_named (named Add c.in-Add.is) (add_leaves c.put.result c.put.new.stack c.add.result c.put.ensures c.add.ensures) h
-
-pub returns-in-Subtract : goal.returns-in-Subtract
-unfolding binary_meaning
-returns-in-Subtract c = λ b e d x y h.
-    leave_named (named Subtract c.in-Subtract.is) (subtract_leaves c.put-in-Subtract.result c.put-in-Subtract.new.stack c.subtract.result c.put-in-Subtract.ensures c.subtract.ensures) h
-
-pub returns-in-Multiply : goal.returns-in-Multiply
-unfolding binary_meaning
-returns-in-Multiply c = λ b e d x y h.
-    leave_named (named Multiply c.in-Multiply.is) (multiply_leaves c.put-in-Multiply.result c.put-in-Multiply.new.stack c.multiply.result c.put-in-Multiply.ensures c.multiply.ensures) h
-
-pub returns-in-Divide : goal.returns-in-Divide
-unfolding binary_meaning
-returns-in-Divide c = λ b e d x y h.
-    leave_named (named Divide c.in-Divide.is) (divide_leaves c.put-in-Divide.result c.put-in-Divide.new.stack c.divide.result c.put-in-Divide.ensures c.divide.ensures) h
-
-pub returns-in-Glue : goal.returns-in-Glue
-unfolding binary_meaning
-returns-in-Glue c = λ b e d x y h.
-    leave_named (named Glue c.in-Glue.is) (glue_leaves c.glue.new.stack c.glue.result c.glue.ensures) h
-
-pub push-requires-clause-counted : goal.push-requires-clause-counted
-unfolding binary_meaning
-push-requires-clause-counted c =
-    let h = (have_named (named Push c.in-Push.is) c.requires.has_operands).operands in
-    (push_counted h)
-
-pub push-requires-clause-width_in_bounds : goal.push-requires-clause-width_in_bounds
-unfolding binary_meaning
-push-requires-clause-width_in_bounds c =
-    let h = (have_named (named Push c.in-Push.is) c.requires.has_operands).operands in
-    (omega (arith, h.others_are, h.small_other))
-
-pub returns-in-Push : goal.returns-in-Push
-unfolding binary_meaning
-returns-in-Push c = λ b e d x y h.
-    leave_named (named Push c.in-Push.is) (push_leaves c.push.new.stack c.push.result c.push.ensures) h
-
-pub returns-in-Less : goal.returns-in-Less
-unfolding binary_meaning
-returns-in-Less c = λ b e d x y h.
-    leave_named (named Less c.in-Less.is) (less_leaves c.less.new.stack c.less.ensures) h
-
-pub returns-in-Equal : goal.returns-in-Equal
-unfolding binary_meaning
-returns-in-Equal c = λ b e d x y h.
-    leave_named (named Equal c.in-Equal.is) (equal_leaves c.equal.new.stack c.equal.ensures) h
-
 pub add-requires : goal.add-requires
 unfolding binary_meaning
-add-requires c =
-    let h = (have_named (named Add c.in-Add.is) c.requires.has_operands).operands in
-    record { x_value = (add_ranges h).0; y_value = (add_ranges h).1 }
+add-requires c = let r = add_ranges (have_named (named Add c.in-Add.is) c.requires.has_operands).operands in record { x_value = r.0; y_value = r.1 }
+
+pub returns-in_ok-put-in-Add : goal.returns-in_ok-put-in-Add
+unfolding binary_meaning
+returns-in_ok-put-in-Add c = λ b e d x y h. leave_named (named Add c.in-Add.is) (add_leaves _ c.put.new.stack c.add.result c.in_ok-put-in-Add.ensures c.add.ensures) h
+
+pub returns-in_err-put-in-Add : goal.returns-in_err-put-in-Add
+unfolding binary_meaning
+returns-in_err-put-in-Add c = λ b e d x y h. rw (passed_on _ _ c.from_residual.ensures.1) (leave_named (named Add c.in-Add.is) (add_leaves _ c.put.new.stack c.add.result c.in_err-put-in-Add.ensures c.add.ensures) h)
 
 pub subtract-requires : goal.subtract-requires
 unfolding binary_meaning
-subtract-requires c =
-    let h = (have_named (named Subtract c.in-Subtract.is) c.requires.has_operands).operands in
-    record { x_value = (subtract_ranges h).0; y_value = (subtract_ranges h).1 }
+subtract-requires c = let r = subtract_ranges (have_named (named Subtract c.in-Subtract.is) c.requires.has_operands).operands in record { x_value = r.0; y_value = r.1 }
+
+pub returns-in_ok-put-in-Subtract : goal.returns-in_ok-put-in-Subtract
+unfolding binary_meaning
+returns-in_ok-put-in-Subtract c = λ b e d x y h. leave_named (named Subtract c.in-Subtract.is) (subtract_leaves _ c.put-in-Subtract.new.stack c.subtract.result c.in_ok-put-in-Subtract.ensures c.subtract.ensures) h
+
+pub returns-in_err-put-in-Subtract : goal.returns-in_err-put-in-Subtract
+unfolding binary_meaning
+returns-in_err-put-in-Subtract c = λ b e d x y h. rw (passed_on _ _ c.from_residual-in_err-put-in-Subtract.ensures.1) (leave_named (named Subtract c.in-Subtract.is) (subtract_leaves _ c.put-in-Subtract.new.stack c.subtract.result c.in_err-put-in-Subtract.ensures c.subtract.ensures) h)
 
 pub multiply-requires : goal.multiply-requires
 unfolding binary_meaning
-multiply-requires c =
-    let h = (have_named (named Multiply c.in-Multiply.is) c.requires.has_operands).operands in
-    record { x_value = (multiply_ranges h).0; y_value = (multiply_ranges h).1 }
+multiply-requires c = let r = multiply_ranges (have_named (named Multiply c.in-Multiply.is) c.requires.has_operands).operands in record { x_value = r.0; y_value = r.1 }
+
+pub returns-in_ok-put-in-Multiply : goal.returns-in_ok-put-in-Multiply
+unfolding binary_meaning
+returns-in_ok-put-in-Multiply c = λ b e d x y h. leave_named (named Multiply c.in-Multiply.is) (multiply_leaves _ c.put-in-Multiply.new.stack c.multiply.result c.in_ok-put-in-Multiply.ensures c.multiply.ensures) h
+
+pub returns-in_err-put-in-Multiply : goal.returns-in_err-put-in-Multiply
+unfolding binary_meaning
+returns-in_err-put-in-Multiply c = λ b e d x y h. rw (passed_on _ _ c.from_residual-in_err-put-in-Multiply.ensures.1) (leave_named (named Multiply c.in-Multiply.is) (multiply_leaves _ c.put-in-Multiply.new.stack c.multiply.result c.in_err-put-in-Multiply.ensures c.multiply.ensures) h)
 
 pub divide-requires : goal.divide-requires
 unfolding binary_meaning
-divide-requires c =
-    let h = (have_named (named Divide c.in-Divide.is) c.requires.has_operands).operands in
-    record { x_value = (divide_ranges h).0; y_value = (divide_ranges h).1 }
+divide-requires c = let r = divide_ranges (have_named (named Divide c.in-Divide.is) c.requires.has_operands).operands in record { x_value = r.0; y_value = r.1 }
 
-pub glue-requires : goal.glue-requires
+pub returns-in_ok-put-in-Divide : goal.returns-in_ok-put-in-Divide
 unfolding binary_meaning
-glue-requires c =
-    let h = (have_named (named Glue c.in-Glue.is) c.requires.has_operands).operands in
-    record { body_cells_in_bounds = omega arith; word_at = (glue_words h).0; word_at_2 = (glue_words h).1 }
+returns-in_ok-put-in-Divide c = λ b e d x y h. leave_named (named Divide c.in-Divide.is) (divide_leaves _ c.put-in-Divide.new.stack c.divide.result c.in_ok-put-in-Divide.ensures c.divide.ensures) h
+
+pub returns-in_err-put-in-Divide : goal.returns-in_err-put-in-Divide
+unfolding binary_meaning
+returns-in_err-put-in-Divide c = λ b e d x y h. rw (passed_on _ _ c.from_residual-in_err-put-in-Divide.ensures.1) (leave_named (named Divide c.in-Divide.is) (divide_leaves _ c.put-in-Divide.new.stack c.divide.result c.in_err-put-in-Divide.ensures c.divide.ensures) h)
+
+pub glue-requires-clause-word_at : goal.glue-requires-clause-word_at
+unfolding binary_meaning
+glue-requires-clause-word_at c = (glue_words (have_named (named Glue c.in-Glue.is) c.requires.has_operands).operands).0
+
+pub glue-requires-clause-word_at_2 : goal.glue-requires-clause-word_at_2
+unfolding binary_meaning
+glue-requires-clause-word_at_2 c = (glue_words (have_named (named Glue c.in-Glue.is) c.requires.has_operands).operands).1
+
+pub push-requires-clause-counted : goal.push-requires-clause-counted
+unfolding binary_meaning
+push-requires-clause-counted c = push_counted (have_named (named Push c.in-Push.is) c.requires.has_operands).operands
+
+pub returns-in_ok-glue-in-Glue : goal.returns-in_ok-glue-in-Glue
+unfolding binary_meaning
+returns-in_ok-glue-in-Glue c = λ b e d x y h. leave_named (named Glue c.in-Glue.is) (glue_leaves c.glue.new.stack _ c.in_ok-glue-in-Glue.ensures) h
+
+pub returns-in_err-glue-in-Glue : goal.returns-in_err-glue-in-Glue
+unfolding binary_meaning
+returns-in_err-glue-in-Glue c = λ b e d x y h. rw (passed_on _ _ c.from_residual-in_err-glue-in-Glue.ensures.1) (leave_named (named Glue c.in-Glue.is) (glue_leaves c.glue.new.stack _ c.in_err-glue-in-Glue.ensures) h)
+
+pub returns-in_ok-push-in-Push : goal.returns-in_ok-push-in-Push
+unfolding binary_meaning
+returns-in_ok-push-in-Push c = λ b e d x y h. leave_named (named Push c.in-Push.is) (push_leaves c.push.new.stack _ c.in_ok-push-in-Push.ensures) h
+
+pub returns-in_err-push-in-Push : goal.returns-in_err-push-in-Push
+unfolding binary_meaning
+returns-in_err-push-in-Push c = λ b e d x y h. rw (passed_on _ _ c.from_residual-in_err-push-in-Push.ensures.1) (leave_named (named Push c.in-Push.is) (push_leaves c.push.new.stack _ c.in_err-push-in-Push.ensures) h)
 
 pub expand-requires-clause-offset_le_total : goal.expand-requires-clause-offset_le_total
 unfolding binary_meaning
-expand-requires-clause-offset_le_total c =
-    let h = (have_named (named (Expand c.in-Expand.field-0) c.in-Expand.is) c.requires.has_operands).operands in
-    (expand_place _ h)
+expand-requires-clause-offset_le_total c = expand_place _ (have_named (named (Expand c.in-Expand.field-0) c.in-Expand.is) c.requires.has_operands).operands
 
 pub expand-requires-clause-width_bound : goal.expand-requires-clause-width_bound
 unfolding binary_meaning
-expand-requires-clause-width_bound c =
-    let h = (have_named (named (Expand c.in-Expand.field-0) c.in-Expand.is) c.requires.has_operands).operands in
-    (expand_room _ h)
+expand-requires-clause-width_bound c = expand_room _ (have_named (named (Expand c.in-Expand.field-0) c.in-Expand.is) c.requires.has_operands).operands
 
 pub change-requires-clause-width_bound : goal.change-requires-clause-width_bound
 unfolding binary_meaning
-change-requires-clause-width_bound c =
-    let h = (have_named (named (Change c.in-Change.field-0) c.in-Change.is) c.requires.has_operands).operands in
-    (change_room _ h)
+change-requires-clause-width_bound c = change_room _ (have_named (named (Change c.in-Change.field-0) c.in-Change.is) c.requires.has_operands).operands
+
+pub returns-in-Less : goal.returns-in-Less
+unfolding binary_meaning
+returns-in-Less c = λ b e d x y h. leave_named (named Less c.in-Less.is) (less_leaves c.less.new.stack c.less.ensures) h
+
+pub returns-in-Equal : goal.returns-in-Equal
+unfolding binary_meaning
+returns-in-Equal c = λ b e d x y h. leave_named (named Equal c.in-Equal.is) (equal_leaves c.equal.new.stack c.equal.ensures) h
 
 pub returns-in-Expand : goal.returns-in-Expand
 unfolding binary_meaning
-returns-in-Expand c = λ b e d x y h.
-    leave_named (named (Expand c.in-Expand.field-0) c.in-Expand.is) (expand_leaves c.expand.new.stack _ c.expand.ensures) h
+returns-in-Expand c = λ b e d x y h. leave_named (named (Expand c.in-Expand.field-0) c.in-Expand.is) (expand_leaves c.expand.new.stack _ c.expand.ensures) h
 
 pub returns-in-Change : goal.returns-in-Change
 unfolding binary_meaning
-returns-in-Change c = λ b e d x y h.
-    leave_named (named (Change c.in-Change.field-0) c.in-Change.is) (change_leaves c.change.new.stack _ c.change.ensures) h
+returns-in-Change c = λ b e d x y h. leave_named (named (Change c.in-Change.field-0) c.in-Change.is) (change_leaves c.change.new.stack _ c.change.ensures) h

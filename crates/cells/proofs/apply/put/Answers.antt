@@ -1,13 +1,6 @@
--- `put` meets its contract, by `put_whole` and `put_error`. Assumes nothing.
-use Rattle.cells.proofs.Numbers.{put_whole, put_error}
+-- `put` meets its contract, by `put_whole`. Assumes nothing.
+use Rattle.cells.proofs.Numbers.{put_whole}
 use Rattle.cells.proofs.apply.put.Goals as goal
 
-pub returns-in-Whole : goal.returns-in-Whole
-returns-in-Whole c = λ h o e k.
-    let a = c in
-    put_whole h a.args.stack.now o a.args.answer c.in-Whole.z a.requires e k c.in-Whole.is
-
-pub returns-in-Error : goal.returns-in-Error
-returns-in-Error c = λ h o e k.
-    let a = c in
-    put_error h a.args.stack.now o a.args.answer c.in-Error.e e k c.in-Error.is
+pub returns : goal.returns
+returns c = λ h o e k. put_whole h c.args.stack.now c.in_ok-stack.field-0 c.requires (rw c.in_ok-stack.was at e) k

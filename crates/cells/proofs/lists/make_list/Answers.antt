@@ -1,14 +1,12 @@
 -- `make_list` meets its contract, by `single_law`. Assumes nothing.
-use mathlib.Core.Path.{◌∙◌}
+use mathlib.Core.Path.{◌≡◌, ap, ◌∙◌}
+use Prim.Native.Nat.{ℕ, ◌-◌}
 use native.Mathlib.Omega.{arith}
-use lib.ListN.{length-set}
+use lib.Seq.{paste}
 use Rattle.cells.proofs.Elements.{single_law}
 use Rattle.cells.proofs.lists.make_list.Goals as goal
 
-pub shape_of-stack : goal.shape_of-stack
-shape_of-stack c = length-set c.clear.new.stack _ _ ∙ c.clear.auto.stack ∙ c.copy_up.auto.stack
-
 pub returns : goal.returns
 returns c = λ b x z h.
-    let a = c in
-    single_law a.args.stack.now c.copy_up.new.stack c.clear.new.stack b x a.args.width z h (omega arith) c.copy_up.ensures c.clear.ensures
+    let a = c.args in
+    single_law a.stack.now c.copy_within.new.self c.clear.new.stack b x a.width z h (omega arith) (c.copy_within.ensures.after ∙ ap (λ (k : ℕ). paste a.stack.now 1 a.stack.now k) (let e : a.width - 0 ≡ a.width = omega arith in e)) c.clear.ensures

@@ -1,27 +1,30 @@
-use mathlib.Core.Path.{refl}
+use mathlib.Core.Path.{◌≡◌, refl, sym}
+use mathlib.Core.Bool.{true, false}
+use Rattle.lingua.specs.Errors.{boolean_expected}
+use Rattle.lingua.specs.Outcome.{ok, ◌>>=◌}
 use Prim.Native.Nat.{◌≤◌}
 use native.Mathlib.Omega.{arith}
 use lib.ListN.{length, length-take, length-drop}
+use Rattle.laws.specs.Faults.{passed}
 use Rattle.lingua.specs.Value.{composite, as_items, count_values}
 use Rattle.lingua.specs.Store.{contents}
 use Rattle.lingua.specs.Trees.{expression_tree}
-use Rattle.lingua.specs.Evaluation.{eval as meaning}
+use Rattle.lingua.specs.Evaluation.{eval as meaning, truth_or}
 use Rattle.profile.specs.Facts.{RowFacts, row_tree}
 use Rattle.profile.specs.Known.{row_known}
 use Rattle.checked_row.proofs.Giving.{gives_error, gives_as}
 use Rattle.profile.specs.Facts.{says_as}
-use Rattle.cells.proofs.Operands.{both_long}
-use Rattle.cells.proofs.Walking.{counted_elements, turn_room, next_place, element_at}
+use Rattle.cells.proofs.Walking.{counted_elements, turn_room, element_at}
 use Rattle.checked_row.proofs.Stacking.{first_stays, second_lies}
 use Rattle.checked_row.proofs.Seeing.{sees_none}
 use Rattle.checked.proofs.Walking.{no_list, current_list, element_held, list_cell, list_walks, element_current, sees_more, sees_all, all_is}
 use Rattle.checked_row.proofs.Simple.{quick_simple, quick_failed}
-use Rattle.checked_row.proofs.Cycle.{in_table, facts, few_named, by_row, lazy_error, lazy_settled, lazy_second_error, lazy_second_told, choice_error, choice_yes, choice_no}
+use Rattle.checked_row.proofs.Cycle.{in_table, facts, few_named, by_row, lazy_error, lazy_settled, lazy_second_error, lazy_second_told, choice_error, choice_told}
 use Prim.Native.Nat.{◌<◌}
 use Rattle.checked.proofs.eval.+all_choice_eval_lazy.Goals as goal
 
 pub all-returns-then-body-ne-LIST : goal.all-returns-then-body-ne-LIST
-all-returns-then-body-ne-LIST t c = λ vs x w h. gives_error 11 c.failed.ensures (λ e. omega arith) (no_list c.args.row _ (contents vs) h c.if-body-ne-LIST.true)
+all-returns-then-body-ne-LIST t c = λ vs x w h. gives_error _ (no_list c.args.row _ (contents vs) h c.if-body-ne-LIST.true)
 
 pub all-measure_body-m-requires : goal.all-measure_body-m-requires
 all-measure_body-m-requires t c = element_held c.requires.asked.ready.has c.if-body-ne-LIST.false c.element-inner.ensures
@@ -35,28 +38,32 @@ all-overflow_cast-n t c =
     rw k.positive (tt, omega (arith, k.few))
 
 pub all-loop-i-init : goal.all-loop-i-init
-all-loop-i-init t c = (omega arith, refl, omega arith, λ vs b x w h l. sees_none _ refl refl refl)
+all-loop-i-init t c = λ vs b x w h l. sees_none
+
+pub all-overflow_mul-at : goal.all-overflow_mul-at
+all-overflow_mul-at t c =
+    let k = list_walks c.requires.asked.ready.has c.if-body-ne-LIST.false c.element-inner.ensures c.measure_body-m.result.cells (λ b h. (c.measure_body-m.ensures b h).is_cells) in
+    omega (arith, turn_room c.loop-i.i _ _ c.measure_body-m.result.cells refl c.loop-i-test.true k.few, k.room)
 
 pub all-overflow_add-at : goal.all-overflow_add-at
 all-overflow_add-at t c =
     let k = list_walks c.requires.asked.ready.has c.if-body-ne-LIST.false c.element-inner.ensures c.measure_body-m.result.cells (λ b h. (c.measure_body-m.ensures b h).is_cells) in
-    omega (arith, turn_room _ _ _ _ c.loop-i.invariant.2 c.loop-i-test.true k.few, k.room)
+    omega (arith, turn_room c.loop-i.i _ _ c.measure_body-m.result.cells refl c.loop-i-test.true k.few, k.room)
+
+pub all-overflow_add-at-in-loop-i : goal.all-overflow_add-at-in-loop-i
+all-overflow_add-at-in-loop-i t c =
+    let k = list_walks c.requires.asked.ready.has c.if-body-ne-LIST.false c.element-inner.ensures c.measure_body-m.result.cells (λ b h. (c.measure_body-m.ensures b h).is_cells) in
+    omega (arith, turn_room c.loop-i.i _ _ c.measure_body-m.result.cells refl c.loop-i-test.true k.few, k.room)
 
 pub all-offset_bounds-current-at : goal.all-offset_bounds-current-at
 all-offset_bounds-current-at t c =
     let k = list_walks c.requires.asked.ready.has c.if-body-ne-LIST.false c.element-inner.ensures c.measure_body-m.result.cells (λ b h. (c.measure_body-m.ensures b h).is_cells) in
-    omega (arith, turn_room _ _ _ _ c.loop-i.invariant.2 c.loop-i-test.true k.few, k.room)
-
-pub all-slice_bounds-eval-count : goal.all-slice_bounds-eval-count
-all-slice_bounds-eval-count t c = omega arith
-
-pub all-slice_bounds-eval-start : goal.all-slice_bounds-eval-start
-all-slice_bounds-eval-start t c = omega arith
+    omega (arith, turn_room c.loop-i.i _ _ c.measure_body-m.result.cells refl c.loop-i-test.true k.few, k.room)
 
 pub all-slice_bounds-eval-end : goal.all-slice_bounds-eval-end
 all-slice_bounds-eval-end t c =
     let k = list_walks c.requires.asked.ready.has c.if-body-ne-LIST.false c.element-inner.ensures c.measure_body-m.result.cells (λ b h. (c.measure_body-m.ensures b h).is_cells) in
-    omega (arith, turn_room _ _ _ _ c.loop-i.invariant.2 c.loop-i-test.true k.few, k.long)
+    omega (arith, turn_room c.loop-i.i _ _ c.measure_body-m.result.cells refl c.loop-i-test.true k.few, k.long)
 
 pub all-eval-x-requires : goal.all-eval-x-requires
 all-eval-x-requires t c =
@@ -66,80 +73,46 @@ all-eval-x-requires t c =
     let more : c.loop-i.i < count_values (as_items r.has.value.value) = omega (arith, c.loop-i-test.true, counted_elements l.lies) in (
       omega (arith, c.decreases, c.requires.a_lt_row),
       record {
-        ready = record { store = r.store; world = r.world; has = record { value = _; is = element_current l.lies held c.loop-i.i c.loop-i.at _ (c.measure_body-m.ensures _ held).is_cells c.loop-i.invariant.2 more } };
+        ready = record { store = r.store; world = r.world; has = record { value = _; is = element_current l.lies held c.loop-i.i _ _ (c.measure_body-m.ensures _ held).is_cells refl more } };
         here = omega (arith, c.requires.a_lt_row, c.requires.asked.here);
-        room = omega (arith, c.requires.a_lt_row, c.requires.asked.room, c.loop-i.invariant.1);
+        room = omega (arith, c.requires.a_lt_row, c.requires.asked.room, c.loop-i.auto.stack);
       },
     )
 
-pub all-tallied-seen-requires : goal.all-tallied-seen-requires
-all-tallied-seen-requires t c = omega (arith, c.requires.asked.room, c.loop-i.invariant.1, c.eval-x.auto.stack)
-
-pub all-overflow_add-at-in-loop-i : goal.all-overflow_add-at-in-loop-i
-all-overflow_add-at-in-loop-i t c =
-    let k = list_walks c.requires.asked.ready.has c.if-body-ne-LIST.false c.element-inner.ensures c.measure_body-m.result.cells (λ b h. (c.measure_body-m.ensures b h).is_cells) in
-    omega (arith, turn_room _ _ _ _ c.loop-i.invariant.2 c.loop-i-test.true k.few, k.room)
-
-pub all-overflow_add-i : goal.all-overflow_add-i
-all-overflow_add-i t c =
-    let k = list_walks c.requires.asked.ready.has c.if-body-ne-LIST.false c.element-inner.ensures c.measure_body-m.result.cells (λ b h. (c.measure_body-m.ensures b h).is_cells) in
-    omega (arith, c.loop-i-test.true, k.few)
-
-pub all-loop-i-smaller : goal.all-loop-i-smaller
-all-loop-i-smaller t c = omega (arith, c.loop-i-test.true)
-
 pub all-loop-i-preserved : goal.all-loop-i-preserved
-all-loop-i-preserved t c = (
-  omega (arith, c.loop-i-test.true),
-  omega (arith, c.loop-i.invariant.1, c.eval-x.auto.stack),
-  next_place _ _ _ c.loop-i.invariant.2,
-  λ vs b x w h l.
-      let more : c.loop-i.i < count_values (as_items x) = omega (arith, c.loop-i-test.true, counted_elements l) in
-      sees_more _ x c.loop-i.i more (c.tallied-seen.ensures _ _ (c.loop-i.invariant.3 vs b x w h l) (c.eval-x.ensures vs (composite b (element_at x c.loop-i.i)) w (element_current l h c.loop-i.i c.loop-i.at _ (c.measure_body-m.ensures b h).is_cells c.loop-i.invariant.2 more))),
-)
+all-loop-i-preserved t c = λ vs b x w h l.
+    let more : c.loop-i.i < count_values (as_items x) = omega (arith, c.loop-i-test.true, counted_elements l) in
+    sees_more _ x c.loop-i.i more (c.tallied-seen.ensures _ _ (c.loop-i.invariant vs b x w h l) (c.eval-x.ensures vs (composite b (element_at x c.loop-i.i)) w (element_current l h c.loop-i.i _ _ (c.measure_body-m.ensures b h).is_cells refl more)))
 
 pub all-returns : goal.all-returns
 all-returns t c = λ vs x w h.
     let l = current_list h c.if-body-ne-LIST.false in
     let held = c.element-inner.ensures l.element l.holds in
-    gives_as (all_is c.args.row _ (contents vs) l) (c.concluded.ensures _ (sees_all _ x.value c.loop-i.i (omega (arith, c.loop-i-test.false, c.loop-i.invariant.0, counted_elements l.lies)) (c.loop-i.invariant.3 vs l.element x.value w held l.lies)))
+    gives_as (all_is c.args.row _ (contents vs) l) (c.concluded.ensures _ (sees_all _ x.value c.loop-i.i (omega (arith, c.loop-i-test.false, c.loop-i.auto.i-end, counted_elements l.lies)) (c.loop-i.invariant vs l.element x.value w held l.lies)))
 
-pub choice-eval-x-requires : goal.choice-eval-x-requires
-choice-eval-x-requires t c = (omega (arith, c.decreases, c.requires), record { ready = c.requires.asked.ready; here = omega (arith, c.requires.test_lt_row.0, c.requires.asked.here); room = omega (arith, c.requires.asked.room, c.requires.test_lt_row.0) })
+pub choice-returns-in_err-truth_of : goal.choice-returns-in_err-truth_of
+choice-returns-in_err-truth_of t c = λ vs x w h. rw (passed _ _ c.from_residual.ensures.1) (gives_error _ (choice_error _ _ _ _ _ _ _ (sym (c.in_err-truth_of.ensures _ (c.eval-x.ensures vs x w h)))))
 
-pub choice-truth_of-truth-requires : goal.choice-truth_of-truth-requires
-choice-truth_of-truth-requires t c = record { other_nonzero = omega arith; stack_nonzero = omega (arith, c.requires.asked.room, c.eval-x.auto.stack) }
-
-pub choice-returns-then-truth-ne-NO_ERROR : goal.choice-returns-then-truth-ne-NO_ERROR
-choice-returns-then-truth-ne-NO_ERROR t c = λ vs x w h. gives_error _ c.failed.ensures c.if-truth-ne-NO_ERROR.true (choice_error _ _ _ _ _ _ _ (c.truth_of-truth.ensures _ (c.eval-x.ensures vs x w h)) c.if-truth-ne-NO_ERROR.true)
-
-pub choice-eval-requires : goal.choice-eval-requires
-choice-eval-requires t c = (omega (arith, c.decreases, c.requires), record { ready = c.requires.asked.ready; here = omega (arith, c.requires.test_lt_row.1, c.requires.asked.here); room = omega (arith, c.requires.asked.room, c.requires.test_lt_row.1, c.eval-x.auto.stack) })
-
-pub choice-returns-then-truth : goal.choice-returns-then-truth
-choice-returns-then-truth t c = λ vs x w h. gives_as (choice_yes _ _ _ _ _ _ _ (c.truth_of-truth.ensures _ (c.eval-x.ensures vs x w h)) c.if-truth-ne-NO_ERROR.false c.if-truth.true) (c.eval.ensures vs x w h)
-
-pub choice-eval-requires-2 : goal.choice-eval-requires-2
-choice-eval-requires-2 t c = (omega (arith, c.decreases, c.requires), record { ready = c.requires.asked.ready; here = omega (arith, c.requires.test_lt_row.2, c.requires.asked.here); room = omega (arith, c.requires.asked.room, c.requires.test_lt_row.2, c.eval-x.auto.stack) })
+pub choice-returns-then-branch : goal.choice-returns-then-branch
+choice-returns-then-branch t c = λ vs x w h.
+    let told : ok true ≡ (meaning (expression_tree c.args.rows.now c.args.test) (contents vs) x >>= truth_or boolean_expected) = rw c.if-branch.true at (c.in_ok-truth_of.ensures _ (c.eval-x.ensures vs x w h)) in
+    gives_as (choice_told c.args.row _ (expression_tree c.args.rows.now c.args.a) (expression_tree c.args.rows.now c.args.b) (contents vs) x true told) (c.eval.ensures vs x w h)
 
 pub choice-returns : goal.choice-returns
-choice-returns t c = λ vs x w h. gives_as (choice_no _ _ _ _ _ _ _ (c.truth_of-truth.ensures _ (c.eval-x.ensures vs x w h)) c.if-truth-ne-NO_ERROR.false c.if-truth.false) (c.eval-2.ensures vs x w h)
+choice-returns t c = λ vs x w h.
+    let told : ok false ≡ (meaning (expression_tree c.args.rows.now c.args.test) (contents vs) x >>= truth_or boolean_expected) = rw c.if-branch.false at (c.in_ok-truth_of.ensures _ (c.eval-x.ensures vs x w h)) in
+    gives_as (choice_told c.args.row _ (expression_tree c.args.rows.now c.args.a) (expression_tree c.args.rows.now c.args.b) (contents vs) x false told) (c.eval-2.ensures vs x w h)
 
-pub eval-expression_row-says-requires : goal.eval-expression_row-says-requires
-eval-expression_row-says-requires t c =
-    let w = c.requires.ready.world in record { table = w.table; r_lt_count = c.requires.here; known_expression = row_known _ w.accepted _ (in_table w c.requires.here) }
+pub eval-expression_row-says-requires-clause-known_expression : goal.eval-expression_row-says-requires-clause-known_expression
+eval-expression_row-says-requires-clause-known_expression t c = let w = c.requires.ready.world in row_known _ w.accepted _ (in_table w c.requires.here)
 
-pub eval-constant-requires : goal.eval-constant-requires
+pub eval-constant-requires-clause-constant_row : goal.eval-constant-requires-clause-constant_row
 unfolding RowFacts
-eval-constant-requires t c =
-    let w = c.requires.ready.world in record { table = w.table; r_lt_count = c.requires.here; constant_row = (facts w c.requires.here (says_as c.in-Constant.is c.expression_row-says.ensures), omega (arith, c.requires.room)) }
+eval-constant-requires-clause-constant_row t c = (facts c.requires.ready.world c.requires.here (says_as c.in-Constant.is c.expression_row-says.ensures), omega (arith, c.requires.room))
 
-pub eval-fetch-requires : goal.eval-fetch-requires
-eval-fetch-requires t c =
-    let w = c.requires.ready.world in record { has_stored = record { store = c.requires.ready.store; stored = w.stored; there = few_named w c.requires.here (says_as c.in-Variable.is c.expression_row-says.ensures) }; body_cells_in_bounds = omega (arith, c.requires.room) }
-
-pub eval-copied-requires : goal.eval-copied-requires
-eval-copied-requires t c = record { has_current = c.requires.ready.has; body_cells_in_bounds = omega (arith, c.requires.room) }
+pub eval-fetch-requires-clause-has_stored : goal.eval-fetch-requires-clause-has_stored
+eval-fetch-requires-clause-has_stored t c =
+    let w = c.requires.ready.world in record { store = c.requires.ready.store; stored = w.stored; there = few_named w c.requires.here (says_as c.in-Variable.is c.expression_row-says.ensures) }
 
 pub eval-eval-x-requires : goal.eval-eval-x-requires
 unfolding RowFacts
@@ -147,37 +120,48 @@ eval-eval-x-requires t c =
     let f = facts c.requires.ready.world c.requires.here (says_as c.in-Unary.is c.expression_row-says.ensures) in
     (omega (arith, c.decreases, f), record { ready = c.requires.ready; here = omega (arith, f, c.requires.here); room = omega (arith, c.requires.room, f) })
 
-pub eval-unary-requires : goal.eval-unary-requires
-eval-unary-requires t c =
-    let r = c.requires.ready in record { given = record { outcome = _; gives = c.eval-x.ensures r.store r.has.value r.world r.has.is }; body_cells_in_bounds = omega (arith, c.requires.room, c.eval-x.auto.stack) }
+pub eval-unary-requires-clause-given : goal.eval-unary-requires-clause-given
+eval-unary-requires-clause-given t c = let r = c.requires.ready in record { outcome = _; gives = c.eval-x.ensures r.store r.has.value r.world r.has.is }
 
 pub eval-pair-quick-requires : goal.eval-pair-quick-requires
 unfolding RowFacts
 eval-pair-quick-requires t c =
     let f = facts c.requires.ready.world c.requires.here (says_as c.in-Binary.is c.expression_row-says.ensures) in record { asked = record { ready = c.requires.ready; here = omega (arith, f.0, c.requires.here); room = omega (arith, c.requires.room, f.0) }; asked_2 = record { ready = c.requires.ready; here = omega (arith, f.1, c.requires.here); room = simp length-drop (omega (arith, c.requires.room, f.1)) } }
 
-pub eval-eval-x-requires-in-Deeper : goal.eval-eval-x-requires-in-Deeper
+pub eval-returns-in_err-tag-in-Binary : goal.eval-returns-in_err-tag-in-Binary
+unfolding row_tree meaning
+eval-returns-in_err-tag-in-Binary t c = λ vs x w h.
+    rw (passed _ _ c.from_residual.ensures.1)
+    (by_row w c.requires.here x (says_as c.in-Binary.is c.expression_row-says.ensures) (quick_failed _ _ _ _ c.in_err-tag-in-Binary.was (c.in-Some.ensures vs x w h)))
+
+pub eval-returns-in-Some : goal.eval-returns-in-Some
+unfolding row_tree meaning
+eval-returns-in-Some t c = λ vs x w h.
+    rw c.simple_value.ensures (by_row w c.requires.here x (says_as c.in-Binary.is c.expression_row-says.ensures) (quick_simple _ _ _ _ c.in_ok-tag-in-Binary.was (c.in-Some.ensures vs x w h)))
+
+pub eval-eval-x-requires-in-Binary : goal.eval-eval-x-requires-in-Binary
 unfolding RowFacts
-eval-eval-x-requires-in-Deeper t c =
+eval-eval-x-requires-in-Binary t c =
     let f = facts c.requires.ready.world c.requires.here (says_as c.in-Binary.is c.expression_row-says.ensures) in
     (omega (arith, c.decreases, f.0), record { ready = c.requires.ready; here = omega (arith, f.0, c.requires.here); room = omega (arith, c.requires.room, f.0, c.pair-quick.auto.stack) })
-
-pub eval-slice_bounds-eval-count : goal.eval-slice_bounds-eval-count
-eval-slice_bounds-eval-count t c = omega (arith, c.requires.room, c.eval-x-in-Deeper.auto.stack, c.pair-quick.auto.stack)
-
-pub eval-slice_bounds-eval-start : goal.eval-slice_bounds-eval-start
-eval-slice_bounds-eval-start t c = omega (arith, c.requires.room, c.eval-x-in-Deeper.auto.stack, c.pair-quick.auto.stack)
 
 pub eval-eval-y-requires : goal.eval-eval-y-requires
 unfolding RowFacts
 eval-eval-y-requires t c =
     let f = facts c.requires.ready.world c.requires.here (says_as c.in-Binary.is c.expression_row-says.ensures) in
-    (omega (arith, c.decreases, f.1), record { ready = c.requires.ready; here = omega (arith, f.1, c.requires.here); room = simp (length-take, length-drop) (omega (arith, c.requires.room, f.1, c.eval-x-in-Deeper.auto.stack, c.pair-quick.auto.stack)) })
+    (omega (arith, c.decreases, f.1), record { ready = c.requires.ready; here = omega (arith, f.1, c.requires.here); room = simp (length-take, length-drop) (omega (arith, c.requires.room, f.1, c.eval-x-in-Binary.auto.stack, c.pair-quick.auto.stack)) })
 
-pub eval-binary-requires : goal.eval-binary-requires
-eval-binary-requires t c =
+pub eval-binary-requires-clause-given : goal.eval-binary-requires-clause-given
+eval-binary-requires-clause-given t c =
     let r = c.requires.ready in
-    let long : 64 ≤ length c.eval-x-in-Deeper.new.stack = omega (arith, c.requires.room, c.eval-x-in-Deeper.auto.stack, c.pair-quick.auto.stack) in record { given = record { outcome = _; gives = first_stays c.eval-y.new.stack _ long (c.eval-x-in-Deeper.ensures r.store r.has.value r.world r.has.is) }; given_2 = record { outcome = _; gives = second_lies c.eval-x-in-Deeper.new.stack c.eval-y.new.stack _ long (c.eval-y.ensures r.store r.has.value r.world r.has.is) }; body_cells_in_bounds = both_long c.eval-x-in-Deeper.new.stack c.eval-y.new.stack _ long (omega (arith, c.requires.room, c.eval-x-in-Deeper.auto.stack, c.pair-quick.auto.stack, simp (length-take, length-drop) at c.eval-y.auto.stack)) }
+    let long : 64 ≤ length c.eval-x-in-Binary.new.stack = omega (arith, c.requires.room, c.eval-x-in-Binary.auto.stack, c.pair-quick.auto.stack) in
+    record { outcome = _; gives = first_stays c.eval-y.new.stack _ long (c.eval-x-in-Binary.ensures r.store r.has.value r.world r.has.is) }
+
+pub eval-binary-requires-clause-given_2 : goal.eval-binary-requires-clause-given_2
+eval-binary-requires-clause-given_2 t c =
+    let r = c.requires.ready in
+    let long : 64 ≤ length c.eval-x-in-Binary.new.stack = omega (arith, c.requires.room, c.eval-x-in-Binary.auto.stack, c.pair-quick.auto.stack) in
+    record { outcome = _; gives = second_lies c.eval-x-in-Binary.new.stack c.eval-y.new.stack _ long (c.eval-y.ensures r.store r.has.value r.world r.has.is) }
 
 pub eval-lazy-requires : goal.eval-lazy-requires
 unfolding RowFacts
@@ -213,20 +197,12 @@ pub eval-returns-in-Unary : goal.eval-returns-in-Unary
 unfolding row_tree meaning
 eval-returns-in-Unary t c = λ vs x w h. by_row w c.requires.here x (says_as c.in-Unary.is c.expression_row-says.ensures) (c.unary.ensures _ (c.eval-x.ensures vs x w h))
 
-pub eval-returns-in-Simple : goal.eval-returns-in-Simple
+pub eval-returns-in_default : goal.eval-returns-in_default
 unfolding row_tree meaning
-eval-returns-in-Simple t c = λ vs x w h. by_row w c.requires.here x (says_as c.in-Binary.is c.expression_row-says.ensures) (quick_simple c.in-Simple.is (c.pair-quick.ensures vs x w h) c.simple_value.ensures)
-
-pub eval-returns-in-Failed : goal.eval-returns-in-Failed
-unfolding row_tree meaning
-eval-returns-in-Failed t c = λ vs x w h. by_row w c.requires.here x (says_as c.in-Binary.is c.expression_row-says.ensures) (quick_failed c.in-Failed.is (c.pair-quick.ensures vs x w h) c.failed.ensures)
-
-pub eval-returns-in-Deeper : goal.eval-returns-in-Deeper
-unfolding row_tree meaning
-eval-returns-in-Deeper t c = λ vs x w h.
-    let long : 64 ≤ length c.eval-x-in-Deeper.new.stack = omega (arith, c.requires.room, c.eval-x-in-Deeper.auto.stack, c.pair-quick.auto.stack) in
+eval-returns-in_default t c = λ vs x w h.
+    let long : 64 ≤ length c.eval-x-in-Binary.new.stack = omega (arith, c.requires.room, c.eval-x-in-Binary.auto.stack, c.pair-quick.auto.stack) in
     by_row w c.requires.here x (says_as c.in-Binary.is c.expression_row-says.ensures)
-    (c.binary.ensures _ _ (first_stays c.eval-y.new.stack _ long (c.eval-x-in-Deeper.ensures vs x w h)) (second_lies c.eval-x-in-Deeper.new.stack c.eval-y.new.stack _ long (c.eval-y.ensures vs x w h)))
+    (c.binary.ensures _ _ (first_stays c.eval-y.new.stack _ long (c.eval-x-in-Binary.ensures vs x w h)) (second_lies c.eval-x-in-Binary.new.stack c.eval-y.new.stack _ long (c.eval-y.ensures vs x w h)))
 
 pub eval-returns-in-Lazy : goal.eval-returns-in-Lazy
 unfolding row_tree
@@ -240,28 +216,22 @@ pub eval-returns-in-AllList : goal.eval-returns-in-AllList
 unfolding row_tree
 eval-returns-in-AllList t c = λ vs x w h. by_row w c.requires.here x (says_as c.in-AllList.is c.expression_row-says.ensures) (c.all.ensures vs x w h)
 
-pub lazy-eval-x-requires : goal.lazy-eval-x-requires
-lazy-eval-x-requires t c = (omega (arith, c.decreases, c.requires), record { ready = c.requires.asked.ready; here = omega (arith, c.requires.a_lt_row.0, c.requires.asked.here); room = omega (arith, c.requires.asked.room, c.requires.a_lt_row.0) })
-
-pub lazy-truth_of-first-requires : goal.lazy-truth_of-first-requires
-lazy-truth_of-first-requires t c = record { other_nonzero = omega arith; stack_nonzero = omega (arith, c.requires.asked.room, c.eval-x.auto.stack) }
-
-pub lazy-returns-then-first-ne-NO_ERROR : goal.lazy-returns-then-first-ne-NO_ERROR
-lazy-returns-then-first-ne-NO_ERROR t c = λ vs x w h. gives_error _ c.failed.ensures c.if-first-ne-NO_ERROR.true (lazy_error c.args.row c.args.settling (expression_tree c.args.rows.now c.args.a) (expression_tree c.args.rows.now c.args.b) (contents vs) x _ (c.truth_of-first.ensures _ (c.eval-x.ensures vs x w h)) c.if-first-ne-NO_ERROR.true)
+pub lazy-returns-in_err-first : goal.lazy-returns-in_err-first
+lazy-returns-in_err-first t c = λ vs x w h.
+    rw (passed _ _ c.from_residual.ensures.1)
+    (gives_error _ (lazy_error c.args.row c.args.settling (expression_tree c.args.rows.now c.args.a) (expression_tree c.args.rows.now c.args.b) (contents vs) x _ (sym (c.in_err-first.ensures _ (c.eval-x.ensures vs x w h)))))
 
 pub lazy-returns-then-first-settling : goal.lazy-returns-then-first-settling
-lazy-returns-then-first-settling t c = λ vs x w h. lazy_settled c.args.row c.args.settling (expression_tree c.args.rows.now c.args.a) (expression_tree c.args.rows.now c.args.b) (contents vs) x _ (c.eval-x.ensures vs x w h) (c.truth_of-first.ensures _ (c.eval-x.ensures vs x w h)) c.if-first-ne-NO_ERROR.false c.if-first-settling.true
+lazy-returns-then-first-settling t c = λ vs x w h.
+    let e = c.eval-x.ensures vs x w h in
+    lazy_settled c.args.row c.args.settling (expression_tree c.args.rows.now c.args.a) (expression_tree c.args.rows.now c.args.b) (contents vs) x _ (c.in_ok-first.ensures _ e) e c.if-first-settling.true
 
-pub lazy-eval-y-requires : goal.lazy-eval-y-requires
-lazy-eval-y-requires t c = (omega (arith, c.decreases, c.requires), record { ready = c.requires.asked.ready; here = omega (arith, c.requires.a_lt_row.1, c.requires.asked.here); room = omega (arith, c.requires.asked.room, c.requires.a_lt_row.1, c.eval-x.auto.stack) })
-
-pub lazy-truth_of-second-requires : goal.lazy-truth_of-second-requires
-lazy-truth_of-second-requires t c = record { other_nonzero = omega arith; stack_nonzero = omega (arith, c.requires.asked.room, c.eval-x.auto.stack, c.eval-y.auto.stack) }
-
-pub lazy-returns-then-second-ne-NO_ERROR : goal.lazy-returns-then-second-ne-NO_ERROR
-lazy-returns-then-second-ne-NO_ERROR t c = λ vs x w h.
-    gives_error _ c.failed-then-second-ne-NO_ERROR.ensures c.if-second-ne-NO_ERROR.true (lazy_second_error c.args.row c.args.settling (expression_tree c.args.rows.now c.args.a) (expression_tree c.args.rows.now c.args.b) (contents vs) x _ _ (c.truth_of-first.ensures _ (c.eval-x.ensures vs x w h)) c.if-first-ne-NO_ERROR.false c.if-first-settling.false (c.truth_of-second.ensures _ (c.eval-y.ensures vs x w h)) c.if-second-ne-NO_ERROR.true)
+pub lazy-returns-in_err-truth_of : goal.lazy-returns-in_err-truth_of
+lazy-returns-in_err-truth_of t c = λ vs x w h.
+    rw (passed _ _ c.from_residual-in_err-truth_of.ensures.1)
+    (gives_error _ (lazy_second_error c.args.row c.args.settling (expression_tree c.args.rows.now c.args.a) (expression_tree c.args.rows.now c.args.b) (contents vs) x _ (c.in_ok-first.ensures _ (c.eval-x.ensures vs x w h)) c.if-first-settling.false _ (sym (c.in_err-truth_of.ensures _ (c.eval-y.ensures vs x w h)))))
 
 pub lazy-returns : goal.lazy-returns
 lazy-returns t c = λ vs x w h.
-    lazy_second_told c.args.row c.args.settling (expression_tree c.args.rows.now c.args.a) (expression_tree c.args.rows.now c.args.b) (contents vs) x _ _ (c.truth_of-first.ensures _ (c.eval-x.ensures vs x w h)) c.if-first-ne-NO_ERROR.false c.if-first-settling.false (c.truth_of-second.ensures _ (c.eval-y.ensures vs x w h)) (c.eval-y.ensures vs x w h) c.if-second-ne-NO_ERROR.false
+    let e = c.eval-y.ensures vs x w h in
+    lazy_second_told c.args.row c.args.settling (expression_tree c.args.rows.now c.args.a) (expression_tree c.args.rows.now c.args.b) (contents vs) x _ (c.in_ok-first.ensures _ (c.eval-x.ensures vs x w h)) c.if-first-settling.false _ e (c.in_ok-truth_of.ensures _ e)

@@ -1,9 +1,8 @@
 -- The cycle of evaluation meets its contracts: eval on a row calls the others at that row, and they call eval on lower rows.
 -- One law of Cycle.antt for each way that a member ends. Assumes nothing.
-use mathlib.Core.Path.{◌≡◌}
 use mathlib.Core.List.{List, map}
-use Prim.Native.Nat.{◌+◌, ◌-◌, ◌*◌, ◌≤◌}
-use lib.ListN.{length, take}
+use Prim.Native.Nat.{◌+◌, ◌*◌}
+use lib.ListN.{take}
 use Rattle.lingua.specs.Body.{Body, list_of}
 use Rattle.lingua.specs.Value.{Value, composite, value_list, as_items}
 use Rattle.lingua.specs.Store.{Variable, contents}
@@ -27,7 +26,4 @@ abbrev pub decreases-lazy : goal.decreases-lazy
 decreases-lazy l = 2 * l.row
 
 abbrev pub invariant-all-loop-i : goal.invariant-all-loop-i
-invariant-all-loop-i l = (l.i ≤ l.n) × (length l.stack ≡ length l.initial.stack) × (l.at ≡ 1 + l.i * l.width) × ((vs : List Variable) (b : Body) (x : Value) → World l.rows l.t l.variables l.cells l.states vs → Holds l.inner b → Lies l.current 0 (list_of b) x → Sees l.seen (map (λ v. meaning (expression_tree l.rows l.a) (contents vs) (composite b v)) (take l.i (value_list (as_items x)))))
-
-abbrev pub decreases-all-loop-i : goal.decreases-all-loop-i
-decreases-all-loop-i l = l.n - l.i
+invariant-all-loop-i l = (vs : List Variable) (b : Body) (x : Value) → World l.rows l.t l.variables l.cells l.states vs → Holds l.inner b → Lies l.current 0 (list_of b) x → Sees l.seen (map (λ v. meaning (expression_tree l.rows l.a) (contents vs) (composite b v)) (take l.i (value_list (as_items x))))

@@ -17,4 +17,4 @@ copy-requires-clause-n_in_bounds_2 c =
     (omega (arith, r.1, c.requires.body_cells_in_bounds))
 
 pub returns : goal.returns
-returns c = λ x h. gives_current c.args.stack.now _ _ _ h (c.measure_body-m.ensures _ h.holds).is_cells c.copy.ensures refl refl refl
+returns c = λ x h. gives_current c.args.stack.now _ _ _ h (c.measure_body-m.ensures _ h.holds).is_cells c.copy.ensures refl refl

@@ -10,7 +10,7 @@ pub is_filled-requires : goal.is_filled-requires
 is_filled-requires c = let h = c.requires.has_stored in flag_there h.stored _ h.there
 
 pub returns-then-not-is_filled : goal.returns-then-not-is_filled
-returns-then-not-is_filled c = λ vs h. gives_error 7 c.failed.ensures (λ e. omega arith) (not_filled_is h _ (sym c.is_filled.ensures ∙ c.if-not-is_filled.true))
+returns-then-not-is_filled c = λ vs h. gives_error _ (not_filled_is h _ (sym c.is_filled.ensures ∙ c.if-not-is_filled.true))
 
 pub present-body-requires : goal.present-body-requires
 present-body-requires c =
@@ -46,4 +46,4 @@ pub returns : goal.returns
 returns c = λ vs h.
     let g = sym c.is_filled.ensures ∙ c.if-not-is_filled.false in
     let l = filled_there h _ g in
-    gives_variable h _ l c.args.stack.now _ _ _ _ g c.present-body.ensures (c.measure_body-m.ensures _ (present_held h _ l _ c.present-body.ensures)).is_cells c.copy.ensures refl refl refl
+    gives_variable h _ l c.args.stack.now _ _ _ _ g c.present-body.ensures (c.measure_body-m.ensures _ (present_held h _ l _ c.present-body.ensures)).is_cells c.copy.ensures refl refl

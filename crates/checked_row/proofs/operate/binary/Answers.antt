@@ -1,53 +1,41 @@
 -- `binary` meets its contract: one law of Operating.antt for each way that it ends. Assumes nothing.
 use mathlib.Core.Path.{refl}
 use Rattle.lingua.specs.Operations.{binary_meaning}
+use Rattle.laws.specs.Faults.{passed}
 use Rattle.body_half.specs.Half.{simple_typed}
 use Rattle.checked_row.proofs.Giving.{gives_error}
-use Rattle.checked_row.proofs.Operating.{given_held, binary_has, binary_no_body, binary_no_value, binary_value_lem, first_error, second_error, simple_ends}
-use Rattle.checked_row.proofs.Simple.{positive}
+use Rattle.checked_row.proofs.Operating.{given_held, binary_has, binary_no_body, binary_no_value, binary_value_lem, second_error}
 use Rattle.checked_row.proofs.operate.binary.Goals as goal
 
-pub returns-then-x-ne-NO_ERROR : goal.returns-then-x-ne-NO_ERROR
-returns-then-x-ne-NO_ERROR c = λ p q h k. first_error (binary_meaning c.args.o) c.args.x c.args.y c.args.stack.now q _ h c.if-x-ne-NO_ERROR.true
+pub returns-in_err-y : goal.returns-in_err-y
+returns-in_err-y c = λ p q h k. rw (passed _ _ c.from_residual-in_err-y.ensures.1) (gives_error _ (second_error (binary_meaning c.args.o) _ (h.answer _ c.in_ok-x.was) (k.error _ c.in_err-y.was)))
 
-pub returns-then-y-ne-NO_ERROR : goal.returns-then-y-ne-NO_ERROR
-returns-then-y-ne-NO_ERROR c = λ p q h k. second_error (binary_meaning c.args.o) c.args.x c.args.y c.args.stack.now _ h k c.if-x-ne-NO_ERROR.false c.if-y-ne-NO_ERROR.true
-
-pub binary-wrong-requires-clause-has_operands : goal.binary-wrong-requires-clause-has_operands
+pub binary-requires-clause-has_operands : goal.binary-requires-clause-has_operands
 unfolding simple_typed
-binary-wrong-requires-clause-has_operands c = (binary_has (binary_meaning c.args.o) c.args.x c.args.y (simple_typed c.simple_binary-tag.result) c.args.stack.now (λ b d h k. (c.simple_binary-tag.ensures b d h k).half (positive _ c.if-tag-ne0.true)) c.requires.given c.requires.given_2 c.if-x-ne-NO_ERROR.false c.if-y-ne-NO_ERROR.false refl)
+binary-requires-clause-has_operands c = binary_has (binary_meaning c.args.o) c.in_ok-x.x c.in_ok-y.y (simple_typed c.in-Some.tag) c.args.stack.now c.in-Some.ensures (c.requires.given.gives.answer _ c.in_ok-x.was) (c.requires.given_2.gives.answer _ c.in_ok-y.was)
 
-pub binary-wrong-requires-clause-body_cells_in_bounds : goal.binary-wrong-requires-clause-body_cells_in_bounds
+pub returns-in_err-binary : goal.returns-in_err-binary
 unfolding simple_typed
-binary-wrong-requires-clause-body_cells_in_bounds c = c.requires.body_cells_in_bounds
+returns-in_err-binary c = λ p q h k. rw (passed _ _ c.from_residual-in_err-binary.ensures.1) (gives_error _ (binary_no_value (binary_meaning c.args.o) c.in_ok-x.x c.in_ok-y.y (simple_typed c.in-Some.tag) c.args.stack.now c.in-Some.ensures _ _ c.in_err-binary.ensures _ refl (h.answer _ c.in_ok-x.was) (k.answer _ c.in_ok-y.was)))
 
-pub returns-then-tag-ne0 : goal.returns-then-tag-ne0
+pub returns-in-Some : goal.returns-in-Some
 unfolding simple_typed
-returns-then-tag-ne0 c = λ p q h k.
-    simple_ends _ c.simple_answer.ensures
-    (λ f. binary_no_value (binary_meaning c.args.o) c.args.x c.args.y (simple_typed c.simple_binary-tag.result) c.args.stack.now (λ b d h k. (c.simple_binary-tag.ensures b d h k).half (positive _ c.if-tag-ne0.true)) c.binary-wrong.result _ c.binary-wrong.ensures h k c.if-x-ne-NO_ERROR.false c.if-y-ne-NO_ERROR.false refl f)
-    (λ z. binary_value_lem (binary_meaning c.args.o) c.args.x c.args.y (simple_typed c.simple_binary-tag.result) c.args.stack.now (λ b d h k. (c.simple_binary-tag.ensures b d h k).half (positive _ c.if-tag-ne0.true)) c.binary-wrong.result _ c.binary-wrong.ensures h k c.if-x-ne-NO_ERROR.false c.if-y-ne-NO_ERROR.false refl z _ refl refl refl)
+returns-in-Some c = λ p q h k. rw c.simple_value.ensures (binary_value_lem (binary_meaning c.args.o) c.in_ok-x.x c.in_ok-y.y (simple_typed c.in-Some.tag) c.args.stack.now c.in-Some.ensures 0 _ c.in_ok-binary.ensures refl (h.answer _ c.in_ok-x.was) (k.answer _ c.in_ok-y.was))
 
-pub binary_half-half-requires-clause-held : goal.binary_half-half-requires-clause-held
-binary_half-half-requires-clause-held c = (given_held c.requires.given c.if-x-ne-NO_ERROR.false)
+pub binary_half-requires-clause-held : goal.binary_half-requires-clause-held
+binary_half-requires-clause-held c = given_held (c.requires.given.gives.answer _ c.in_ok-x.was)
 
-pub binary_half-half-requires-clause-held_2 : goal.binary_half-half-requires-clause-held_2
-binary_half-half-requires-clause-held_2 c = (given_held c.requires.given_2 c.if-y-ne-NO_ERROR.false)
+pub binary_half-requires-clause-held_2 : goal.binary_half-requires-clause-held_2
+binary_half-requires-clause-held_2 c = given_held (c.requires.given_2.gives.answer _ c.in_ok-y.was)
 
-pub returns-then-half-ne-NO_ERROR : goal.returns-then-half-ne-NO_ERROR
-returns-then-half-ne-NO_ERROR c = λ p q h k.
-    gives_error _ c.failed.ensures c.if-half-ne-NO_ERROR.true (binary_no_body (binary_meaning c.args.o) c.args.x c.args.y c.binary_half-half.result c.args.stack.now c.binary_half-half.ensures h k c.if-x-ne-NO_ERROR.false c.if-y-ne-NO_ERROR.false c.if-half-ne-NO_ERROR.true)
+pub returns-in_err-half : goal.returns-in_err-half
+returns-in_err-half c = λ p q h k. rw (passed _ _ c.from_residual-in_err-half.ensures.1) (gives_error _ (binary_no_body (binary_meaning c.args.o) _ c.in_err-half.ensures (h.answer _ c.in_ok-x.was) (k.answer _ c.in_ok-y.was)))
 
-pub binary-error-requires-clause-has_operands : goal.binary-error-requires-clause-has_operands
-binary-error-requires-clause-has_operands c = (binary_has (binary_meaning c.args.o) c.args.x c.args.y c.binary_half-half.result c.args.stack.now c.binary_half-half.ensures c.requires.given c.requires.given_2 c.if-x-ne-NO_ERROR.false c.if-y-ne-NO_ERROR.false c.if-half-ne-NO_ERROR.false)
+pub binary-requires-2-clause-has_operands : goal.binary-requires-2-clause-has_operands
+binary-requires-2-clause-has_operands c = binary_has (binary_meaning c.args.o) c.in_ok-x.x c.in_ok-y.y c.in_ok-half.half c.args.stack.now c.in_ok-half.ensures (c.requires.given.gives.answer _ c.in_ok-x.was) (c.requires.given_2.gives.answer _ c.in_ok-y.was)
 
-pub binary-error-requires-clause-body_cells_in_bounds : goal.binary-error-requires-clause-body_cells_in_bounds
-binary-error-requires-clause-body_cells_in_bounds c = c.requires.body_cells_in_bounds
-
-pub returns-then-error-ne-NO_ERROR : goal.returns-then-error-ne-NO_ERROR
-returns-then-error-ne-NO_ERROR c = λ p q h k.
-    gives_error _ c.failed-then-error-ne-NO_ERROR.ensures c.if-error-ne-NO_ERROR.true (binary_no_value (binary_meaning c.args.o) c.args.x c.args.y c.binary_half-half.result c.args.stack.now c.binary_half-half.ensures c.binary-error.result _ c.binary-error.ensures h k c.if-x-ne-NO_ERROR.false c.if-y-ne-NO_ERROR.false c.if-half-ne-NO_ERROR.false c.if-error-ne-NO_ERROR.true)
+pub returns-in_err-binary-2 : goal.returns-in_err-binary-2
+returns-in_err-binary-2 c = λ p q h k. rw (passed _ _ c.from_residual-in_err-binary-2.ensures.1) (gives_error _ (binary_no_value (binary_meaning c.args.o) c.in_ok-x.x c.in_ok-y.y c.in_ok-half.half c.args.stack.now c.in_ok-half.ensures _ _ c.in_err-binary-2.ensures _ refl (h.answer _ c.in_ok-x.was) (k.answer _ c.in_ok-y.was)))
 
 pub returns : goal.returns
-returns c = λ p q h k.
-    binary_value_lem (binary_meaning c.args.o) c.args.x c.args.y c.binary_half-half.result c.args.stack.now c.binary_half-half.ensures c.binary-error.result _ c.binary-error.ensures h k c.if-x-ne-NO_ERROR.false c.if-y-ne-NO_ERROR.false c.if-half-ne-NO_ERROR.false c.if-error-ne-NO_ERROR.false _ refl refl refl
+returns c = λ p q h k. binary_value_lem (binary_meaning c.args.o) c.in_ok-x.x c.in_ok-y.y c.in_ok-half.half c.args.stack.now c.in_ok-half.ensures 0 _ c.in_ok-binary-2.ensures refl (h.answer _ c.in_ok-x.was) (k.answer _ c.in_ok-y.was)

@@ -1,47 +1,35 @@
 -- `unary` meets its contract: one law of Operating.antt for each way that it ends. Assumes nothing.
 use mathlib.Core.Path.{refl}
 use Rattle.lingua.specs.Operations.{unary_meaning}
+use Rattle.laws.specs.Faults.{passed}
 use Rattle.body_half.specs.Half.{simple_typed}
-use Rattle.checked_row.proofs.Giving.{handed_on, gives_error}
-use Rattle.checked_row.proofs.Operating.{given_held, unary_has, unary_no_body, unary_no_value, unary_value_lem, simple_ends}
-use Rattle.checked_row.proofs.Simple.{positive}
+use Rattle.checked_row.proofs.Giving.{gives_error}
+use Rattle.checked_row.proofs.Operating.{given_held, unary_has, unary_no_body, unary_no_value, unary_value_lem}
 use Rattle.checked_row.proofs.operate.unary.Goals as goal
 
-pub returns-then-x-ne-NO_ERROR : goal.returns-then-x-ne-NO_ERROR
-returns-then-x-ne-NO_ERROR c = λ p h. handed_on _ _ h c.if-x-ne-NO_ERROR.true
-
-pub unary-wrong-requires-clause-has_operand : goal.unary-wrong-requires-clause-has_operand
+pub unary-requires-clause-has_operand : goal.unary-requires-clause-has_operand
 unfolding simple_typed
-unary-wrong-requires-clause-has_operand c = (unary_has (unary_meaning c.args.o) c.args.x (simple_typed c.simple_unary-tag.result) c.args.stack.now (λ b h. (c.simple_unary-tag.ensures b h).half (positive _ c.if-tag-ne0.true)) c.requires.given c.if-x-ne-NO_ERROR.false refl)
+unary-requires-clause-has_operand c = unary_has (unary_meaning c.args.o) c.in_ok-x.x (simple_typed c.in-Some.tag) c.args.stack.now c.in-Some.ensures (c.requires.given.gives.answer _ c.in_ok-x.was)
 
-pub unary-wrong-requires-clause-body_cells_in_bounds : goal.unary-wrong-requires-clause-body_cells_in_bounds
+pub returns-in_err-unary : goal.returns-in_err-unary
 unfolding simple_typed
-unary-wrong-requires-clause-body_cells_in_bounds c = c.requires.body_cells_in_bounds
+returns-in_err-unary c = λ p h. rw (passed _ _ c.from_residual-in_err-unary.ensures.1) (gives_error _ (unary_no_value (unary_meaning c.args.o) c.in_ok-x.x (simple_typed c.in-Some.tag) c.args.stack.now c.in-Some.ensures _ _ c.in_err-unary.ensures _ refl (h.answer _ c.in_ok-x.was)))
 
-pub returns-then-tag-ne0 : goal.returns-then-tag-ne0
+pub returns-in-Some : goal.returns-in-Some
 unfolding simple_typed
-returns-then-tag-ne0 c = λ p h.
-    simple_ends _ c.simple_answer.ensures
-    (λ f. unary_no_value (unary_meaning c.args.o) c.args.x (simple_typed c.simple_unary-tag.result) c.args.stack.now (λ b h. (c.simple_unary-tag.ensures b h).half (positive _ c.if-tag-ne0.true)) c.unary-wrong.result _ c.unary-wrong.ensures h c.if-x-ne-NO_ERROR.false refl f)
-    (λ z. unary_value_lem (unary_meaning c.args.o) c.args.x (simple_typed c.simple_unary-tag.result) c.args.stack.now (λ b h. (c.simple_unary-tag.ensures b h).half (positive _ c.if-tag-ne0.true)) c.unary-wrong.result _ c.unary-wrong.ensures h c.if-x-ne-NO_ERROR.false refl z _ refl refl refl)
+returns-in-Some c = λ p h. rw c.simple_value.ensures (unary_value_lem (unary_meaning c.args.o) c.in_ok-x.x (simple_typed c.in-Some.tag) c.args.stack.now c.in-Some.ensures 0 _ c.in_ok-unary.ensures refl (h.answer _ c.in_ok-x.was))
 
-pub unary_half-half-requires : goal.unary_half-half-requires
-unary_half-half-requires c = given_held c.requires.given c.if-x-ne-NO_ERROR.false
+pub unary_half-requires : goal.unary_half-requires
+unary_half-requires c = given_held (c.requires.given.gives.answer _ c.in_ok-x.was)
 
-pub returns-then-half-ne-NO_ERROR : goal.returns-then-half-ne-NO_ERROR
-returns-then-half-ne-NO_ERROR c = λ p h.
-    gives_error _ c.failed.ensures c.if-half-ne-NO_ERROR.true (unary_no_body (unary_meaning c.args.o) c.args.x c.unary_half-half.result c.args.stack.now c.unary_half-half.ensures h c.if-x-ne-NO_ERROR.false c.if-half-ne-NO_ERROR.true)
+pub returns-in_err-half : goal.returns-in_err-half
+returns-in_err-half c = λ p h. rw (passed _ _ c.from_residual-in_err-half.ensures.1) (gives_error _ (unary_no_body (unary_meaning c.args.o) _ c.in_err-half.ensures (h.answer _ c.in_ok-x.was)))
 
-pub unary-error-requires-clause-has_operand : goal.unary-error-requires-clause-has_operand
-unary-error-requires-clause-has_operand c = (unary_has (unary_meaning c.args.o) c.args.x c.unary_half-half.result c.args.stack.now c.unary_half-half.ensures c.requires.given c.if-x-ne-NO_ERROR.false c.if-half-ne-NO_ERROR.false)
+pub unary-requires-2-clause-has_operand : goal.unary-requires-2-clause-has_operand
+unary-requires-2-clause-has_operand c = unary_has (unary_meaning c.args.o) c.in_ok-x.x c.in_ok-half.half c.args.stack.now c.in_ok-half.ensures (c.requires.given.gives.answer _ c.in_ok-x.was)
 
-pub unary-error-requires-clause-body_cells_in_bounds : goal.unary-error-requires-clause-body_cells_in_bounds
-unary-error-requires-clause-body_cells_in_bounds c = c.requires.body_cells_in_bounds
-
-pub returns-then-error-ne-NO_ERROR : goal.returns-then-error-ne-NO_ERROR
-returns-then-error-ne-NO_ERROR c = λ p h.
-    gives_error _ c.failed-then-error-ne-NO_ERROR.ensures c.if-error-ne-NO_ERROR.true (unary_no_value (unary_meaning c.args.o) c.args.x c.unary_half-half.result c.args.stack.now c.unary_half-half.ensures c.unary-error.result _ c.unary-error.ensures h c.if-x-ne-NO_ERROR.false c.if-half-ne-NO_ERROR.false c.if-error-ne-NO_ERROR.true)
+pub returns-in_err-unary-2 : goal.returns-in_err-unary-2
+returns-in_err-unary-2 c = λ p h. rw (passed _ _ c.from_residual-in_err-unary-2.ensures.1) (gives_error _ (unary_no_value (unary_meaning c.args.o) c.in_ok-x.x c.in_ok-half.half c.args.stack.now c.in_ok-half.ensures _ _ c.in_err-unary-2.ensures _ refl (h.answer _ c.in_ok-x.was)))
 
 pub returns : goal.returns
-returns c = λ p h.
-    unary_value_lem (unary_meaning c.args.o) c.args.x c.unary_half-half.result c.args.stack.now c.unary_half-half.ensures c.unary-error.result _ c.unary-error.ensures h c.if-x-ne-NO_ERROR.false c.if-half-ne-NO_ERROR.false c.if-error-ne-NO_ERROR.false _ refl refl refl
+returns c = λ p h. unary_value_lem (unary_meaning c.args.o) c.in_ok-x.x c.in_ok-half.half c.args.stack.now c.in_ok-half.ensures 0 _ c.in_ok-unary-2.ensures refl (h.answer _ c.in_ok-x.was)

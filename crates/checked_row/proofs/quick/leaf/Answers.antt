@@ -8,68 +8,31 @@ use Rattle.profile.specs.Known.{row_known}
 use Rattle.cells.proofs.Moves.{cell_back}
 use Rattle.run.proofs.Parts.{cells_room}
 use Rattle.checked_row.proofs.Storing.{memory_of, flag_there, filled_there, body_room, present_held}
-use Rattle.checked_row.proofs.Cycle.{in_table, facts, few_named}
-use Rattle.checked_row.proofs.Simple.{no_gives, positive, own_first, constant_simple, variable_simple, current_long, current_simple, simple_by_row}
+use Rattle.checked_row.proofs.Cycle.{in_table, facts, few_named, by_row}
+use Rattle.checked_row.proofs.Simple.{own_first, constant_simple, variable_simple, current_long, current_simple}
 use Rattle.checked_row.proofs.quick.leaf.Goals as goal
-
-pub expression_row-says-requires-clause-table : goal.expression_row-says-requires-clause-table
-expression_row-says-requires-clause-table c =
-    let w = c.requires.ready.world in
-    w.table
-
-pub expression_row-says-requires-clause-r_lt_count : goal.expression_row-says-requires-clause-r_lt_count
-expression_row-says-requires-clause-r_lt_count c =
-    let w = c.requires.ready.world in
-    c.requires.here
 
 pub expression_row-says-requires-clause-known_expression : goal.expression_row-says-requires-clause-known_expression
 expression_row-says-requires-clause-known_expression c =
     let w = c.requires.ready.world in
-    (row_known _ w.accepted _ (in_table w c.requires.here))
-
-pub constant_body-own-requires-clause-table : goal.constant_body-own-requires-clause-table
-constant_body-own-requires-clause-table c = c.requires.ready.world.table
-
-pub constant_body-own-requires-clause-r_lt_count : goal.constant_body-own-requires-clause-r_lt_count
-constant_body-own-requires-clause-r_lt_count c = c.requires.here
-
-pub returns-then-tag-eq0 : goal.returns-then-tag-eq0
-returns-then-tag-eq0 c = λ vs x w h. no_gives _ _
-
-pub constant_cell-requires-clause-table : goal.constant_cell-requires-clause-table
-unfolding RowFacts
-constant_cell-requires-clause-table c =
-    let w = c.requires.ready.world in
-    w.table
-
-pub constant_cell-requires-clause-r_lt_count : goal.constant_cell-requires-clause-r_lt_count
-unfolding RowFacts
-constant_cell-requires-clause-r_lt_count c =
-    let w = c.requires.ready.world in
-    c.requires.here
+    row_known _ w.accepted _ (in_table w c.requires.here)
 
 pub constant_cell-requires-clause-constant_row : goal.constant_cell-requires-clause-constant_row
 unfolding RowFacts
-constant_cell-requires-clause-constant_row c =
-    let w = c.requires.ready.world in
-    (facts w c.requires.here (says_as c.in-Constant.is c.expression_row-says.ensures))
-
-pub bounds-stack-0 : goal.bounds-stack-0
-bounds-stack-0 c = omega (arith, c.requires.room)
+constant_cell-requires-clause-constant_row c = facts c.requires.ready.world c.requires.here (says_as c.in-Constant.is c.expression_row-says.ensures)
 
 pub is_filled-requires : goal.is_filled-requires
 is_filled-requires c =
     let w = c.requires.ready.world in
     flag_there w.stored _ (few_named w c.requires.here (says_as c.in-Variable.is c.expression_row-says.ensures))
 
-pub returns-then-not-is_filled : goal.returns-then-not-is_filled
-returns-then-not-is_filled c = λ vs x w h. no_gives _ _
-
 pub overflow_mul-n : goal.overflow_mul-n
 overflow_mul-n c = omega (arith, few_named c.requires.ready.world c.requires.here (says_as c.in-Variable.is c.expression_row-says.ensures))
 
-pub returns-then-tag-eq0-2 : goal.returns-then-tag-eq0-2
-returns-then-tag-eq0-2 c = λ vs x w h. no_gives _ _
+pub bounds-variables-n : goal.bounds-variables-n
+bounds-variables-n c =
+    let s = c.requires.ready.world.stored in
+    omega (arith, body_room s _ (filled_there s _ (sym c.is_filled.ensures ∙ c.if-not-is_filled.false)))
 
 pub overflow_mul-stack : goal.overflow_mul-stack
 overflow_mul-stack c = omega (arith, few_named c.requires.ready.world c.requires.here (says_as c.in-Variable.is c.expression_row-says.ensures))
@@ -77,61 +40,33 @@ overflow_mul-stack c = omega (arith, few_named c.requires.ready.world c.requires
 pub offset_bounds-cells-n : goal.offset_bounds-cells-n
 offset_bounds-cells-n c = omega (arith, few_named c.requires.ready.world c.requires.here (says_as c.in-Variable.is c.expression_row-says.ensures))
 
-pub bounds-stack-0-in-Variable : goal.bounds-stack-0-in-Variable
-bounds-stack-0-in-Variable c = omega (arith, c.requires.room)
-
-pub returns-then-tag-eq0-3 : goal.returns-then-tag-eq0-3
-returns-then-tag-eq0-3 c = λ vs x w h. no_gives _ _
-
-pub bounds-current-0 : goal.bounds-current-0
-bounds-current-0 c =
-    let u = c.requires.ready.has in
-    current_long u.is (c.simple_tag-tag-in-Current.ensures _ _ u.is.holds refl) (positive _ c.if-tag-eq0-3.false)
-
-pub bounds-stack-0-in-Current : goal.bounds-stack-0-in-Current
-bounds-stack-0-in-Current c = omega (arith, c.requires.room)
-
-pub returns-else-tag-eq0 : goal.returns-else-tag-eq0
-unfolding row_tree meaning RowFacts
-returns-else-tag-eq0 c = λ vs x w h.
-    let f = facts w c.requires.here (says_as c.in-Constant.is c.expression_row-says.ensures) in
-    simple_by_row w c.requires.here x (says_as c.in-Constant.is c.expression_row-says.ensures)
-    (constant_simple c.args.rows.now c.args.row c.args.stack.now _ _ _ f (cell_as (sym (cell_back _ c.constant_cell.type_inv)) c.constant_cell.ensures) (omega (arith, c.requires.room)) c.constant_body-own.ensures (c.simple_tag-tag.ensures _ _ c.constant_body-own.ensures refl))
-
-pub returns-else-tag-eq0-3 : goal.returns-else-tag-eq0-3
-unfolding row_tree meaning
-returns-else-tag-eq0-3 c = λ vs x w h.
-    simple_by_row w c.requires.here x (says_as c.in-Current.is c.expression_row-says.ensures)
-    (current_simple c.args.stack.now _ _ h (c.simple_tag-tag-in-Current.ensures _ _ h.holds refl) (cell_back _ (omega arith)) (omega (arith, c.requires.room)))
-
-pub returns-in-Unary : goal.returns-in-Unary
-returns-in-Unary c = λ vs x w h. no_gives _ _
-
-pub returns-in-Binary : goal.returns-in-Binary
-returns-in-Binary c = λ vs x w h. no_gives _ _
-
-pub returns-in-Lazy : goal.returns-in-Lazy
-returns-in-Lazy c = λ vs x w h. no_gives _ _
-
-pub returns-in-Choice : goal.returns-in-Choice
-returns-in-Choice c = λ vs x w h. no_gives _ _
-
-pub returns-in-AllList : goal.returns-in-AllList
-returns-in-AllList c = λ vs x w h. no_gives _ _
-
-pub bounds-variables-n : goal.bounds-variables-n
-bounds-variables-n c =
-    let s = c.requires.ready.world.stored in
-    omega (arith, body_room s _ (filled_there s _ (sym c.is_filled.ensures ∙ c.if-not-is_filled.false)))
-
 pub bounds-cells-n : goal.bounds-cells-n
 bounds-cells-n c =
     let s = c.requires.ready.world.stored in
     omega (arith, cells_room (memory_of s) _ (filled_there s _ (sym c.is_filled.ensures ∙ c.if-not-is_filled.false)))
 
-pub returns-else-tag-eq0-2 : goal.returns-else-tag-eq0-2
+pub bounds-current-0 : goal.bounds-current-0
+bounds-current-0 c =
+    let u = c.requires.ready.has in
+    current_long u.is (c.in_ok-tag-in-Current.ensures _ _ u.is.holds refl)
+
+pub returns-in_ok-tag-in-Constant : goal.returns-in_ok-tag-in-Constant
+unfolding row_tree meaning RowFacts
+returns-in_ok-tag-in-Constant c = λ vs x w h.
+    let f = facts w c.requires.here (says_as c.in-Constant.is c.expression_row-says.ensures) in
+    by_row w c.requires.here x (says_as c.in-Constant.is c.expression_row-says.ensures)
+    (constant_simple c.args.rows.now c.args.row c.args.stack.now _ _ _ f (cell_as (sym (cell_back _ c.constant_cell.type_inv)) c.constant_cell.ensures) (omega (arith, c.requires.room)) c.constant_body-own.ensures (c.in_ok-tag-in-Constant.ensures _ _ c.constant_body-own.ensures refl))
+
+pub returns-in_ok-tag-in-Variable : goal.returns-in_ok-tag-in-Variable
 unfolding row_tree meaning
-returns-else-tag-eq0-2 c = λ vs x w h.
-    let lt = filled_there w.stored _ (sym c.is_filled.ensures ∙ c.if-not-is_filled.false) in
-    simple_by_row w c.requires.here x (says_as c.in-Variable.is c.expression_row-says.ensures)
-    (variable_simple w.stored _ lt c.args.stack.now _ _ (sym c.is_filled.ensures ∙ c.if-not-is_filled.false) (c.simple_tag-tag-in-Variable.ensures _ _ (present_held w.stored _ lt _ refl) (own_first c.args.variables.now c.in-Variable.n)) (cell_back _ (omega arith)) (omega (arith, c.requires.room)))
+returns-in_ok-tag-in-Variable c = λ vs x w h.
+    let filled = sym c.is_filled.ensures ∙ c.if-not-is_filled.false in
+    let lt = filled_there w.stored _ filled in
+    by_row w c.requires.here x (says_as c.in-Variable.is c.expression_row-says.ensures)
+    (variable_simple w.stored _ lt c.args.stack.now _ _ filled (c.in_ok-tag-in-Variable.ensures _ _ (present_held w.stored _ lt _ refl) (own_first c.args.variables.now c.in-Variable.n)) (cell_back _ (omega arith)) (omega (arith, c.requires.room)))
+
+pub returns-in_ok-tag-in-Current : goal.returns-in_ok-tag-in-Current
+unfolding row_tree meaning
+returns-in_ok-tag-in-Current c = λ vs x w h.
+    by_row w c.requires.here x (says_as c.in-Current.is c.expression_row-says.ensures)
+    (current_simple c.args.stack.now _ _ h (c.in_ok-tag-in-Current.ensures _ _ h.holds refl) (cell_back _ (omega arith)) (omega (arith, c.requires.room)))

@@ -2,12 +2,12 @@
 use mathlib.Core.Path.{ap, ◌∙◌}
 use native.Mathlib.Omega.{arith}
 use lib.IntN.{ℤ}
-use borrow.Author.Tests.{not-true, not-false}
 use Rattle.cells.proofs.Moves.{cell_back}
 use Rattle.lingua.specs.Store.{variable_at, within}
 use Rattle.checked_row.proofs.Giving.{gives_as}
 use Rattle.run.proofs.Parts.{word_room}
 use Rattle.checked_row.proofs.Storing.{memory_of, body_room, present_held}
+use Rattle.laws.specs.Faults.{passed_on}
 use Rattle.checked_store.proofs.Admitting.{yoke_there, own_yoke, yoke_error, other_body, no_truth, not_satisfied, out_of_limits, passes}
 use Rattle.checked_store.proofs.admit.admitted.Goals as goal
 
@@ -32,8 +32,8 @@ eval_yoke-given-requires-clause-y_in_bounds c =
     let y = yoke_there r.running c.args.n r.there c.yoke_of-yoke.ensures in
     (omega (arith, y, c.requires.count_in_bounds))
 
-pub returns-then-given-ne-NO_ERROR : goal.returns-then-given-ne-NO_ERROR
-returns-then-given-ne-NO_ERROR c = λ vs x w l h. yoke_error vs (variable_at vs c.args.n) x (gives_as (own_yoke w c.args.n l c.yoke_of-yoke.ensures x) (c.eval_yoke-given.ensures vs x w.world h)) c.if-given-ne-NO_ERROR.true
+pub returns-in_err-given : goal.returns-in_err-given
+returns-in_err-given c = λ vs x w l h. rw (passed_on _ _ c.from_residual.ensures.1) (yoke_error vs (variable_at vs c.args.n) x (gives_as (own_yoke w c.args.n l c.yoke_of-yoke.ensures x) (c.eval_yoke-given.ensures vs x w.world h)) _ c.in_err-given.was)
 
 pub present-own-requires : goal.present-own-requires
 present-own-requires c = let r = c.requires.checkable in body_room r.running.world.stored _ r.there
@@ -49,13 +49,13 @@ coherent-requires-clause-held_2 c =
     (record { body = _; holds = r.has.is.holds })
 
 pub returns-then-not-coherent : goal.returns-then-not-coherent
-returns-then-not-coherent c = λ vs x w l h. other_body vs (variable_at vs c.args.n) x (gives_as (own_yoke w c.args.n l c.yoke_of-yoke.ensures x) (c.eval_yoke-given.ensures vs x w.world h)) c.if-given-ne-NO_ERROR.false _ (c.coherent.ensures _ _ (present_held w.world.stored c.args.n l _ c.present-own.ensures) h.holds) c.if-not-coherent.true
+returns-then-not-coherent c = λ vs x w l h. other_body vs (variable_at vs c.args.n) x (gives_as (own_yoke w c.args.n l c.yoke_of-yoke.ensures x) (c.eval_yoke-given.ensures vs x w.world h)) _ c.in_ok-given.was _ (c.coherent.ensures _ _ (present_held w.world.stored c.args.n l _ c.present-own.ensures) h.holds) c.if-not-coherent.true
 
-pub returns-then-truth-ne-NO_ERROR : goal.returns-then-truth-ne-NO_ERROR
-returns-then-truth-ne-NO_ERROR c = λ vs x w l h. no_truth vs (variable_at vs c.args.n) x (gives_as (own_yoke w c.args.n l c.yoke_of-yoke.ensures x) (c.eval_yoke-given.ensures vs x w.world h)) c.if-given-ne-NO_ERROR.false _ (c.coherent.ensures _ _ (present_held w.world.stored c.args.n l _ c.present-own.ensures) h.holds) c.if-not-coherent.false _ (c.truth_of-truth.ensures _ (gives_as (own_yoke w c.args.n l c.yoke_of-yoke.ensures x) (c.eval_yoke-given.ensures vs x w.world h))) c.if-truth-ne-NO_ERROR.true
+pub returns-in_err-truth_of : goal.returns-in_err-truth_of
+returns-in_err-truth_of c = λ vs x w l h. rw (passed_on _ _ c.from_residual-in_err-truth_of.ensures.1) (no_truth vs (variable_at vs c.args.n) x (gives_as (own_yoke w c.args.n l c.yoke_of-yoke.ensures x) (c.eval_yoke-given.ensures vs x w.world h)) _ c.in_ok-given.was _ (c.coherent.ensures _ _ (present_held w.world.stored c.args.n l _ c.present-own.ensures) h.holds) c.if-not-coherent.false _ (c.in_err-truth_of.ensures _ (gives_as (own_yoke w c.args.n l c.yoke_of-yoke.ensures x) (c.eval_yoke-given.ensures vs x w.world h))))
 
-pub returns-then-not-truth : goal.returns-then-not-truth
-returns-then-not-truth c = λ vs x w l h. not_satisfied vs (variable_at vs c.args.n) x (gives_as (own_yoke w c.args.n l c.yoke_of-yoke.ensures x) (c.eval_yoke-given.ensures vs x w.world h)) c.if-given-ne-NO_ERROR.false _ (c.coherent.ensures _ _ (present_held w.world.stored c.args.n l _ c.present-own.ensures) h.holds) c.if-not-coherent.false _ (c.truth_of-truth.ensures _ (gives_as (own_yoke w c.args.n l c.yoke_of-yoke.ensures x) (c.eval_yoke-given.ensures vs x w.world h))) c.if-truth-ne-NO_ERROR.false (not-true _ c.if-not-truth.true)
+pub returns-then-not-branch : goal.returns-then-not-branch
+returns-then-not-branch c = λ vs x w l h. not_satisfied vs (variable_at vs c.args.n) x (gives_as (own_yoke w c.args.n l c.yoke_of-yoke.ensures x) (c.eval_yoke-given.ensures vs x w.world h)) _ c.in_ok-given.was _ (c.coherent.ensures _ _ (present_held w.world.stored c.args.n l _ c.present-own.ensures) h.holds) c.if-not-coherent.false _ (c.in_ok-truth_of.ensures _ (gives_as (own_yoke w c.args.n l c.yoke_of-yoke.ensures x) (c.eval_yoke-given.ensures vs x w.world h))) c.if-not-branch.true
 
 pub whole-z-requires : goal.whole-z-requires
 whole-z-requires c = c.requires.checkable.has
@@ -64,7 +64,7 @@ pub in_limits-requires : goal.in_limits-requires
 in_limits-requires c = let r = c.requires.checkable in omega (arith, r.running.room, r.there)
 
 pub returns-then-not-in_limits : goal.returns-then-not-in_limits
-returns-then-not-in_limits c = λ vs x w l h. out_of_limits vs (variable_at vs c.args.n) x (gives_as (own_yoke w c.args.n l c.yoke_of-yoke.ensures x) (c.eval_yoke-given.ensures vs x w.world h)) c.if-given-ne-NO_ERROR.false _ (c.coherent.ensures _ _ (present_held w.world.stored c.args.n l _ c.present-own.ensures) h.holds) c.if-not-coherent.false _ (c.truth_of-truth.ensures _ (gives_as (own_yoke w c.args.n l c.yoke_of-yoke.ensures x) (c.eval_yoke-given.ensures vs x w.world h))) c.if-truth-ne-NO_ERROR.false (not-false _ c.if-not-truth.false) _ (c.in_limits.ensures _ (w.limited c.args.n l) ∙ ap (λ (z : ℤ). within (variable_at vs c.args.n).limit z) (cell_back _ c.whole-z.type_inv ∙ c.whole-z.ensures x h)) c.if-not-in_limits.true
+returns-then-not-in_limits c = λ vs x w l h. out_of_limits vs (variable_at vs c.args.n) x (gives_as (own_yoke w c.args.n l c.yoke_of-yoke.ensures x) (c.eval_yoke-given.ensures vs x w.world h)) _ c.in_ok-given.was _ (c.coherent.ensures _ _ (present_held w.world.stored c.args.n l _ c.present-own.ensures) h.holds) c.if-not-coherent.false _ (c.in_ok-truth_of.ensures _ (gives_as (own_yoke w c.args.n l c.yoke_of-yoke.ensures x) (c.eval_yoke-given.ensures vs x w.world h))) c.if-not-branch.false _ (c.in_limits.ensures _ (w.limited c.args.n l) ∙ ap (λ (z : ℤ). within (variable_at vs c.args.n).limit z) (cell_back _ c.whole-z.type_inv ∙ c.whole-z.ensures x h)) c.if-not-in_limits.true
 
 pub returns : goal.returns
-returns c = λ vs x w l h. passes vs (variable_at vs c.args.n) x (gives_as (own_yoke w c.args.n l c.yoke_of-yoke.ensures x) (c.eval_yoke-given.ensures vs x w.world h)) c.if-given-ne-NO_ERROR.false _ (c.coherent.ensures _ _ (present_held w.world.stored c.args.n l _ c.present-own.ensures) h.holds) c.if-not-coherent.false _ (c.truth_of-truth.ensures _ (gives_as (own_yoke w c.args.n l c.yoke_of-yoke.ensures x) (c.eval_yoke-given.ensures vs x w.world h))) c.if-truth-ne-NO_ERROR.false (not-false _ c.if-not-truth.false) _ (c.in_limits.ensures _ (w.limited c.args.n l) ∙ ap (λ (z : ℤ). within (variable_at vs c.args.n).limit z) (cell_back _ c.whole-z.type_inv ∙ c.whole-z.ensures x h)) c.if-not-in_limits.false
+returns c = λ vs x w l h. passes vs (variable_at vs c.args.n) x (gives_as (own_yoke w c.args.n l c.yoke_of-yoke.ensures x) (c.eval_yoke-given.ensures vs x w.world h)) _ c.in_ok-given.was _ (c.coherent.ensures _ _ (present_held w.world.stored c.args.n l _ c.present-own.ensures) h.holds) c.if-not-coherent.false _ (c.in_ok-truth_of.ensures _ (gives_as (own_yoke w c.args.n l c.yoke_of-yoke.ensures x) (c.eval_yoke-given.ensures vs x w.world h))) c.if-not-branch.false _ (c.in_limits.ensures _ (w.limited c.args.n l) ∙ ap (λ (z : ℤ). within (variable_at vs c.args.n).limit z) (cell_back _ c.whole-z.type_inv ∙ c.whole-z.ensures x h)) c.if-not-in_limits.false

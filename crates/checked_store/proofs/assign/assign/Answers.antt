@@ -2,40 +2,42 @@
 use native.Mathlib.Omega.{arith}
 use mathlib.Core.Path.{refl}
 use Rattle.cells.proofs.Operands.{lies_long}
+use mathlib.Core.Path.{refl}
+use Rattle.laws.specs.Faults.{passed_on, error_some}
 use Rattle.run.proofs.Parts.{word_room, states_room, cells_room}
-use Rattle.run.proofs.Settling.{keeps}
+use Rattle.run.proofs.Settling.{keeps_fault}
 use Rattle.checked_store.proofs.Admitting.{no_yoke}
 use Rattle.checked_row.proofs.Storing.{memory_of, body_room, present_held}
 use Rattle.checked_store.proofs.Assigning.{here_current, copied_current, bounds_of, operand_error, not_admitted, stores}
 use Rattle.checked_store.proofs.assign.assign.Goals as goal
 
-pub returns-then-x-ne-NO_ERROR : goal.returns-then-x-ne-NO_ERROR
-returns-then-x-ne-NO_ERROR c = λ vs o w l h. keeps _ c.if-x-ne-NO_ERROR.true (operand_error vs _ h c.if-x-ne-NO_ERROR.true)
+pub returns-in_err-x : goal.returns-in_err-x
+returns-in_err-x c = λ vs o w l h. rw (passed_on _ _ c.from_residual.ensures.1) (keeps_fault _ (operand_error vs _ _ h c.in_err-x.was))
 
 pub yoke_of-requires : goal.yoke_of-requires
 yoke_of-requires c = let r = c.requires.assignable in word_room (memory_of r.running.world.stored) _ r.there
 
-pub unyoked-wrong-requires : goal.unyoked-wrong-requires
-unyoked-wrong-requires c =
+pub unyoked-requires : goal.unyoked-requires
+unyoked-requires c =
     let r = c.requires.assignable in
     let s = r.running.world.stored in
     record {
       own_room = body_room s _ r.there;
       held = record { body = _; holds = present_held s _ r.there _ refl };
       limit_room = omega (arith, r.running.room, r.there);
-      has = record { value = _; is = here_current (r.given.gives.answer c.if-x-ne-NO_ERROR.false) };
+      has = record { value = _; is = here_current (r.given.gives.answer _ c.in_ok-x.was) };
     }
 
-pub returns-then-wrong-ne-NO_ERROR : goal.returns-then-wrong-ne-NO_ERROR
-returns-then-wrong-ne-NO_ERROR c = λ vs o w l h.
-    let a = h.answer c.if-x-ne-NO_ERROR.false in
-    keeps _ c.if-wrong-ne-NO_ERROR.true (not_admitted vs _ a _ (c.unyoked-wrong.ensures vs _ _ (bounds_of w _ l) (no_yoke w _ l c.yoke_of.ensures c.if-yoke_of-eq0.true) (here_current a)) c.if-wrong-ne-NO_ERROR.true)
+pub returns-in_err-unyoked : goal.returns-in_err-unyoked
+returns-in_err-unyoked c = λ vs o w l h.
+    let a = h.answer _ c.in_ok-x.was in
+    rw (passed_on _ _ c.from_residual-in_err-unyoked.ensures.1) (keeps_fault _ (not_admitted vs _ a _ (c.in_err-unyoked.ensures vs _ _ (bounds_of w _ l) (no_yoke w _ l c.yoke_of.ensures c.if-yoke_of-eq0.true) (here_current a)) (error_some _)))
 
 pub keep-requires : goal.keep-requires
 keep-requires c =
     let r = c.requires.assignable in
     let s = r.running.world.stored in
-    let a = r.given.gives.answer c.if-x-ne-NO_ERROR.false in
+    let a = r.given.gives.answer _ c.in_ok-x.was in
     record {
       cells_room = cells_room (memory_of s) _ r.there;
       states_room = states_room (memory_of s) _ r.there;
@@ -46,39 +48,39 @@ keep-requires c =
 
 pub returns-then-yoke_of-eq0 : goal.returns-then-yoke_of-eq0
 returns-then-yoke_of-eq0 c = λ vs o w l h.
-    let a = h.answer c.if-x-ne-NO_ERROR.false in
-    stores vs _ a _ (c.unyoked-wrong.ensures vs _ _ (bounds_of w _ l) (no_yoke w _ l c.yoke_of.ensures c.if-yoke_of-eq0.true) (here_current a)) w l c.if-wrong-ne-NO_ERROR.false _ (here_current a) c.keep.ensures
+    let a = h.answer _ c.in_ok-x.was in
+    stores vs _ a _ (c.in_ok-unyoked.ensures vs _ _ (bounds_of w _ l) (no_yoke w _ l c.yoke_of.ensures c.if-yoke_of-eq0.true) (here_current a)) w l refl _ (here_current a) c.keep.ensures
 
 pub copy-requires-clause-n_in_bounds : goal.copy-requires-clause-n_in_bounds
 copy-requires-clause-n_in_bounds c =
-    let a = c.requires.assignable.given.gives.answer c.if-x-ne-NO_ERROR.false in
+    let a = c.requires.assignable.given.gives.answer _ c.in_ok-x.was in
     (omega (arith, a.cells, lies_long a.lies))
 
 pub copy-requires-clause-n_in_bounds_2 : goal.copy-requires-clause-n_in_bounds_2
 copy-requires-clause-n_in_bounds_2 c =
-    let a = c.requires.assignable.given.gives.answer c.if-x-ne-NO_ERROR.false in
+    let a = c.requires.assignable.given.gives.answer _ c.in_ok-x.was in
     (omega (arith, a.cells, a.holds.few_cells))
 
-pub admitted-error-requires-clause-checkable : goal.admitted-error-requires-clause-checkable
-admitted-error-requires-clause-checkable c =
+pub admitted-requires-clause-checkable : goal.admitted-requires-clause-checkable
+admitted-requires-clause-checkable c =
     let r = c.requires.assignable in
-    (record { store = r.store; running = r.running; there = r.there; has = record { value = _; is = copied_current (r.given.gives.answer c.if-x-ne-NO_ERROR.false) _ _ c.copy.ensures } })
+    (record { store = r.store; running = r.running; there = r.there; has = record { value = _; is = copied_current (r.given.gives.answer _ c.in_ok-x.was) _ _ c.copy.ensures } })
 
-pub admitted-error-requires-clause-count_in_bounds : goal.admitted-error-requires-clause-count_in_bounds
-admitted-error-requires-clause-count_in_bounds c =
+pub admitted-requires-clause-count_in_bounds : goal.admitted-requires-clause-count_in_bounds
+admitted-requires-clause-count_in_bounds c =
     let r = c.requires.assignable in
     c.requires.count_in_bounds
 
-pub returns-then-error-ne-NO_ERROR : goal.returns-then-error-ne-NO_ERROR
-returns-then-error-ne-NO_ERROR c = λ vs o w l h.
-    let a = h.answer c.if-x-ne-NO_ERROR.false in
-    keeps _ c.if-error-ne-NO_ERROR.true (not_admitted vs _ a _ (c.admitted-error.ensures vs _ w l (copied_current a _ _ c.copy.ensures)) c.if-error-ne-NO_ERROR.true)
+pub returns-in_err-admitted : goal.returns-in_err-admitted
+returns-in_err-admitted c = λ vs o w l h.
+    let a = h.answer _ c.in_ok-x.was in
+    rw (passed_on _ _ c.from_residual-in_err-admitted.ensures.1) (keeps_fault _ (not_admitted vs _ a _ (c.in_err-admitted.ensures vs _ w l (copied_current a _ _ c.copy.ensures)) (error_some _)))
 
 pub keep-requires-2 : goal.keep-requires-2
 keep-requires-2 c =
     let r = c.requires.assignable in
     let s = r.running.world.stored in
-    let a = r.given.gives.answer c.if-x-ne-NO_ERROR.false in
+    let a = r.given.gives.answer _ c.in_ok-x.was in
     record {
       cells_room = cells_room (memory_of s) _ r.there;
       states_room = states_room (memory_of s) _ r.there;
@@ -89,5 +91,5 @@ keep-requires-2 c =
 
 pub returns : goal.returns
 returns c = λ vs o w l h.
-    let a = h.answer c.if-x-ne-NO_ERROR.false in
-    stores vs _ a _ (c.admitted-error.ensures vs _ w l (copied_current a _ _ c.copy.ensures)) w l c.if-error-ne-NO_ERROR.false _ (copied_current a _ _ c.copy.ensures) c.keep-2.ensures
+    let a = h.answer _ c.in_ok-x.was in
+    stores vs _ a _ (c.in_ok-admitted.ensures vs _ w l (copied_current a _ _ c.copy.ensures)) w l refl _ (copied_current a _ _ c.copy.ensures) c.keep-2.ensures

@@ -1,7 +1,7 @@
 -- `yoke_holds` meets its contract: one law of Yoking.antt for each way that it ends. Assumes nothing.
 use mathlib.Core.Path.{sym, ◌∙◌}
 use native.Mathlib.Omega.{arith}
-use borrow.Author.Tests.{not-true, not-false}
+use Rattle.laws.specs.Faults.{passed_on}
 use Rattle.run.proofs.Parts.{cells_room}
 use Rattle.checked_row.proofs.Storing.{memory_of, flag_there, filled_there, body_room}
 use Rattle.checked_store.proofs.Yoking.{fetched, none_holds, holds_error, holds_not, holds_true}
@@ -37,17 +37,17 @@ eval_yoke-given-requires-clause-y_in_bounds c =
     let f = fetched _ _ _ r.store c.args.n r.world.stored _ c.present-body.ensures (sym c.is_filled.ensures ∙ c.if-not-is_filled.false) in
     (omega (arith, c.requires.y_le_count.1))
 
-pub returns-then-truth-ne-NO_ERROR : goal.returns-then-truth-ne-NO_ERROR
-returns-then-truth-ne-NO_ERROR c = λ vs w.
+pub returns-in_err-truth_of : goal.returns-in_err-truth_of
+returns-in_err-truth_of c = λ vs w.
     let f = fetched _ _ _ vs c.args.n w.stored _ c.present-body.ensures (sym c.is_filled.ensures ∙ c.if-not-is_filled.false) in
-    holds_error vs _ _ f.composite f.is _ (c.truth_of-truth.ensures _ (c.eval_yoke-given.ensures vs f.composite w f.current)) c.if-truth-ne-NO_ERROR.true
+    rw (passed_on _ _ c.from_residual.ensures.1) (holds_error vs _ _ f.composite f.is _ (c.in_err-truth_of.ensures _ (c.eval_yoke-given.ensures vs f.composite w f.current)))
 
-pub returns-then-not-truth : goal.returns-then-not-truth
-returns-then-not-truth c = λ vs w.
+pub returns-then-not-branch : goal.returns-then-not-branch
+returns-then-not-branch c = λ vs w.
     let f = fetched _ _ _ vs c.args.n w.stored _ c.present-body.ensures (sym c.is_filled.ensures ∙ c.if-not-is_filled.false) in
-    holds_not vs _ _ f.composite f.is _ (c.truth_of-truth.ensures _ (c.eval_yoke-given.ensures vs f.composite w f.current)) c.if-truth-ne-NO_ERROR.false (not-true _ c.if-not-truth.true)
+    holds_not vs _ _ f.composite f.is _ (c.in_ok-truth_of.ensures _ (c.eval_yoke-given.ensures vs f.composite w f.current)) c.if-not-branch.true
 
 pub returns : goal.returns
 returns c = λ vs w.
     let f = fetched _ _ _ vs c.args.n w.stored _ c.present-body.ensures (sym c.is_filled.ensures ∙ c.if-not-is_filled.false) in
-    holds_true vs _ _ f.composite f.is _ (c.truth_of-truth.ensures _ (c.eval_yoke-given.ensures vs f.composite w f.current)) c.if-truth-ne-NO_ERROR.false (not-false _ c.if-not-truth.false)
+    holds_true vs _ _ f.composite f.is _ (c.in_ok-truth_of.ensures _ (c.eval_yoke-given.ensures vs f.composite w f.current)) c.if-not-branch.false

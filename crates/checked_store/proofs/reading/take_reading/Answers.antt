@@ -21,7 +21,7 @@ returns-then-not-in_range c = λ vs w l. keeps 1 (λ e. omega arith) (out_of_ran
 pub assign-requires-clause-assignable : goal.assign-requires-clause-assignable
 assign-requires-clause-assignable c =
     let r = c.requires.has_running in
-    (record { store = r.store; running = r.running; there = r.there; given = record { outcome = _; gives = (puts_reading _ c.args.stack.now c.args.z _ _ (to_z-of_z _ _ c.ranges.z) (simp (to_z-of_z _ _ c.ranges.z) at c.in_range.ensures) c.if-not-in_range.false (omega (arith, c.requires.count_in_bounds)) refl c.quantity_body-body.ensures refl) } })
+    (record { store = r.store; running = r.running; there = r.there; given = record { outcome = _; gives = (puts_reading _ c.args.stack.now c.args.z _ _ (to_z-of_z _ _ c.ranges.z) (simp (to_z-of_z _ _ c.ranges.z) at c.in_range.ensures) c.if-not-in_range.false (omega (arith, c.requires.count_in_bounds)) c.quantity_body-body.ensures refl) } })
 
 pub assign-requires-clause-count_in_bounds : goal.assign-requires-clause-count_in_bounds
 assign-requires-clause-count_in_bounds c =
@@ -32,4 +32,4 @@ pub shape_of-stack : goal.shape_of-stack
 shape_of-stack c = c.assign.auto.stack ∙ length-set c.args.stack.now 0 _
 
 pub returns : goal.returns
-returns c = λ vs w l. settles_as (taken_is vs c.args.n c.args.z _ (counts_by_byte w.world.stored c.args.n l) _ (simp (to_z-of_z _ _ c.ranges.z) at c.in_range.ensures) c.if-not-in_range.false) (c.assign.ensures vs _ w l (puts_reading _ c.args.stack.now c.args.z _ _ (to_z-of_z _ _ c.ranges.z) (simp (to_z-of_z _ _ c.ranges.z) at c.in_range.ensures) c.if-not-in_range.false (omega (arith, c.requires.count_in_bounds)) refl c.quantity_body-body.ensures refl))
+returns c = λ vs w l. settles_as (taken_is vs c.args.n c.args.z _ (counts_by_byte w.world.stored c.args.n l) _ (simp (to_z-of_z _ _ c.ranges.z) at c.in_range.ensures) c.if-not-in_range.false) (c.assign.ensures vs _ w l (puts_reading _ c.args.stack.now c.args.z _ _ (to_z-of_z _ _ c.ranges.z) (simp (to_z-of_z _ _ c.ranges.z) at c.in_range.ensures) c.if-not-in_range.false (omega (arith, c.requires.count_in_bounds)) c.quantity_body-body.ensures refl))

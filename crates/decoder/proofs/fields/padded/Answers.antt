@@ -1,38 +1,25 @@
-use mathlib.Core.Path.{refl, sym, ◌∙◌}
-use Prim.Native.Nat.{ℕ}
-use native.Mathlib.Omega.{arith}
-use borrow.Author.Tests.{le-leb, lt-leb}
-use lib.ListN.{get_or}
+-- `padded` meets its contract. Assumes nothing.
+use Rattle.std.proofs.Common.{rules, ◌≡◌, eqb, Bool, false, List, drop, Option, ◌∙◌}
+use Rattle.std.specs.Fn.{CalledAt}
+use Rattle.std.specs.declared.iter.SkipWhile.{SkipWhile}
+use denote.Param.Members.{Mut}
+use denote.Ref.{Bor}
+use Rattle.std.specs.List.{prefix_len}
+use Rattle.std.specs.Iterator.Adapters.{skip_while_source, skip_while_callee, skip_while_done_skipping, skip_while_steps}
+use Rattle.std.proofs.lemmas.Iterator.{YieldsList, YieldsList-from_slice}
+use Rattle.std.proofs.lemmas.Iterator.Adapters.{YieldsList-from_skip_while}
+use borrow.Author.Tests.{tests}
 use Rattle.lingua.specs.Rules.{between}
-use Rattle.decoder.proofs.Runs.{padded_nil, padded_zero, padded_fails, padded_step}
+use Rattle.laws.specs.Chains.{all_of_from_all}
+use Rattle.decoder.proofs.Runs.{written, padded_is}
 use Rattle.decoder.proofs.fields.padded.Goals as goal
 
-pub loop-i-init : goal.loop-i-init
-loop-i-init c = refl
-
-pub bounds-bytes-i : goal.bounds-bytes-i
-bounds-bytes-i c = omega arith
-
-pub overflow_add-i : goal.overflow_add-i
-overflow_add-i c = omega arith
-
-pub returns-then-c-eq0 : goal.returns-then-c-eq0
-returns-then-c-eq0 c = c.zero_from.ensures ∙ padded_zero c.args.bytes.now c.loop-i.i (λ (b : ℕ). between c.args.low c.args.high b) c.loop-i-test.true c.if-c-eq0.true ∙ sym c.loop-i.invariant
-
-pub returns-then-c-low : goal.returns-then-c-low
-returns-then-c-low c = padded_fails c.args.bytes.now c.loop-i.i (λ (b : ℕ). between c.args.low c.args.high b) c.loop-i-test.true c.if-c-eq0.false (rw (lt-leb c.args.low (get_or c.args.bytes.now c.loop-i.i 0) c.if-c-low.true)) ∙ sym c.loop-i.invariant
-
-pub returns-then-high-c : goal.returns-then-high-c
-returns-then-high-c c = padded_fails c.args.bytes.now c.loop-i.i (λ (b : ℕ). between c.args.low c.args.high b) c.loop-i-test.true c.if-c-eq0.false (rw (le-leb c.args.low (get_or c.args.bytes.now c.loop-i.i 0) c.if-c-low.false, lt-leb (get_or c.args.bytes.now c.loop-i.i 0) c.args.high c.if-high-c.true)) ∙ sym c.loop-i.invariant
-
-pub overflow_add-i-in-loop-i : goal.overflow_add-i-in-loop-i
-overflow_add-i-in-loop-i c = omega arith
-
-pub loop-i-smaller : goal.loop-i-smaller
-loop-i-smaller c = omega arith
-
-pub loop-i-preserved : goal.loop-i-preserved
-loop-i-preserved c = c.loop-i.invariant ∙ padded_step c.args.bytes.now c.loop-i.i (λ (b : ℕ). between c.args.low c.args.high b) c.loop-i-test.true c.if-c-eq0.false (rw (le-leb c.args.low (get_or c.args.bytes.now c.loop-i.i 0) c.if-c-low.false, le-leb (get_or c.args.bytes.now c.loop-i.i 0) c.args.high c.if-high-c.false))
+-- the library's law with the closure before what is known of its calls
+skipped : {S A B F : Type 0} {steps : S → Option A → S → Type 0} {v : A → B} {g : Mut F (Bor A × Unit {0}) Bool} (test : B → Bool) {f : F} {s : SkipWhile S F} {ys : List B}
+    → YieldsList steps v (skip_while_source s) ys → skip_while_callee s ≡ f → skip_while_done_skipping s ≡ false
+    → ((x : A) (b : Bool) (q : F) → CalledAt g f x b q → (q ≡ f) × (b ≡ test (v x)))
+    → YieldsList (skip_while_steps steps g) v s (drop (prefix_len test ys) ys)
+skipped {steps = steps} {v = v} {g = g} test {f = f} yields callee done called = YieldsList-from_skip_while steps v g test f called yields callee done
 
 pub returns : goal.returns
-returns c = padded_nil c.args.bytes.now c.loop-i.i (λ (b : ℕ). between c.args.low c.args.high b) c.loop-i-test.false ∙ sym c.loop-i.invariant
+returns c = all_of_from_all (λ b. eqb b 0) _ _ _ c.all.ensures.ran (skipped (written (between c.args.low c.args.high)) (YieldsList-from_slice c.args.bytes.now (cc)) c.skip_while.ensures.closure c.skip_while.ensures.done_skipping (λ x b q k. search (rules, tests))) (λ x b q k. search (rules, tests)) ∙ padded_is (between c.args.low c.args.high) c.args.bytes.now

@@ -5,6 +5,7 @@ use Rattle.lingua.specs.References.{instruction_variables}
 use Rattle.decoder.specs.Decoded.{instruction_meaning}
 use Rattle.decoder.specs.declared.decode.InstructionRow.{InstructionRow}
 use Rattle.decoder.specs.declared.decode.InstructionRow.TheVariants as row
+use Rattle.decoder.specs.Mentions.{listed}
 use Rattle.decoder.proofs.mentions.assigned.Goals as goal
 
 others : (r : InstructionRow) → ((n : _) (e : _) → r ≡ row.Assign n e → ⊥) → ((n : _) (y : _) → r ≡ row.SetYoke n y → ⊥) → instruction_variables (instruction_meaning r) ≡ []
@@ -19,12 +20,13 @@ others (row.Handle n i) not_assign not_setyoke = refl
 others (row.Call k b c) not_assign not_setyoke = refl
 
 pub returns-in-Assign : goal.returns-in-Assign
-unfolding instruction_variables instruction_meaning
-returns-in-Assign c = rw c.in-Assign.is c.one.ensures
+unfolding listed instruction_variables instruction_meaning
+returns-in-Assign c = rw c.in-Assign.is
 
 pub returns-in-SetYoke : goal.returns-in-SetYoke
-unfolding instruction_variables instruction_meaning
-returns-in-SetYoke c = rw c.in-SetYoke.is c.one-in-SetYoke.ensures
+unfolding listed instruction_variables instruction_meaning
+returns-in-SetYoke c = rw c.in-SetYoke.is
 
 pub returns-in_default : goal.returns-in_default
-returns-in_default c = rw (others c.args.row c.in_default.not-Assign c.in_default.not-SetYoke) c.none.ensures
+unfolding listed
+returns-in_default c = rw (others c.args.row c.in_default.not-Assign c.in_default.not-SetYoke)

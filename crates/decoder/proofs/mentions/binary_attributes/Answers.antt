@@ -5,6 +5,7 @@ use Rattle.lingua.specs.Rules.{binary_attribute}
 use Rattle.lingua.specs.Operations.{binary_meaning}
 use Rattle.lingua.specs.declared.operations.BinaryOperation.{BinaryOperation}
 use Rattle.lingua.specs.declared.operations.BinaryOperation.TheVariants as row
+use Rattle.decoder.specs.Mentions.{listed}
 use Rattle.decoder.proofs.mentions.binary_attributes.Goals as goal
 
 others : (o : BinaryOperation) → ((n : _) → o ≡ row.Expand n → ⊥) → ((n : _) → o ≡ row.Change n → ⊥) → binary_attribute (binary_meaning o) ≡ []
@@ -21,12 +22,13 @@ others (row.Change n) not_expand not_change = absurd (not_change n refl)
 others row.Push not_expand not_change = refl
 
 pub returns-in-Expand : goal.returns-in-Expand
-unfolding binary_attribute binary_meaning
-returns-in-Expand c = rw c.in-Expand.is c.one.ensures
+unfolding listed binary_attribute binary_meaning
+returns-in-Expand c = rw c.in-Expand.is
 
 pub returns-in-Change : goal.returns-in-Change
-unfolding binary_attribute binary_meaning
-returns-in-Change c = rw c.in-Change.is c.one-in-Change.ensures
+unfolding listed binary_attribute binary_meaning
+returns-in-Change c = rw c.in-Change.is
 
 pub returns-in_default : goal.returns-in_default
-returns-in_default c = rw (others c.args.o c.in_default.not-Expand c.in_default.not-Change) c.none.ensures
+unfolding listed
+returns-in_default c = rw (others c.args.o c.in_default.not-Expand c.in_default.not-Change)

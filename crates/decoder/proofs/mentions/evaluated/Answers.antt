@@ -5,6 +5,7 @@ use Rattle.lingua.specs.Rows.{evaluated}
 use Rattle.decoder.specs.Decoded.{instruction_meaning}
 use Rattle.decoder.specs.declared.decode.InstructionRow.{InstructionRow}
 use Rattle.decoder.specs.declared.decode.InstructionRow.TheVariants as row
+use Rattle.decoder.specs.Mentions.{listed}
 use Rattle.decoder.proofs.mentions.evaluated.Goals as goal
 
 others : (r : InstructionRow) → ((n : _) (e : _) → r ≡ row.Assign n e → ⊥) → ((e : _) (i : _) (j : _) → r ≡ row.Branch e i j → ⊥) → ((e : _) (i : _) → r ≡ row.Loop e i → ⊥) → evaluated (instruction_meaning r) ≡ []
@@ -19,16 +20,17 @@ others (row.Handle n i) not_assign not_branch not_loop = refl
 others (row.Call k b c) not_assign not_branch not_loop = refl
 
 pub returns-in-Assign : goal.returns-in-Assign
-unfolding evaluated instruction_meaning
-returns-in-Assign c = rw c.in-Assign.is c.one.ensures
+unfolding listed evaluated instruction_meaning
+returns-in-Assign c = rw c.in-Assign.is
 
 pub returns-in-Branch : goal.returns-in-Branch
-unfolding evaluated instruction_meaning
-returns-in-Branch c = rw c.in-Branch.is c.one-in-Branch.ensures
+unfolding listed evaluated instruction_meaning
+returns-in-Branch c = rw c.in-Branch.is
 
 pub returns-in-Loop : goal.returns-in-Loop
-unfolding evaluated instruction_meaning
-returns-in-Loop c = rw c.in-Loop.is c.one-in-Loop.ensures
+unfolding listed evaluated instruction_meaning
+returns-in-Loop c = rw c.in-Loop.is
 
 pub returns-in_default : goal.returns-in_default
-returns-in_default c = rw (others c.args.row c.in_default.not-Assign c.in_default.not-Branch c.in_default.not-Loop) c.none.ensures
+unfolding listed
+returns-in_default c = rw (others c.args.row c.in_default.not-Assign c.in_default.not-Branch c.in_default.not-Loop)

@@ -5,6 +5,7 @@ use Rattle.lingua.specs.Rules.{handled_errors}
 use Rattle.decoder.specs.Decoded.{instruction_meaning}
 use Rattle.decoder.specs.declared.decode.InstructionRow.{InstructionRow}
 use Rattle.decoder.specs.declared.decode.InstructionRow.TheVariants as row
+use Rattle.decoder.specs.Mentions.{listed}
 use Rattle.decoder.proofs.mentions.handled.Goals as goal
 
 others : (r : InstructionRow) → ((n : _) (i : _) → r ≡ row.Handle n i → ⊥) → handled_errors (instruction_meaning r) ≡ []
@@ -19,8 +20,9 @@ others (row.Handle n i) not_handle = absurd (not_handle n i refl)
 others (row.Call k b c) not_handle = refl
 
 pub returns-in-Handle : goal.returns-in-Handle
-unfolding handled_errors instruction_meaning
-returns-in-Handle c = rw c.in-Handle.is c.one.ensures
+unfolding listed handled_errors instruction_meaning
+returns-in-Handle c = rw c.in-Handle.is
 
 pub returns-in_default : goal.returns-in_default
-returns-in_default c = rw (others c.args.row c.in_default.not-Handle) c.none.ensures
+unfolding listed
+returns-in_default c = rw (others c.args.row c.in_default.not-Handle)

@@ -6,6 +6,7 @@ use Rattle.lingua.specs.Rows.{operands}
 use Rattle.decoder.specs.Decoded.{expression_meaning}
 use Rattle.decoder.specs.declared.decode.ExpressionRow.{ExpressionRow}
 use Rattle.decoder.specs.declared.decode.ExpressionRow.TheVariants as row
+use Rattle.decoder.specs.Mentions.{listed}
 use Rattle.decoder.proofs.mentions.operands.Goals as goal
 
 others : (rows : List ℕ) (i : ℕ) (r : ExpressionRow) → ((o : _) (a : _) → r ≡ row.Unary o a → ⊥) → ((o : _) (a : _) (b : _) → r ≡ row.Binary o a b → ⊥) → ((t : _) (a : _) (b : _) → r ≡ row.Lazy t a b → ⊥) → ((a : _) (b : _) (c : _) → r ≡ row.Choice a b c → ⊥) → ((a : _) → r ≡ row.AllList a → ⊥) → operands (expression_meaning rows i r) ≡ []
@@ -20,24 +21,25 @@ others rows i (row.Choice a b c) not_unary not_binary not_lazy not_choice not_al
 others rows i (row.AllList a) not_unary not_binary not_lazy not_choice not_alllist = absurd (not_alllist a refl)
 
 pub returns-in-Unary : goal.returns-in-Unary
-unfolding operands expression_meaning
-returns-in-Unary c = λ rows i. rw c.in-Unary.is c.one.ensures
+unfolding listed operands expression_meaning
+returns-in-Unary c = λ rows i. rw c.in-Unary.is
 
 pub returns-in-Binary : goal.returns-in-Binary
-unfolding operands expression_meaning
-returns-in-Binary c = λ rows i. rw c.in-Binary.is c.two.ensures
+unfolding listed operands expression_meaning
+returns-in-Binary c = λ rows i. rw c.in-Binary.is
 
 pub returns-in-Lazy : goal.returns-in-Lazy
-unfolding operands expression_meaning
-returns-in-Lazy c = λ rows i. rw c.in-Lazy.is c.two-in-Lazy.ensures
+unfolding listed operands expression_meaning
+returns-in-Lazy c = λ rows i. rw c.in-Lazy.is
 
 pub returns-in-Choice : goal.returns-in-Choice
-unfolding operands expression_meaning
-returns-in-Choice c = λ rows i. rw c.in-Choice.is c.three.ensures
+unfolding listed operands expression_meaning
+returns-in-Choice c = λ rows i. rw c.in-Choice.is
 
 pub returns-in-AllList : goal.returns-in-AllList
-unfolding operands expression_meaning
-returns-in-AllList c = λ rows i. rw c.in-AllList.is c.one-in-AllList.ensures
+unfolding listed operands expression_meaning
+returns-in-AllList c = λ rows i. rw c.in-AllList.is
 
 pub returns-in_default : goal.returns-in_default
-returns-in_default c = λ rows i. rw (others rows i c.args.row c.in_default.not-Unary c.in_default.not-Binary c.in_default.not-Lazy c.in_default.not-Choice c.in_default.not-AllList) c.none.ensures
+unfolding listed
+returns-in_default c = λ rows i. rw (others rows i c.args.row c.in_default.not-Unary c.in_default.not-Binary c.in_default.not-Lazy c.in_default.not-Choice c.in_default.not-AllList)

@@ -6,6 +6,7 @@ use Rattle.lingua.specs.References.{expression_variables}
 use Rattle.decoder.specs.Decoded.{expression_meaning}
 use Rattle.decoder.specs.declared.decode.ExpressionRow.{ExpressionRow}
 use Rattle.decoder.specs.declared.decode.ExpressionRow.TheVariants as row
+use Rattle.decoder.specs.Mentions.{listed}
 use Rattle.decoder.proofs.mentions.variables.Goals as goal
 
 others : (rows : List ℕ) (i : ℕ) (r : ExpressionRow) → ((n : _) → r ≡ row.Variable n → ⊥) → expression_variables (expression_meaning rows i r) ≡ []
@@ -20,8 +21,9 @@ others rows i (row.Choice a b c) not_variable = refl
 others rows i (row.AllList a) not_variable = refl
 
 pub returns-in-Variable : goal.returns-in-Variable
-unfolding expression_variables expression_meaning
-returns-in-Variable c = λ rows i. rw c.in-Variable.is c.one.ensures
+unfolding listed expression_variables expression_meaning
+returns-in-Variable c = λ rows i. rw c.in-Variable.is
 
 pub returns-in_default : goal.returns-in_default
-returns-in_default c = λ rows i. rw (others rows i c.args.row c.in_default.not-Variable) c.none.ensures
+unfolding listed
+returns-in_default c = λ rows i. rw (others rows i c.args.row c.in_default.not-Variable)

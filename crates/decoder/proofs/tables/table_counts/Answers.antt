@@ -10,44 +10,17 @@ use Rattle.decoder.proofs.tables.table_counts.Goals as goal
 
 pub loop-i-init : goal.loop-i-init
 unfolding count_below
-loop-i-init c = (omega arith, refl, refl, counted_none (λ (k : ℕ) (j : ℕ). eqb (min (table_at c.args.rows.now j) 23) k))
-
-pub begins-more-requires : goal.begins-more-requires
-begins-more-requires c = omega arith
-
-pub slot-s-requires-clause-i_in_bounds : goal.slot-s-requires-clause-i_in_bounds
-slot-s-requires-clause-i_in_bounds c = (omega arith)
-
-pub slot-s-requires-clause-begun_value : goal.slot-s-requires-clause-begun_value
-slot-s-requires-clause-begun_value c = c.loop-i.invariant.2
-
-pub slot-s-requires-clause-more_value : goal.slot-s-requires-clause-more_value
-slot-s-requires-clause-more_value c = c.begins-more.ensures
-
-pub offset_bounds-counts-s : goal.offset_bounds-counts-s
-offset_bounds-counts-s c = omega arith
-
-pub bounds-counts-s : goal.bounds-counts-s
-bounds-counts-s c = omega arith
+loop-i-init c = (refl, refl, counted_none (λ (k : ℕ) (j : ℕ). eqb (min (table_at c.args.rows.now j) 23) k))
 
 pub overflow_add-counts : goal.overflow_add-counts
-overflow_add-counts c = omega (arith, c.loop-i.invariant.3 c.slot-s.result (omega arith), count_at_most c.loop-i.i (λ j. eqb (min (table_at c.args.rows.now j) 23) c.slot-s.result))
-
-pub bounds-counts-s-in-loop-i : goal.bounds-counts-s-in-loop-i
-bounds-counts-s-in-loop-i c = omega arith
+overflow_add-counts c = omega (arith, c.loop-i.invariant.2 c.slot-s.result (omega arith), count_at_most c.loop-i.i (λ j. eqb (min (table_at c.args.rows.now j) 23) c.slot-s.result))
 
 pub overflow_add-begun : goal.overflow_add-begun
-overflow_add-begun c = omega (arith, c.begins-more.ensures, bit_small (begins_procedure c.args.rows.now c.loop-i.i), c.loop-i.invariant.2, count_at_most c.loop-i.i (λ j. begins_procedure c.args.rows.now j))
-
-pub overflow_add-i : goal.overflow_add-i
-overflow_add-i c = omega arith
-
-pub loop-i-smaller : goal.loop-i-smaller
-loop-i-smaller c = omega arith
+overflow_add-begun c = omega (arith, c.begins-more.ensures, bit_small (begins_procedure c.args.rows.now c.loop-i.i), c.loop-i.invariant.1, count_at_most c.loop-i.i (λ j. begins_procedure c.args.rows.now j))
 
 pub loop-i-preserved : goal.loop-i-preserved
-loop-i-preserved c = (omega arith, simp length-set (omega arith), ap₂ (λ (m : ℕ) (n : ℕ). m + n) c.loop-i.invariant.2 c.begins-more.ensures ∙ sym (count_more c.loop-i.i (λ j. begins_procedure c.args.rows.now j)), counted_more c.loop-i.counts (λ j. min (table_at c.args.rows.now j) 23) c.loop-i.i c.slot-s.result c.loop-i.invariant.1 c.slot-s.ensures (omega arith) c.loop-i.invariant.3)
+loop-i-preserved c = (simp length-set (omega arith), ap₂ (λ (m : ℕ) (n : ℕ). m + n) c.loop-i.invariant.1 c.begins-more.ensures ∙ sym (count_more c.loop-i.i (λ j. begins_procedure c.args.rows.now j)), counted_more c.loop-i.counts (λ j. min (table_at c.args.rows.now j) 23) c.loop-i.i c.slot-s.result c.loop-i.invariant.0 c.slot-s.ensures (omega arith) c.loop-i.invariant.2)
 
 pub returns : goal.returns
 unfolding row_count
-returns c = counted_all c.args.rows.now c.loop-i.counts c.loop-i.i c.loop-i.begun (omega arith) c.loop-i.invariant.2 c.loop-i.invariant.3
+returns c = counted_all c.args.rows.now c.loop-i.counts c.loop-i.i c.loop-i.begun (omega arith) c.loop-i.invariant.1 c.loop-i.invariant.2

@@ -1,6 +1,6 @@
 use mathlib.Core.Path.{refl}
 use mathlib.Core.List.{◌++◌}
-use Prim.Native.Nat.{◌-◌, ◌≤◌}
+use Prim.Native.Nat.{◌+◌, ◌-◌, ◌*◌, ◌≤◌}
 use native.Mathlib.Omega.{arith}
 use lib.ListN.{length, take, drop, length-append, length-take, length-drop}
 use Rattle.lingua.specs.Trees.{expression_tree}
@@ -10,9 +10,11 @@ use Rattle.erased_row.proofs.Telling.{sees_none}
 use Rattle.erased_row.proofs.Passing.{table_of, layout_room}
 use Rattle.profile.specs.Facts.{says_as}
 use Rattle.cells.proofs.Operands.{both_long}
-use Rattle.cells.proofs.Walking.{turn_room, next_place}
+use Rattle.cells.proofs.Walking.{turn_room}
+use Rattle.laws.specs.Faults.{passed_on}
+use Rattle.erased_row.proofs.Leaving.{no_zero}
 use Rattle.erased.proofs.Walking.{ready_listed, list_cell, list_walks, element_ready, sees_more, all_evaluates}
-use Rattle.erased_row.proofs.Cycle.{facts, tree_is, variable_few, ready_as, evaluates_as, constant_evaluates, has_variable, variable_evaluates, has_current, current_evaluates, unary_ready, has_unary, unary_evaluates, binary_first, binary_second_lem, first_under, has_binary, binary_evaluates, lazy_first, lazy_next, lazy_error, lazy_settled, lazy_second, choice_test, choice_first, choice_other, choice_error, choice_yes, choice_no}
+use Rattle.erased_row.proofs.Cycle.{facts, tree_is, variable_few, ready_as, evaluates_as, constant_evaluates, has_variable, variable_evaluates, has_current, current_evaluates, unary_ready, has_unary, unary_evaluates, binary_first, binary_second_lem, first_under, has_binary, binary_evaluates, lazy_next, lazy_error, lazy_settled, lazy_second, choice_first, choice_other, choice_error, choice_yes, choice_no}
 use Rattle.erased.proofs.eval.+all_choice_eval_lazy.Goals as goal
 
 pub all-second_at-width-requires : goal.all-second_at-width-requires
@@ -27,81 +29,61 @@ all-overflow_cast-n t c =
     rw k.positive (tt, omega (arith, k.few))
 
 pub all-loop-i-init : goal.all-loop-i-init
-all-loop-i-init t c = (omega arith, refl, omega arith, λ ds vs d x l. sees_none _ refl refl)
+all-loop-i-init t c = (refl, λ ds vs d x l. sees_none)
+
+pub all-overflow_mul-at : goal.all-overflow_mul-at
+all-overflow_mul-at t c =
+    let k = list_walks (ready_listed _ c.second_at-width.ensures c.requires.ready).listed in
+    omega (arith, turn_room c.loop-i.i _ (1 + c.loop-i.i * c.second_at-width.result) _ refl c.loop-i-test.true k.few, k.room, k.long)
 
 pub all-overflow_add-at : goal.all-overflow_add-at
 all-overflow_add-at t c =
     let k = list_walks (ready_listed _ c.second_at-width.ensures c.requires.ready).listed in
-    omega (arith, turn_room _ _ _ _ c.loop-i.invariant.2 c.loop-i-test.true k.few, k.room, k.long)
-
-pub all-offset_bounds-current-at : goal.all-offset_bounds-current-at
-all-offset_bounds-current-at t c =
-    let k = list_walks (ready_listed _ c.second_at-width.ensures c.requires.ready).listed in
-    omega (arith, turn_room _ _ _ _ c.loop-i.invariant.2 c.loop-i-test.true k.few, k.room, k.long)
-
-pub all-slice_bounds-eval-count : goal.all-slice_bounds-eval-count
-all-slice_bounds-eval-count t c = omega arith
-
-pub all-slice_bounds-eval-start : goal.all-slice_bounds-eval-start
-all-slice_bounds-eval-start t c = omega arith
-
-pub all-slice_bounds-eval-end : goal.all-slice_bounds-eval-end
-all-slice_bounds-eval-end t c =
-    let k = list_walks (ready_listed _ c.second_at-width.ensures c.requires.ready).listed in
-    omega (arith, turn_room _ _ _ _ c.loop-i.invariant.2 c.loop-i-test.true k.few, k.room, k.long)
-
-pub all-eval-x-requires : goal.all-eval-x-requires
-all-eval-x-requires t c =
-    let l = (ready_listed _ c.second_at-width.ensures c.requires.ready).listed in
-    (omega (arith, c.decreases, c.requires.a_lt_row.0), (element_ready l c.loop-i.i c.loop-i.at c.loop-i.invariant.2 c.loop-i-test.true, (omega (arith, c.requires.a_lt_row), omega (arith, c.requires.a_lt_row.0, c.requires.row_in_bounds, c.loop-i.invariant.1))))
-
-pub all-tallied-seen-requires : goal.all-tallied-seen-requires
-all-tallied-seen-requires t c = omega (arith, c.requires.row_in_bounds, c.loop-i.invariant.1, c.eval-x.auto.stack)
+    omega (arith, turn_room c.loop-i.i _ (1 + c.loop-i.i * c.second_at-width.result) _ refl c.loop-i-test.true k.few, k.room, k.long)
 
 pub all-overflow_add-at-in-loop-i : goal.all-overflow_add-at-in-loop-i
 all-overflow_add-at-in-loop-i t c =
     let k = list_walks (ready_listed _ c.second_at-width.ensures c.requires.ready).listed in
-    omega (arith, turn_room _ _ _ _ c.loop-i.invariant.2 c.loop-i-test.true k.few, k.room, k.long)
+    omega (arith, turn_room c.loop-i.i _ (1 + c.loop-i.i * c.second_at-width.result) _ refl c.loop-i-test.true k.few, k.room, k.long)
 
-pub all-overflow_add-i : goal.all-overflow_add-i
-all-overflow_add-i t c =
+pub all-offset_bounds-current-at : goal.all-offset_bounds-current-at
+all-offset_bounds-current-at t c =
     let k = list_walks (ready_listed _ c.second_at-width.ensures c.requires.ready).listed in
-    omega (arith, c.loop-i-test.true, k.few)
+    omega (arith, turn_room c.loop-i.i _ (1 + c.loop-i.i * c.second_at-width.result) _ refl c.loop-i-test.true k.few, k.room, k.long)
 
-pub all-loop-i-smaller : goal.all-loop-i-smaller
-all-loop-i-smaller t c = omega (arith, c.loop-i-test.true)
+pub all-slice_bounds-eval-end : goal.all-slice_bounds-eval-end
+all-slice_bounds-eval-end t c =
+    let k = list_walks (ready_listed _ c.second_at-width.ensures c.requires.ready).listed in
+    omega (arith, turn_room c.loop-i.i _ (1 + c.loop-i.i * c.second_at-width.result) _ refl c.loop-i-test.true k.few, k.room, k.long)
+
+pub all-eval-x-requires : goal.all-eval-x-requires
+all-eval-x-requires t c =
+    let l = (ready_listed _ c.second_at-width.ensures c.requires.ready).listed in
+    (omega (arith, c.decreases, c.requires.a_lt_row.0), (element_ready l c.loop-i.i _ refl c.loop-i-test.true, (omega (arith, c.requires.a_lt_row), omega (arith, c.requires.a_lt_row.0, c.requires.row_in_bounds, c.loop-i.invariant.0))))
 
 pub all-loop-i-preserved : goal.all-loop-i-preserved
 all-loop-i-preserved t c = (
-  omega (arith, c.loop-i-test.true),
-  omega (arith, c.loop-i.invariant.1, c.eval-x.auto.stack),
-  next_place _ _ _ c.loop-i.invariant.2,
-  λ ds vs b x l. sees_more l c.loop-i.i c.loop-i.at c.loop-i.invariant.2 c.loop-i-test.true c.eval-x.ensures (λ o h. c.tallied-seen.ensures _ o (c.loop-i.invariant.3 ds vs b x l) h),
+  omega (arith, c.loop-i.invariant.0, c.eval-x.auto.stack),
+  λ ds vs b x l. sees_more l c.loop-i.i _ refl c.loop-i-test.true _ c.eval-x.ensures (λ o h. c.tallied-seen.ensures _ o (c.loop-i.invariant.1 ds vs b x l) h),
 )
 
 pub all-returns : goal.all-returns
-all-returns t c = all_evaluates c.args.row (expression_tree c.args.rows.now c.args.a) _ c.second_at-width.ensures c.loop-i.i (omega (arith, c.loop-i-test.false, c.loop-i.invariant.0)) c.loop-i.invariant.3 c.concluded.ensures
+all-returns t c = all_evaluates c.args.row (expression_tree c.args.rows.now c.args.a) _ c.second_at-width.ensures _ c.loop-i.i (omega arith) c.loop-i.invariant.1 c.concluded.ensures
 
-pub choice-eval-x-requires : goal.choice-eval-x-requires
-choice-eval-x-requires t c = (omega (arith, c.decreases, c.requires.test_lt_row.0), (choice_test _ _ _ _ c.requires.ready, (omega (arith, c.requires.test_lt_row.0, c.requires.test_lt_row.3), omega (arith, c.requires.row_in_bounds, c.requires.test_lt_row.0))))
-
-pub choice-truth_of-truth-requires : goal.choice-truth_of-truth-requires
-choice-truth_of-truth-requires t c = omega (arith, c.requires.row_in_bounds, c.eval-x.auto.stack)
-
-pub choice-returns-then-truth-ne-NO_ERROR : goal.choice-returns-then-truth-ne-NO_ERROR
-choice-returns-then-truth-ne-NO_ERROR t c = choice_error _ _ _ _ c.eval-x.ensures _ c.truth_of-truth.ensures _ c.if-truth-ne-NO_ERROR.true
+pub choice-returns-in_err-truth_of : goal.choice-returns-in_err-truth_of
+choice-returns-in_err-truth_of t c = rw (passed_on _ _ c.from_residual.ensures.1) (choice_error _ _ _ _ c.eval-x.ensures c.in_err-truth_of.ensures _ (no_zero _))
 
 pub choice-eval-requires : goal.choice-eval-requires
 choice-eval-requires t c = (omega (arith, c.decreases, c.requires.test_lt_row.1), (choice_first _ _ _ _ c.requires.ready, (omega (arith, c.requires.test_lt_row.1, c.requires.test_lt_row.3), omega (arith, c.requires.row_in_bounds, c.requires.test_lt_row.1, c.eval-x.auto.stack))))
 
-pub choice-returns-then-truth : goal.choice-returns-then-truth
-choice-returns-then-truth t c = choice_yes _ _ _ _ c.eval-x.ensures _ c.truth_of-truth.ensures c.if-truth-ne-NO_ERROR.false c.if-truth.true c.eval.ensures
+pub choice-returns-then-branch : goal.choice-returns-then-branch
+choice-returns-then-branch t c = choice_yes _ _ _ _ c.eval-x.ensures c.in_ok-truth_of.ensures c.if-branch.true c.eval.ensures
 
 pub choice-eval-requires-2 : goal.choice-eval-requires-2
 choice-eval-requires-2 t c = (omega (arith, c.decreases, c.requires.test_lt_row.2), (choice_other _ _ _ _ c.requires.ready, (omega (arith, c.requires.test_lt_row.2, c.requires.test_lt_row.3), omega (arith, c.requires.row_in_bounds, c.requires.test_lt_row.2, c.eval-x.auto.stack))))
 
 pub choice-returns : goal.choice-returns
-choice-returns t c = choice_no _ _ _ _ c.eval-x.ensures _ c.truth_of-truth.ensures c.if-truth-ne-NO_ERROR.false c.if-truth.false c.eval-2.ensures
+choice-returns t c = choice_no _ _ _ _ c.eval-x.ensures c.in_ok-truth_of.ensures c.if-branch.false c.eval-2.ensures
 
 pub eval-expression_row-says-requires : goal.eval-expression_row-says-requires
 eval-expression_row-says-requires t c =
@@ -161,15 +143,15 @@ eval-binary-requires t c =
     let s = says_as c.in-Binary.is c.expression_row-says.ensures in
     let f = facts c.requires.ready.world c.requires.row_lt_count s in
     let r = ready_as (tree_is c.requires.ready.world c.requires.row_lt_count s) c.requires.ready in
-    let long : 64 ≤ length c.eval-x-in-Binary.new.stack = omega (arith, c.requires.row_in_bounds, c.eval-x-in-Binary.auto.stack) in record { has_binary = has_binary c.requires.row_lt_count f.0 f.1 c.eval-x-in-Binary.new.stack c.leaf-quick.new.stack _ long c.eval-x-in-Binary.ensures (c.leaf-quick.ensures.evaluates c.if-quick.true) r; row_in_bounds = (layout_room c.requires.ready.world c.requires.row_lt_count, layout_room c.requires.ready.world (omega (arith, f.0, c.requires.row_lt_count)), layout_room c.requires.ready.world (omega (arith, f.1, c.requires.row_lt_count))); body_cells_in_bounds = both_long c.eval-x-in-Binary.new.stack c.leaf-quick.new.stack _ long (omega (arith, c.requires.row_in_bounds, c.eval-x-in-Binary.auto.stack, simp (length-take, length-drop) at c.leaf-quick.auto.stack)) }
+    let long : 64 ≤ length c.eval-x-in-Binary.new.stack = omega (arith, c.requires.row_in_bounds, c.eval-x-in-Binary.auto.stack) in record { has_binary = has_binary c.requires.row_lt_count f.0 f.1 c.eval-x-in-Binary.new.stack c.leaf-quick.new.stack _ long c.eval-x-in-Binary.ensures (c.leaf-quick.ensures.evaluates _ c.in-Some.is) r; row_in_bounds = (layout_room c.requires.ready.world c.requires.row_lt_count, layout_room c.requires.ready.world (omega (arith, f.0, c.requires.row_lt_count)), layout_room c.requires.ready.world (omega (arith, f.1, c.requires.row_lt_count))); body_cells_in_bounds = both_long c.eval-x-in-Binary.new.stack c.leaf-quick.new.stack _ long (omega (arith, c.requires.row_in_bounds, c.eval-x-in-Binary.auto.stack, simp (length-take, length-drop) at c.leaf-quick.auto.stack)) }
 
-pub eval-returns-then-quick : goal.eval-returns-then-quick
+pub eval-returns-in-Some : goal.eval-returns-in-Some
 unfolding RowFacts row_tree
-eval-returns-then-quick t c =
+eval-returns-in-Some t c =
     let s = says_as c.in-Binary.is c.expression_row-says.ensures in
     let f = facts c.requires.ready.world c.requires.row_lt_count s in
     let long : 64 ≤ length c.eval-x-in-Binary.new.stack = omega (arith, c.requires.row_in_bounds, c.eval-x-in-Binary.auto.stack) in
-    evaluates_as (tree_is c.requires.ready.world c.requires.row_lt_count s) (binary_evaluates c.requires.row_lt_count f.0 f.1 c.eval-x-in-Binary.new.stack c.leaf-quick.new.stack _ long c.eval-x-in-Binary.ensures (c.leaf-quick.ensures.evaluates c.if-quick.true) c.binary.ensures)
+    evaluates_as (tree_is c.requires.ready.world c.requires.row_lt_count s) (binary_evaluates c.requires.row_lt_count f.0 f.1 c.eval-x-in-Binary.new.stack c.leaf-quick.new.stack _ long c.eval-x-in-Binary.ensures (c.leaf-quick.ensures.evaluates _ c.in-Some.is) c.binary.ensures)
 
 pub eval-eval-y-requires : goal.eval-eval-y-requires
 unfolding RowFacts row_tree
@@ -240,9 +222,9 @@ eval-returns-in-Unary t c =
     let f = facts c.requires.ready.world c.requires.row_lt_count s in
     evaluates_as (tree_is c.requires.ready.world c.requires.row_lt_count s) (unary_evaluates c.requires.row_lt_count f c.eval-x.ensures c.unary.ensures)
 
-pub eval-returns-else-quick : goal.eval-returns-else-quick
+pub eval-returns-in_default : goal.eval-returns-in_default
 unfolding RowFacts row_tree
-eval-returns-else-quick t c =
+eval-returns-in_default t c =
     let s = says_as c.in-Binary.is c.expression_row-says.ensures in
     let f = facts c.requires.ready.world c.requires.row_lt_count s in
     let low : 64 ≤ length c.eval-x-in-Binary.new.stack = omega (arith, c.requires.row_in_bounds, c.eval-x-in-Binary.auto.stack) in
@@ -270,20 +252,14 @@ eval-returns-in-AllList t c =
     let s = says_as c.in-AllList.is c.expression_row-says.ensures in
     evaluates_as (tree_is c.requires.ready.world c.requires.row_lt_count s) c.all.ensures
 
-pub lazy-eval-x-requires : goal.lazy-eval-x-requires
-lazy-eval-x-requires t c = (omega (arith, c.decreases, c.requires.a_lt_row.0), (lazy_first _ c.args.settling _ _ c.requires.ready, (omega (arith, c.requires.a_lt_row.0, c.requires.a_lt_row.2), omega (arith, c.requires.row_in_bounds, c.requires.a_lt_row.0))))
-
-pub lazy-truth_of-first-requires : goal.lazy-truth_of-first-requires
-lazy-truth_of-first-requires t c = omega (arith, c.requires.row_in_bounds, c.eval-x.auto.stack)
-
-pub lazy-returns-then-first-ne-NO_ERROR : goal.lazy-returns-then-first-ne-NO_ERROR
-lazy-returns-then-first-ne-NO_ERROR t c = lazy_error _ c.args.settling _ _ c.eval-x.ensures _ c.truth_of-first.ensures _ c.if-first-ne-NO_ERROR.true
+pub lazy-returns-in_err-first : goal.lazy-returns-in_err-first
+lazy-returns-in_err-first t c = rw (passed_on _ _ c.from_residual.ensures.1) (lazy_error _ c.args.settling _ _ c.eval-x.ensures c.in_err-first.ensures _ (no_zero _))
 
 pub lazy-returns-then-first-settling : goal.lazy-returns-then-first-settling
-lazy-returns-then-first-settling t c = lazy_settled _ c.args.settling _ _ c.eval-x.ensures _ c.truth_of-first.ensures c.if-first-ne-NO_ERROR.false c.if-first-settling.true
+lazy-returns-then-first-settling t c = lazy_settled _ c.args.settling _ _ c.eval-x.ensures c.in_ok-first.ensures c.if-first-settling.true
 
 pub lazy-eval-requires : goal.lazy-eval-requires
 lazy-eval-requires t c = (omega (arith, c.decreases, c.requires.a_lt_row.1), (lazy_next _ c.args.settling _ _ c.requires.ready, (omega (arith, c.requires.a_lt_row.1, c.requires.a_lt_row.2), omega (arith, c.requires.row_in_bounds, c.requires.a_lt_row.1, c.eval-x.auto.stack))))
 
 pub lazy-returns : goal.lazy-returns
-lazy-returns t c = lazy_second _ c.args.settling _ _ c.eval-x.ensures _ c.truth_of-first.ensures c.if-first-ne-NO_ERROR.false c.if-first-settling.false c.eval.ensures
+lazy-returns t c = lazy_second _ c.args.settling _ _ c.eval-x.ensures c.in_ok-first.ensures c.if-first-settling.false c.eval.ensures

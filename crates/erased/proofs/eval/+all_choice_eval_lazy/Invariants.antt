@@ -2,7 +2,7 @@
 -- One law of Cycle.antt or Walking.antt for each way that a member ends. Assumes nothing.
 use mathlib.Core.Path.{◌≡◌}
 use mathlib.Core.List.{List}
-use Prim.Native.Nat.{◌+◌, ◌-◌, ◌*◌, ◌≤◌}
+use Prim.Native.Nat.{◌+◌, ◌*◌}
 use lib.ListN.{length}
 use Rattle.lingua.specs.Body.{Body}
 use Rattle.lingua.specs.Value.{Value}
@@ -27,7 +27,4 @@ abbrev pub decreases-lazy : goal.decreases-lazy
 decreases-lazy l = 2 * l.row
 
 abbrev pub invariant-all-loop-i : goal.invariant-all-loop-i
-invariant-all-loop-i l = (l.i ≤ l.n) × (length l.stack ≡ length l.initial.stack) × (l.at ≡ 1 + l.i * l.width) × ((ds : List Declaration) (vs : List Variable) (b : Body) (x : Value) → Listed l.rows l.t l.layout l.cells l.states l.current (expression_tree l.rows l.a) l.width ds vs b x → Tells l.seen (all_told (first_results (expression_tree l.rows l.a) vs x l.i)))
-
-abbrev pub decreases-all-loop-i : goal.decreases-all-loop-i
-decreases-all-loop-i l = l.n - l.i
+invariant-all-loop-i l = (length l.stack ≡ length l.initial.stack) × ((ds : List Declaration) (vs : List Variable) (b : Body) (x : Value) → Listed l.rows l.t l.layout l.cells l.states l.current (expression_tree l.rows l.a) l.width ds vs b x → Tells l.seen (all_told (first_results (expression_tree l.rows l.a) vs x l.i)))

@@ -1,5 +1,4 @@
 -- `eval_yoke` meets its contract, by `always_evaluates` and `yoke_evaluates`. Assumes nothing.
-use native.Mathlib.Omega.{arith}
 use Rattle.profile.specs.Yokes.{always_is, yoke_is}
 use Rattle.erased.proofs.Yokes.{always_evaluates, yoke_ready, yoke_evaluates}
 use Rattle.erased.proofs.yoke.eval_yoke.Goals as goal
@@ -9,12 +8,6 @@ returns-then-y-eq0 c = always_evaluates (always_is c.args.rows.now c.args.y c.if
 
 pub eval-requires-clause-ready : goal.eval-requires-clause-ready
 eval-requires-clause-ready c = (yoke_ready (yoke_is c.args.rows.now c.args.y c.if-y-eq0.false) c.requires.ready_yoke)
-
-pub eval-requires-clause-row_lt_count : goal.eval-requires-clause-row_lt_count
-eval-requires-clause-row_lt_count c = (omega (arith, c.requires.y_le_count, c.if-y-eq0.false))
-
-pub eval-requires-clause-row_in_bounds : goal.eval-requires-clause-row_in_bounds
-eval-requires-clause-row_in_bounds c = (omega (arith, c.requires.y_in_bounds, c.if-y-eq0.false))
 
 pub returns : goal.returns
 returns c = yoke_evaluates (yoke_is c.args.rows.now c.args.y c.if-y-eq0.false) c.eval.ensures

@@ -6,4 +6,4 @@ use Rattle.erased_row.proofs.Storing.{leaves_constant}
 use Rattle.erased_row.proofs.leaves.constant.Goals as goal
 
 pub returns : goal.returns
-returns c = leaves_constant c.args.rows.now c.args.row c.args.stack.now _ c.requires.constant_row.0 (cell_as (sym (cell_back _ c.constant_cell-cell.type_inv)) c.constant_cell-cell.ensures) c.requires.constant_row.1
+returns c = leaves_constant c.args.rows.now c.args.row c.args.stack.now _ c.requires.constant_row.0 (cell_as (sym (cell_back _ c.constant_cell.type_inv)) c.constant_cell.ensures) c.requires.constant_row.1

@@ -9,35 +9,13 @@ use Rattle.run.proofs.Parts.{cells_room}
 use Rattle.erased_row.proofs.Storing.{leaves_constant, flag_there, filled_there, leaves_empty}
 use Rattle.erased_row.proofs.Passing.{table_of, layout_room}
 use Rattle.erased_row.proofs.Cycle.{facts, tree_is, variable_few, memory_of, ready_as, evaluates_as, constant_evaluates, variable_evaluates, has_current, current_evaluates}
-use Rattle.erased_row.proofs.OneCell.{at_once, left_over, current_cell, cell_current, cell_filled}
+use Rattle.erased_row.proofs.OneCell.{at_once, current_cell, cell_current, cell_filled}
 use Rattle.erased_row.proofs.quick.leaf.Goals as goal
-
-pub expression_row-says-requires-clause-table : goal.expression_row-says-requires-clause-table
-expression_row-says-requires-clause-table c =
-    let w = c.requires.ready.world in
-    w.table
-
-pub expression_row-says-requires-clause-r_lt_count : goal.expression_row-says-requires-clause-r_lt_count
-expression_row-says-requires-clause-r_lt_count c =
-    let w = c.requires.ready.world in
-    c.requires.row_lt_count
 
 pub expression_row-says-requires-clause-known_expression : goal.expression_row-says-requires-clause-known_expression
 expression_row-says-requires-clause-known_expression c =
     let w = c.requires.ready.world in
     (row_known _ w.accepted _ (table_of w c.requires.row_lt_count))
-
-pub constant_cell-requires-clause-table : goal.constant_cell-requires-clause-table
-unfolding RowFacts
-constant_cell-requires-clause-table c =
-    let w = c.requires.ready.world in
-    w.table
-
-pub constant_cell-requires-clause-r_lt_count : goal.constant_cell-requires-clause-r_lt_count
-unfolding RowFacts
-constant_cell-requires-clause-r_lt_count c =
-    let w = c.requires.ready.world in
-    c.requires.row_lt_count
 
 pub constant_cell-requires-clause-constant_row : goal.constant_cell-requires-clause-constant_row
 unfolding RowFacts
@@ -45,14 +23,8 @@ constant_cell-requires-clause-constant_row c =
     let w = c.requires.ready.world in
     (facts w c.requires.row_lt_count (says_as c.in-Constant.is c.expression_row-says.ensures))
 
-pub bounds-stack-0 : goal.bounds-stack-0
-bounds-stack-0 c = omega (arith, c.requires.row_in_bounds)
-
 pub size_at-requires : goal.size_at-requires
 size_at-requires c = layout_room c.requires.ready.world c.requires.row_lt_count
-
-pub returns-then-size_at-ne1 : goal.returns-then-size_at-ne1
-returns-then-size_at-ne1 c = left_over
 
 pub is_filled-requires : goal.is_filled-requires
 is_filled-requires c =
@@ -76,9 +48,6 @@ bounds-cells-n c =
     let h = memory_of c.requires.ready.world in
     omega (arith, cells_room h _ (filled_there h _ (sym c.is_filled.ensures ∙ c.if-not-is_filled.false)))
 
-pub bounds-stack-0-in-Variable : goal.bounds-stack-0-in-Variable
-bounds-stack-0-in-Variable c = omega (arith, c.requires.row_in_bounds)
-
 pub size_at-requires-in-Current : goal.size_at-requires-in-Current
 size_at-requires-in-Current c = layout_room c.requires.ready.world c.requires.row_lt_count
 
@@ -88,9 +57,6 @@ bounds-current-0 c =
     let s = says_as c.in-Current.is c.expression_row-says.ensures in
     let h = has_current (ready_as (tree_is c.requires.ready.world c.requires.row_lt_count s) c.requires.ready) in
     current_cell h.is (omega (arith, c.if-size_at-eq1.true, c.size_at-in-Current.ensures, h.size_is))
-
-pub bounds-stack-0-then-size_at-eq1 : goal.bounds-stack-0-then-size_at-eq1
-bounds-stack-0-then-size_at-eq1 c = omega (arith, c.requires.row_in_bounds)
 
 pub returns-then-size_at-eq1 : goal.returns-then-size_at-eq1
 unfolding row_tree
@@ -114,21 +80,3 @@ returns-else-not-is_filled c =
     at_once
     (evaluates_as (tree_is c.requires.ready.world c.requires.row_lt_count s)
     (variable_evaluates (λ vs vars h z. cell_filled h _ c.args.stack.now _ (sym c.is_filled.ensures ∙ c.if-not-is_filled.false) (omega (arith, c.if-size_at-ne1.false, c.size_at.ensures, z)) (cell_back _ c.stack-1.given) (omega (arith, c.requires.row_in_bounds)))))
-
-pub returns-else-size_at-eq1 : goal.returns-else-size_at-eq1
-returns-else-size_at-eq1 c = left_over
-
-pub returns-in-Unary : goal.returns-in-Unary
-returns-in-Unary c = left_over
-
-pub returns-in-Binary : goal.returns-in-Binary
-returns-in-Binary c = left_over
-
-pub returns-in-Lazy : goal.returns-in-Lazy
-returns-in-Lazy c = left_over
-
-pub returns-in-Choice : goal.returns-in-Choice
-returns-in-Choice c = left_over
-
-pub returns-in-AllList : goal.returns-in-AllList
-returns-in-AllList c = left_over

@@ -1,15 +1,16 @@
--- `tallied` meets its contract: one law of Telling.antt for each way that it ends. Assumes nothing.
-use Rattle.erased_row.proofs.Telling.{sees_failed, sees_error, sees_true, sees_false}
+-- `tallied` meets its contract, by `told_snoc`. Assumes nothing.
+use borrow.Author.Rules.{rules}
+use Rattle.erased_row.proofs.Telling.{told_snoc}
 use Rattle.erased_row.proofs.tally.tallied.Goals as goal
 
-pub returns-then-seen-ne-NO_ERROR : goal.returns-then-seen-ne-NO_ERROR
-returns-then-seen-ne-NO_ERROR c = λ rs o h g. sees_failed rs h o c.if-seen-ne-NO_ERROR.true
+pub returns-in_err-so_far : goal.returns-in_err-so_far
+returns-in_err-so_far c = λ rs o h g. rw (told_snoc rs o, ← h, c.in_err-so_far.was) (search rules)
 
-pub returns-then-x-ne-NO_ERROR : goal.returns-then-x-ne-NO_ERROR
-returns-then-x-ne-NO_ERROR c = λ rs o h g. sees_error rs h o _ (c.truth_of-x.ensures o g) c.if-seen-ne-NO_ERROR.false c.if-x-ne-NO_ERROR.true
+pub returns-in_err-holds : goal.returns-in_err-holds
+returns-in_err-holds c = λ rs o h g. rw (told_snoc rs o, ← h, c.in_ok-so_far.was, ← c.truth_of.ensures o g, c.in_err-holds.was) (search rules)
 
-pub returns-then-x : goal.returns-then-x
-returns-then-x c = λ rs o h g. sees_true rs h o _ (c.truth_of-x.ensures o g) c.if-seen-ne-NO_ERROR.false c.if-x-ne-NO_ERROR.false c.if-x.true
+pub returns-then-so_far : goal.returns-then-so_far
+returns-then-so_far c = λ rs o h g. rw (told_snoc rs o, ← h, c.in_ok-so_far.was, ← c.truth_of.ensures o g, c.in_ok-holds.was, c.if-so_far.true)
 
-pub returns : goal.returns
-returns c = λ rs o h g. sees_false rs h o _ (c.truth_of-x.ensures o g) c.if-seen-ne-NO_ERROR.false c.if-x-ne-NO_ERROR.false c.if-x.false
+pub returns-else-so_far : goal.returns-else-so_far
+returns-else-so_far c = λ rs o h g. rw (told_snoc rs o, ← h, c.in_ok-so_far.was, ← c.truth_of.ensures o g, c.in_ok-holds.was, c.if-so_far.false)

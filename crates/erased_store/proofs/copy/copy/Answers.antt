@@ -1,7 +1,10 @@
 -- `copy` meets its contract: by that of `store_within` on the variable's own cells, or with the yoke's error, or that there is no value. Assumes
 -- nothing.
-use mathlib.Core.Path.{sym, ◌∙◌}
+use mathlib.Core.Path.{ap, sym, ◌∙◌}
 use native.Mathlib.Omega.{arith}
+use Rattle.lingua.specs.Faults.{number_of}
+use Rattle.laws.specs.Faults.{passed_on}
+use Rattle.erased_row.proofs.Leaving.{no_zero}
 use Rattle.run.proofs.Parts.{states_room, word_room, cells_room}
 use Rattle.run.proofs.Settling.{keeps, settles_as}
 use Rattle.erased_row.proofs.Cycle.{memory_of}
@@ -22,32 +25,29 @@ slice_bounds-value-end c = let r = c.requires.has_copy in cells_room (memory_of 
 pub yoke_of-yoke-requires : goal.yoke_of-yoke-requires
 yoke_of-yoke-requires c = let r = c.requires.has_copy in word_room (memory_of r.running.world) _ r.taking
 
-pub satisfies-error-requires-clause-ready_yoke : goal.satisfies-error-requires-clause-ready_yoke
-satisfies-error-requires-clause-ready_yoke c =
+pub satisfies-requires-clause-ready_yoke : goal.satisfies-requires-clause-ready_yoke
+satisfies-requires-clause-ready_yoke c =
     let r = c.requires.has_copy in
     let y = yoke_there r.running c.args.m r.taking c.yoke_of-yoke.ensures in
     let f = given_part r.giving c.args.n r.there (sym c.is_filled.ensures ∙ c.if-not-is_filled.false) r.same in
     (value_ready r.running c.args.m r.taking f c.yoke_of-yoke.ensures)
 
-pub satisfies-error-requires-clause-y_le_count : goal.satisfies-error-requires-clause-y_le_count
-satisfies-error-requires-clause-y_le_count c =
+pub satisfies-requires-clause-y_le_count : goal.satisfies-requires-clause-y_le_count
+satisfies-requires-clause-y_le_count c =
     let r = c.requires.has_copy in
     let y = yoke_there r.running c.args.m r.taking c.yoke_of-yoke.ensures in
     let f = given_part r.giving c.args.n r.there (sym c.is_filled.ensures ∙ c.if-not-is_filled.false) r.same in
     y
 
-pub satisfies-error-requires-clause-y_in_bounds : goal.satisfies-error-requires-clause-y_in_bounds
-satisfies-error-requires-clause-y_in_bounds c =
+pub satisfies-requires-clause-y_in_bounds : goal.satisfies-requires-clause-y_in_bounds
+satisfies-requires-clause-y_in_bounds c =
     let r = c.requires.has_copy in
     let y = yoke_there r.running c.args.m r.taking c.yoke_of-yoke.ensures in
     let f = given_part r.giving c.args.n r.there (sym c.is_filled.ensures ∙ c.if-not-is_filled.false) r.same in
     (omega (arith, y, c.requires.count_in_bounds))
 
-pub returns-then-error-ne-NO_ERROR : goal.returns-then-error-ne-NO_ERROR
-returns-then-error-ne-NO_ERROR c = λ p a b limits bodies vs ws v l w k q.
-    let e = sym c.is_filled.ensures ∙ c.if-not-is_filled.false in
-    let f = given_part v c.args.n l e q in
-    keeps _ c.if-error-ne-NO_ERROR.true (sym (copied_is v c.args.n l e ws c.args.m) ∙ yoke_fails w c.args.m _ f.declared_body_lem (own_admits w c.args.m k f c.yoke_of-yoke.ensures c.satisfies-error.ensures) c.if-error-ne-NO_ERROR.true)
+pub returns-in_err-satisfies : goal.returns-in_err-satisfies
+returns-in_err-satisfies c = λ p a b limits bodies vs ws v l w k q. let e = sym c.is_filled.ensures ∙ c.if-not-is_filled.false in let f = given_part v c.args.n l e q in rw (passed_on _ _ c.from_residual.ensures.1) (keeps _ (no_zero _) (sym (copied_is v c.args.n l e ws c.args.m) ∙ yoke_fails w c.args.m _ f.declared_body_lem (own_admits w c.args.m k f c.yoke_of-yoke.ensures c.in_err-satisfies.ensures) (no_zero _)))
 
 pub store_within-requires : goal.store_within-requires
 store_within-requires c =
@@ -59,4 +59,4 @@ pub returns : goal.returns
 returns c = λ p a b limits bodies vs ws v l w k q.
     let e = sym c.is_filled.ensures ∙ c.if-not-is_filled.false in
     let f = given_part v c.args.n l e q in
-    settles_as (copied_is v c.args.n l e ws c.args.m) (c.store_within.ensures p b _ _ _ ws _ w k f (record { holds = (own_admits w c.args.m k f c.yoke_of-yoke.ensures c.satisfies-error.ensures).answer c.if-error-ne-NO_ERROR.false }))
+    settles_as (copied_is v c.args.n l e ws c.args.m) (c.store_within.ensures p b _ _ _ ws _ w k f (record { holds = (own_admits w c.args.m k f c.yoke_of-yoke.ensures c.satisfies.ensures).answer (ap number_of c.in_ok-satisfies.was) }))

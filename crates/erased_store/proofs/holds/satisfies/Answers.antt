@@ -1,13 +1,14 @@
 -- `satisfies` meets its contract: one law of Satisfying.antt for each way that it ends. Assumes nothing.
-use borrow.Author.Tests.{not-true, not-false}
+use Rattle.laws.specs.Faults.{passed_on}
+use Rattle.erased_row.proofs.Leaving.{no_zero}
 use Rattle.erased_store.proofs.Satisfying.{yoke_error, not_satisfied, satisfied}
 use Rattle.erased_store.proofs.holds.satisfies.Goals as goal
 
-pub returns-then-truth-ne-NO_ERROR : goal.returns-then-truth-ne-NO_ERROR
-returns-then-truth-ne-NO_ERROR c = yoke_error c.eval_yoke-x.ensures _ c.truth_of-truth.ensures c.if-truth-ne-NO_ERROR.true
+pub returns-in_err-truth_of : goal.returns-in_err-truth_of
+returns-in_err-truth_of c = rw (passed_on _ _ c.from_residual.ensures.1) (yoke_error c.eval_yoke-x.ensures c.in_err-truth_of.ensures (no_zero _))
 
-pub returns-then-not-truth : goal.returns-then-not-truth
-returns-then-not-truth c = not_satisfied c.eval_yoke-x.ensures _ c.truth_of-truth.ensures c.if-truth-ne-NO_ERROR.false (not-true _ c.if-not-truth.true)
+pub returns-then-branch : goal.returns-then-branch
+returns-then-branch c = satisfied c.eval_yoke-x.ensures c.in_ok-truth_of.ensures c.if-branch.true
 
-pub returns : goal.returns
-returns c = satisfied c.eval_yoke-x.ensures _ c.truth_of-truth.ensures c.if-truth-ne-NO_ERROR.false (not-false _ c.if-not-truth.false)
+pub returns-else-branch : goal.returns-else-branch
+returns-else-branch c = not_satisfied c.eval_yoke-x.ensures c.in_ok-truth_of.ensures c.if-branch.false

@@ -1,5 +1,9 @@
 -- `store` meets its contract: by that of `store_within`, on the stack or on the copy, or with the yoke's error. Assumes nothing.
+use mathlib.Core.Path.{ap}
 use native.Mathlib.Omega.{arith}
+use Rattle.lingua.specs.Faults.{number_of}
+use Rattle.laws.specs.Faults.{passed_on}
+use Rattle.erased_row.proofs.Leaving.{no_zero}
 use Rattle.run.proofs.Parts.{word_room}
 use Rattle.run.proofs.Settling.{keeps}
 use Rattle.erased_row.proofs.Cycle.{memory_of}
@@ -17,26 +21,20 @@ store_within-requires c = let r = c.requires.storable in room r.running _ r.ther
 pub returns-then-yoke-eq0 : goal.returns-then-yoke-eq0
 returns-then-yoke-eq0 c = λ p a vs x w l f. c.store_within.ensures p a _ _ _ vs x w l f (always_satisfied w _ l c.yoke_of-yoke.ensures x c.if-yoke-eq0.true)
 
-pub copy-requires-clause-n_in_bounds : goal.copy-requires-clause-n_in_bounds
-copy-requires-clause-n_in_bounds c = let k = c.requires.storable.is.narrow in (omega (arith, k, c.requires.count_in_bounds))
+pub satisfies-requires-clause-ready_yoke : goal.satisfies-requires-clause-ready_yoke
+satisfies-requires-clause-ready_yoke c = let r = c.requires.storable in let y = yoke_there r.running c.args.n r.there c.yoke_of-yoke.ensures in (value_ready r.running c.args.n r.there (value_copied r.is _ c.copy.ensures) c.yoke_of-yoke.ensures)
 
-pub copy-requires-clause-n_in_bounds_2 : goal.copy-requires-clause-n_in_bounds_2
-copy-requires-clause-n_in_bounds_2 c = let k = c.requires.storable.is.narrow in (omega (arith, k))
+pub satisfies-requires-clause-y_le_count : goal.satisfies-requires-clause-y_le_count
+satisfies-requires-clause-y_le_count c = let r = c.requires.storable in let y = yoke_there r.running c.args.n r.there c.yoke_of-yoke.ensures in y
 
-pub satisfies-error-requires-clause-ready_yoke : goal.satisfies-error-requires-clause-ready_yoke
-satisfies-error-requires-clause-ready_yoke c = let r = c.requires.storable in let y = yoke_there r.running c.args.n r.there c.yoke_of-yoke.ensures in (value_ready r.running c.args.n r.there (value_copied r.is _ c.copy.ensures) c.yoke_of-yoke.ensures)
+pub satisfies-requires-clause-y_in_bounds : goal.satisfies-requires-clause-y_in_bounds
+satisfies-requires-clause-y_in_bounds c = let r = c.requires.storable in let y = yoke_there r.running c.args.n r.there c.yoke_of-yoke.ensures in (omega (arith, y, c.requires.count_in_bounds))
 
-pub satisfies-error-requires-clause-y_le_count : goal.satisfies-error-requires-clause-y_le_count
-satisfies-error-requires-clause-y_le_count c = let r = c.requires.storable in let y = yoke_there r.running c.args.n r.there c.yoke_of-yoke.ensures in y
-
-pub satisfies-error-requires-clause-y_in_bounds : goal.satisfies-error-requires-clause-y_in_bounds
-satisfies-error-requires-clause-y_in_bounds c = let r = c.requires.storable in let y = yoke_there r.running c.args.n r.there c.yoke_of-yoke.ensures in (omega (arith, y, c.requires.count_in_bounds))
-
-pub returns-then-error-ne-NO_ERROR : goal.returns-then-error-ne-NO_ERROR
-returns-then-error-ne-NO_ERROR c = λ p a vs x w l f. keeps _ c.if-error-ne-NO_ERROR.true (yoke_fails w _ x f.declared_body_lem (own_admits w _ l (value_copied f _ c.copy.ensures) c.yoke_of-yoke.ensures c.satisfies-error.ensures) c.if-error-ne-NO_ERROR.true)
+pub returns-in_err-satisfies : goal.returns-in_err-satisfies
+returns-in_err-satisfies c = λ p a vs x w l f. rw (passed_on _ _ c.from_residual.ensures.1) (keeps _ (no_zero _) (yoke_fails w _ x f.declared_body_lem (own_admits w _ l (value_copied f _ c.copy.ensures) c.yoke_of-yoke.ensures c.in_err-satisfies.ensures) (no_zero _)))
 
 pub store_within-requires-2 : goal.store_within-requires-2
 store_within-requires-2 c = let r = c.requires.storable in room r.running _ r.there (value_copied r.is _ c.copy.ensures) (search rules)
 
 pub returns : goal.returns
-returns c = λ p a vs x w l f. let g = value_copied f _ c.copy.ensures in c.store_within-2.ensures p a _ _ _ vs x w l g (record { holds = (own_admits w _ l g c.yoke_of-yoke.ensures c.satisfies-error.ensures).answer c.if-error-ne-NO_ERROR.false })
+returns c = λ p a vs x w l f. let g = value_copied f _ c.copy.ensures in c.store_within-2.ensures p a _ _ _ vs x w l g (record { holds = (own_admits w _ l g c.yoke_of-yoke.ensures c.satisfies.ensures).answer (ap number_of c.in_ok-satisfies.was) })

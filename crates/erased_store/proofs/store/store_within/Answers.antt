@@ -4,20 +4,10 @@ use lib.IntN.{ℤ}
 use Rattle.lingua.specs.Store.{within}
 use Rattle.cells.proofs.Moves.{cell_back}
 use Rattle.erased_store.proofs.Assigning.{outside, inside}
-use borrow.Author.Rules.{rules}
 use Rattle.erased_store.proofs.store.store_within.Goals as goal
 
 pub returns-then-not-in_limits : goal.returns-then-not-in_limits
 returns-then-not-in_limits c = λ p a rows t layout vs x w l f s. outside w _ l f s _ (λ l q. c.in_limits.ensures l q ∙ ap (λ (z : ℤ). within l z) (cell_back _ c.in_limits-arg-1.given)) c.if-not-in_limits.true
-
-pub put-requires-clause-body_cells_in_bounds : goal.put-requires-clause-body_cells_in_bounds
-put-requires-clause-body_cells_in_bounds c = let r = c.requires in r.part
-
-pub put-requires-clause-n_in_bounds : goal.put-requires-clause-n_in_bounds
-put-requires-clause-n_in_bounds c = let r = c.requires in r.flag
-
-pub put-requires-clause-width_le_body_cells : goal.put-requires-clause-width_le_body_cells
-put-requires-clause-width_le_body_cells c = let r = c.requires in ((r.narrow, search rules))
 
 pub returns : goal.returns
 returns c = λ p a rows t layout vs x w l f s. inside w _ l f s _ (λ l q. c.in_limits.ensures l q ∙ ap (λ (z : ℤ). within l z) (cell_back _ c.in_limits-arg-1.given)) c.if-not-in_limits.false _ _ c.put.ensures.cells_after c.put.ensures.states_after

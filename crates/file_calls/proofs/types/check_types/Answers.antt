@@ -1,4 +1,4 @@
--- `typecheck::check_types` meets its contract: refused by its buffer or by the files, or as the whole check concludes. Assumes nothing.
+-- `file_calls::types::check_types` meets its contract: refused by its buffer or by the files, or as the whole check concludes. Assumes nothing.
 use mathlib.Core.Path.{refl, sym}
 use lib.Seq.{length-take-le}
 use Rattle.pair.proofs.Given.{room_there}
@@ -6,35 +6,27 @@ use Rattle.file_calls.proofs.Checking.{check_short, check_refused, ready, check_
 use Rattle.file_calls.proofs.types.check_types.Goals as goal
 
 pub returns-then-layout-ne-LAYOUT_LENGTH : goal.returns-then-layout-ne-LAYOUT_LENGTH
-returns-then-layout-ne-LAYOUT_LENGTH c =
-    check_short _ _ _ c.if-layout-ne-LAYOUT_LENGTH.true
+returns-then-layout-ne-LAYOUT_LENGTH c = rw c.number.ensures (check_short _ _ _ c.if-layout-ne-LAYOUT_LENGTH.true)
 
-pub take_pair-pair-requires : goal.take_pair-pair-requires
-take_pair-pair-requires c = room_there _ _ _ refl refl refl
+pub take_pair-requires : goal.take_pair-requires
+take_pair-requires c = room_there _ _ _ refl refl refl
 
-pub returns-then-refusal-ne-NO_ERROR : goal.returns-then-refusal-ne-NO_ERROR
-returns-then-refusal-ne-NO_ERROR c =
-    check_refused _ _ _ _ _ _ _ c.if-layout-ne-LAYOUT_LENGTH.false c.take_pair-pair.ensures c.if-refusal-ne-NO_ERROR.true
+pub returns-in-Err : goal.returns-in-Err
+returns-in-Err c = rw c.number-in-Err.ensures (check_refused _ _ _ _ _ _ c.if-layout-ne-LAYOUT_LENGTH.false c.in-Err.ensures)
 
 pub slice_bounds-areas-end : goal.slice_bounds-areas-end
-slice_bounds-areas-end c = (c.take_pair-pair.ensures.taken c.if-refusal-ne-NO_ERROR.false).within
+slice_bounds-areas-end c = (c.in-Ok.ensures.taken _ refl).within
 
 pub slice_bounds-check_profile-end : goal.slice_bounds-check_profile-end
-slice_bounds-check_profile-end c =
-    sym (length-take-le _ _ (c.take_pair-pair.ensures.taken c.if-refusal-ne-NO_ERROR.false).within)
+slice_bounds-check_profile-end c = sym (length-take-le _ _ (c.in-Ok.ensures.taken _ refl).within)
 
 pub check_profile-verdict-requires-clause-ready : goal.check_profile-verdict-requires-clause-ready
-check_profile-verdict-requires-clause-ready c =
-    (ready _ _ c.args.layout.now _ _ _ _ c.if-layout-ne-LAYOUT_LENGTH.false c.take_pair-pair.ensures c.if-refusal-ne-NO_ERROR.false)
-
-pub check_profile-verdict-requires-clause-layout_len : goal.check_profile-verdict-requires-clause-layout_len
-check_profile-verdict-requires-clause-layout_len c =
-    c.if-layout-ne-LAYOUT_LENGTH.false
+check_profile-verdict-requires-clause-ready c = ready _ _ c.args.layout.now _ _ _ _ c.if-layout-ne-LAYOUT_LENGTH.false c.in-Ok.ensures
 
 pub returns-then-error-ne-NO_ERROR : goal.returns-then-error-ne-NO_ERROR
 returns-then-error-ne-NO_ERROR c =
-    check_failed _ _ _ _ _ _ _ c.if-layout-ne-LAYOUT_LENGTH.false c.take_pair-pair.ensures c.if-refusal-ne-NO_ERROR.false _ _ c.check_profile-verdict.ensures c.if-error-ne-NO_ERROR.true
+    check_failed _ _ _ _ _ _ _ c.if-layout-ne-LAYOUT_LENGTH.false c.in-Ok.ensures _ _ c.check_profile-verdict.ensures c.if-error-ne-NO_ERROR.true
 
 pub returns : goal.returns
 returns c =
-    check_passed _ _ _ _ _ _ _ c.if-layout-ne-LAYOUT_LENGTH.false c.take_pair-pair.ensures c.if-refusal-ne-NO_ERROR.false _ _ c.check_profile-verdict.ensures c.if-error-ne-NO_ERROR.false
+    check_passed _ _ _ _ _ _ _ c.if-layout-ne-LAYOUT_LENGTH.false c.in-Ok.ensures _ _ c.check_profile-verdict.ensures c.if-error-ne-NO_ERROR.false

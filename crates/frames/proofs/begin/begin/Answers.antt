@@ -7,8 +7,8 @@ keep_bodies-requires c =
     let k = types_known c.in-Checked.is c.requires.accepted_rows.0 c.requires.accepted_rows.1 c.requires.begins_by in
     record { variables_known = k.0; variables_value = k.1 }
 
-pub returns-in-Checked : goal.returns-in-Checked
-returns-in-Checked c = checked_fresh c.in-Checked.is c.keep_yokes.ensures c.keep_bodies.ensures
+pub returns-in-Checked-clause-fresh : goal.returns-in-Checked-clause-fresh
+returns-in-Checked-clause-fresh c = checked_fresh c.in-Checked.is c.keep_yokes.ensures c.keep_bodies.ensures
 
-pub returns-in-Erased : goal.returns-in-Erased
-returns-in-Erased c = erased_fresh c.args.types.now c.in-Erased.is c.keep_yokes.ensures c.requires.begins_by
+pub returns-in-Erased-clause-fresh : goal.returns-in-Erased-clause-fresh
+returns-in-Erased-clause-fresh c = erased_fresh c.args.types.now c.in-Erased.is c.keep_yokes.ensures c.requires.begins_by

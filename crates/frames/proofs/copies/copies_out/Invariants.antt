@@ -1,17 +1,9 @@
--- `frames::copies::copies_out` meets its contract. The loop's invariant: the definition from the start equals the definition from here, and the
--- measure is what is left of the groups. Assumes nothing.
-use mathlib.Core.Path.{◌≡◌}
-use Prim.Native.Nat.{◌≤◌, ◌-◌}
-use lib.ListN.{length}
-use Rattle.run.specs.Reached.{lent}
-use Rattle.frames.specs.Meaning.{context}
+-- `frames::copies::copies_out` meets its contract. The loop's invariant: the definition from the start equals the definition from here. Assumes
+-- nothing.
+use Rattle.frames.specs.Lending.{context_of, lent_in, SameSlices}
 use Rattle.frames.proofs.Copying.{GoingOut}
 use Rattle.frames.proofs.copies.copies_out.Given as goal
 
 abbrev pub invariant-loop-i : goal.invariant-loop-i
 invariant-loop-i l =
-    GoingOut l.way (lent l.values l.flags l.present) (context l.rows l.t l.layout l.kept) (lent l.initial.cells l.initial.states l.initial.bodies) (lent l.cells l.states l.bodies) l.row l.field l.count l.first l.m l.i × (l.i ≤ l.count) × (length l.stack ≡ length l.initial.stack) × (length l.cells ≡ length l.initial.cells) × (length l.states ≡ length l.initial.states) × (length l.bodies ≡ length l.initial.bodies)
-
-abbrev pub decreases-loop-i : goal.decreases-loop-i
-decreases-loop-i l =
-    l.count - l.i
+    GoingOut l.context.way (lent_in l.own) (context_of l.context) (lent_in l.initial.memory) (lent_in l.memory) l.row l.field l.count l.first l.m l.i × SameSlices l.initial.memory l.memory

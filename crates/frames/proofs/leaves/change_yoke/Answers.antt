@@ -7,23 +7,11 @@ use Rattle.frames.proofs.leaves.change_yoke.Goals as goal
 pub change_yoke-requires-clause-has_running : goal.change_yoke-requires-clause-has_running
 change_yoke-requires-clause-has_running c = (record { store = c.requires.standing.store; running = checked_running c.in-Checked.is c.requires.standing.holds; there = omega (arith, c.requires.standing.of_scope.declared, c.requires.standing.holds.count) })
 
-pub change_yoke-requires-clause-y_le_count : goal.change_yoke-requires-clause-y_le_count
-change_yoke-requires-clause-y_le_count c = c.requires.y_le_count
-
-pub change_yoke-requires-clause-y_in_bounds : goal.change_yoke-requires-clause-y_in_bounds
-change_yoke-requires-clause-y_in_bounds c = (omega (arith, c.requires.y_le_count, c.requires.standing.enough))
-
 pub change_yoke-requires-in-Erased-clause-has_running : goal.change_yoke-requires-in-Erased-clause-has_running
 change_yoke-requires-in-Erased-clause-has_running c = (erased_standing c.in-Erased.is c.requires.standing)
 
-pub change_yoke-requires-in-Erased-clause-y_le_count : goal.change_yoke-requires-in-Erased-clause-y_le_count
-change_yoke-requires-in-Erased-clause-y_le_count c = c.requires.y_le_count
+pub returns-in-Checked-clause-stores : goal.returns-in-Checked-clause-stores
+returns-in-Checked-clause-stores c = checked_stores c.in-Checked.is _ _ (λ vs. changed_long vs _ _) (λ a vs q r k. c.change_yoke.ensures vs r (omega (arith, q.declared, k)))
 
-pub change_yoke-requires-in-Erased-clause-count_in_bounds : goal.change_yoke-requires-in-Erased-clause-count_in_bounds
-change_yoke-requires-in-Erased-clause-count_in_bounds c = c.requires.standing.enough
-
-pub returns-in-Checked : goal.returns-in-Checked
-returns-in-Checked c = checked_stores c.in-Checked.is _ _ (λ vs. changed_long vs _ _) (λ a vs q r k. c.change_yoke.ensures vs r (omega (arith, q.declared, k)))
-
-pub returns-in-Erased : goal.returns-in-Erased
-returns-in-Erased c = erased_stores c.in-Erased.is _ _ (λ vs. changed_long vs _ _) c.change_yoke-in-Erased.ensures
+pub returns-in-Erased-clause-stores : goal.returns-in-Erased-clause-stores
+returns-in-Erased-clause-stores c = erased_stores c.in-Erased.is _ _ (λ vs. changed_long vs _ _) c.change_yoke-in-Erased.ensures

@@ -8,17 +8,11 @@ copy-requires-clause-has_stored c = (checked_gives c.in-Checked.is c.requires)
 pub copy-requires-clause-has_running : goal.copy-requires-clause-has_running
 copy-requires-clause-has_running c = (checked_takes c.in-Checked.is c.requires)
 
-pub copy-requires-clause-count_in_bounds : goal.copy-requires-clause-count_in_bounds
-copy-requires-clause-count_in_bounds c = c.requires.enough
-
 pub copy-requires-in-Erased-clause-has_copy : goal.copy-requires-in-Erased-clause-has_copy
 copy-requires-in-Erased-clause-has_copy c = (erased_facing c.in-Erased.is c.requires)
 
-pub copy-requires-in-Erased-clause-count_in_bounds : goal.copy-requires-in-Erased-clause-count_in_bounds
-copy-requires-in-Erased-clause-count_in_bounds c = c.requires.enough
+pub returns-in-Checked-clause-copies : goal.returns-in-Checked-clause-copies
+returns-in-Checked-clause-copies c = checked_copies c.in-Checked.is c.copy.ensures
 
-pub returns-in-Checked : goal.returns-in-Checked
-returns-in-Checked c = checked_copies c.in-Checked.is c.copy.ensures
-
-pub returns-in-Erased : goal.returns-in-Erased
-returns-in-Erased c = erased_copies c.in-Erased.is c.copy-in-Erased.ensures
+pub returns-in-Erased-clause-copies : goal.returns-in-Erased-clause-copies
+returns-in-Erased-clause-copies c = erased_copies c.in-Erased.is c.copy-in-Erased.ensures

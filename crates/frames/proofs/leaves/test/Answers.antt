@@ -1,25 +1,12 @@
 -- `frames::leaves::test` meets its contract: each way's own function does. Assumes nothing.
-use native.Mathlib.Omega.{arith}
 use Rattle.frames.proofs.Ways.{checked_running, checked_tells, under_standing, erased_tells}
 use Rattle.frames.proofs.leaves.test.Goals as goal
 
 pub eval_test-requires-clause-has_world : goal.eval_test-requires-clause-has_world
 eval_test-requires-clause-has_world c = (record { store = c.requires.stands_under.standing.store; world = (checked_running c.in-Checked.is c.requires.stands_under.standing.holds).world })
 
-pub eval_test-requires-clause-row_lt_count : goal.eval_test-requires-clause-row_lt_count
-eval_test-requires-clause-row_lt_count c = c.requires.e_lt_count
-
-pub eval_test-requires-clause-row_in_bounds : goal.eval_test-requires-clause-row_in_bounds
-eval_test-requires-clause-row_in_bounds c = (omega (arith, c.requires.e_lt_count, c.requires.stands_under.standing.enough))
-
 pub test-requires-clause-has_store : goal.test-requires-clause-has_store
 test-requires-clause-has_store c = (under_standing c.in-Erased.is c.requires.stands_under)
-
-pub test-requires-clause-e_lt_count : goal.test-requires-clause-e_lt_count
-test-requires-clause-e_lt_count c = c.requires.e_lt_count
-
-pub test-requires-clause-count_in_bounds : goal.test-requires-clause-count_in_bounds
-test-requires-clause-count_in_bounds c = c.requires.stands_under.standing.enough
 
 pub returns-in-Checked : goal.returns-in-Checked
 returns-in-Checked c = λ limits. checked_tells c.in-Checked.is (λ vs r. c.eval_test.ensures vs r.world)

@@ -1,5 +1,6 @@
 -- `opening::call::enter` meets its contract: the variables that begin, then the two copies in, each from the memory that the one before left.
 -- Assumes nothing.
+use mathlib.Core.Path.{◌∙◌}
 use native.Mathlib.Omega.{arith}
 use Rattle.opening.proofs.Given.{counted, few_values, few_references}
 use Rattle.opening.proofs.Entering.{callee_heads, callee_there, callee_accepted, callee_scope, callee_begins, values_facing, values_fail, references_facing, entered}
@@ -20,36 +21,33 @@ variables_in-variables-requires-clause-k_bound c = (callee_there c.requires.call
 pub begin-requires-clause-accepted_rows : goal.begin-requires-clause-accepted_rows
 begin-requires-clause-accepted_rows c = ((callee_accepted c.requires.calling, callee_scope c.requires.calling c.variables_in-variables.ensures))
 
-pub begin-requires-clause-states_value : goal.begin-requires-clause-states_value
-begin-requires-clause-states_value c = c.requires.zeros_by.states_are
-
 pub begin-requires-clause-begins_by : goal.begin-requires-clause-begins_by
 begin-requires-clause-begins_by c = (callee_begins c.requires.calling c.requires.zeros_by)
 
 pub copies_in-error-requires-clause-has_facing : goal.copies_in-error-requires-clause-has_facing
 copies_in-error-requires-clause-has_facing c =
     let count = counted c.procedure_in-procedure.ensures c.given-values.ensures c.given-references.ensures in
-    (values_facing count c.variables_in-variables.ensures c.requires.zeros_by.cells_are c.begin.ensures c.requires.calling)
+    (values_facing count c.variables_in-variables.ensures (c.begin.ensures.cells_same ∙ c.requires.zeros_by.cells_are) c.begin.ensures.fresh c.requires.calling)
 
 pub copies_in-error-requires-clause-count_le_most_parameters : goal.copies_in-error-requires-clause-count_le_most_parameters
 copies_in-error-requires-clause-count_le_most_parameters c =
     let count = counted c.procedure_in-procedure.ensures c.given-values.ensures c.given-references.ensures in
     ((few_values count, omega arith))
 
-pub returns-then-error-ne-NO_ERROR : goal.returns-then-error-ne-NO_ERROR
-returns-then-error-ne-NO_ERROR c =
-    values_fail (counted c.procedure_in-procedure.ensures c.given-values.ensures c.given-references.ensures) c.variables_in-variables.ensures c.requires.zeros_by.cells_are c.begin.ensures c.copies_in-error.ensures c.if-error-ne-NO_ERROR.true
+pub returns-then-error-ne-NO_ERROR-clause-enters : goal.returns-then-error-ne-NO_ERROR-clause-enters
+returns-then-error-ne-NO_ERROR-clause-enters c =
+    values_fail (counted c.procedure_in-procedure.ensures c.given-values.ensures c.given-references.ensures) c.variables_in-variables.ensures (c.begin.ensures.cells_same ∙ c.requires.zeros_by.cells_are) c.begin.ensures.fresh c.copies_in-error.ensures.copies c.if-error-ne-NO_ERROR.true
 
 pub copies_in-requires-clause-has_facing : goal.copies_in-requires-clause-has_facing
 copies_in-requires-clause-has_facing c =
     let count = counted c.procedure_in-procedure.ensures c.given-values.ensures c.given-references.ensures in
-    (references_facing count c.variables_in-variables.ensures c.requires.zeros_by.cells_are c.begin.ensures c.copies_in-error.ensures c.if-error-ne-NO_ERROR.false c.requires.calling (omega (arith, c.copies_in-error.auto.stack)))
+    (references_facing count c.variables_in-variables.ensures (c.begin.ensures.cells_same ∙ c.requires.zeros_by.cells_are) c.begin.ensures.fresh c.copies_in-error.ensures.copies c.if-error-ne-NO_ERROR.false c.requires.calling (omega (arith, c.copies_in-error.auto.stack)))
 
 pub copies_in-requires-clause-count_le_most_parameters : goal.copies_in-requires-clause-count_le_most_parameters
 copies_in-requires-clause-count_le_most_parameters c =
     let count = counted c.procedure_in-procedure.ensures c.given-values.ensures c.given-references.ensures in
     ((few_references count, few_values count))
 
-pub returns : goal.returns
-returns c =
-    entered (counted c.procedure_in-procedure.ensures c.given-values.ensures c.given-references.ensures) c.variables_in-variables.ensures c.requires.zeros_by.cells_are c.begin.ensures c.copies_in-error.ensures c.if-error-ne-NO_ERROR.false c.copies_in.ensures
+pub returns-clause-enters : goal.returns-clause-enters
+returns-clause-enters c =
+    entered (counted c.procedure_in-procedure.ensures c.given-values.ensures c.given-references.ensures) c.variables_in-variables.ensures (c.begin.ensures.cells_same ∙ c.requires.zeros_by.cells_are) c.begin.ensures.fresh c.copies_in-error.ensures.copies c.if-error-ne-NO_ERROR.false c.copies_in.ensures.copies

@@ -12,17 +12,11 @@ keep_open-requires-clause-cells_in_bounds c = (cells_fit c.requires.left)
 pub keep_open-requires-clause-states_in_bounds : goal.keep_open-requires-clause-states_in_bounds
 keep_open-requires-clause-states_in_bounds c = (states_fit c.requires.left)
 
-pub returns-then-ended : goal.returns-then-ended
-returns-then-ended c = leaves_open c.if-ended.true c.keep_open.ensures.open_cells_after c.keep_open.ensures.open_states_after c.keep_open.ensures.open_bodies_after
-
-pub procedure_in-procedure-requires-clause-heads_of : goal.procedure_in-procedure-requires-clause-heads_of
-procedure_in-procedure-requires-clause-heads_of c = c.requires.left.heads_are
+pub returns-then-ended-clause-leaves : goal.returns-then-ended-clause-leaves
+returns-then-ended-clause-leaves c = leaves_open c.if-ended.true c.keep_open.ensures.open_cells_after c.keep_open.ensures.open_states_after c.keep_open.ensures.open_bodies_after
 
 pub procedure_in-procedure-requires-clause-k_bound : goal.procedure_in-procedure-requires-clause-k_bound
 procedure_in-procedure-requires-clause-k_bound c = (left_there c.requires.left)
-
-pub overflow_cast-row : goal.overflow_cast-row
-overflow_cast-row c = record { fits = left_narrow c.requires.left }
 
 pub copies_out-requires-clause-has_facing : goal.copies_out-requires-clause-has_facing
 copies_out-requires-clause-has_facing c =
@@ -39,5 +33,8 @@ copies_out-requires-clause-going c =
     let count = counted c.procedure_in-procedure.ensures c.given-values.ensures c.given-references.ensures in
     (still_goes c.requires.left c.if-ended.false)
 
-pub returns : goal.returns
-returns c = leaves_back (counted c.procedure_in-procedure.ensures c.given-values.ensures c.given-references.ensures) c.if-ended.false c.copies_out.ensures
+pub returns-clause-leaves : goal.returns-clause-leaves
+returns-clause-leaves c = leaves_back (counted c.procedure_in-procedure.ensures c.given-values.ensures c.given-references.ensures) c.if-ended.false c.copies_out.ensures.copies
+
+pub overflow_cast-call : goal.overflow_cast-call
+overflow_cast-call c = record { fits = left_narrow c.requires.left }

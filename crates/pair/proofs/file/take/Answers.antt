@@ -1,15 +1,12 @@
--- `format::take` meets its contract, by the two ways in which it ends. Assumes nothing.
-use mathlib.Core.Path.{sym, ◌∙◌}
+-- `take` meets its contract, by the ways in which it ends. Assumes nothing.
+use mathlib.Core.Path.{sym}
 use lib.Seq.{length-take-le}
 use Rattle.lingua.specs.Answers.{file_meaning}
-use Rattle.pair.proofs.Returns.{taken_by_file, taken_by_rows, room_enough}
+use Rattle.pair.proofs.Returns.{passed_on, taken_by_file, refused_by_rows, taken_by_rows, room_enough}
 use Rattle.pair.proofs.file.take.Goals as goal
 
-pub returns-then-first-ne-NO_ERROR : goal.returns-then-first-ne-NO_ERROR
-returns-then-first-ne-NO_ERROR c = taken_by_file _ (file_meaning c.args.kind) _ _ _ c.file_refusal-first.ensures c.if-first-ne-NO_ERROR.true
-
 pub gather_rows-n-requires : goal.gather_rows-n-requires
-gather_rows-n-requires c = room_enough (file_meaning c.args.kind) _ _ (sym c.file_refusal-first.ensures ∙ c.if-first-ne-NO_ERROR.false) c.requires.kind_in_bounds
+gather_rows-n-requires c = room_enough (file_meaning c.args.kind) _ _ (sym c.in_ok-file_refusal.ensures) c.requires.kind_in_bounds
 
 pub slice_bounds-tables_of-end-2 : goal.slice_bounds-tables_of-end-2
 slice_bounds-tables_of-end-2 c = sym (length-take-le _ _ c.gather_rows-n.ensures.inside)
@@ -20,9 +17,11 @@ slice_bounds-rows_refusal-end-2 c = sym (length-take-le _ _ c.gather_rows-n.ensu
 pub rows_refusal-requires-clause-are_tables : goal.rows_refusal-requires-clause-are_tables
 rows_refusal-requires-clause-are_tables c = c.tables_of-tables.ensures
 
-pub rows_refusal-requires-clause-bodies_len : goal.rows_refusal-requires-clause-bodies_len
-rows_refusal-requires-clause-bodies_len c = c.requires.bodies_len
+pub returns-in_err-file_refusal : goal.returns-in_err-file_refusal
+returns-in_err-file_refusal c = rw (passed_on _ c.from_residual.ensures.1) (taken_by_file (file_meaning c.args.kind) c.args.file.now c.args.areas.now c.args.bodies.now c.in_err-file_refusal.ensures)
+
+pub returns-in_err-rows_refusal : goal.returns-in_err-rows_refusal
+returns-in_err-rows_refusal c = rw (passed_on _ c.from_residual-in_err-rows_refusal.ensures.1) (refused_by_rows (file_meaning c.args.kind) c.args.file.now _ _ _ c.tables_of-tables.result (sym c.in_ok-file_refusal.ensures) c.gather_rows-n.ensures c.in_err-rows_refusal.ensures)
 
 pub returns : goal.returns
-returns c =
-    taken_by_rows _ (file_meaning c.args.kind) _ _ _ (sym c.file_refusal-first.ensures ∙ c.if-first-ne-NO_ERROR.false) c.gather_rows-n.ensures c.tables_of-tables.ensures c.rows_refusal.ensures
+returns c = taken_by_rows (file_meaning c.args.kind) c.args.file.now _ _ _ _ (sym c.in_ok-file_refusal.ensures) c.gather_rows-n.ensures c.tables_of-tables.ensures c.in_ok-rows_refusal.ensures

@@ -2,8 +2,11 @@
 use mathlib.Core.Path.{ap, ◌∙◌}
 use native.Mathlib.Omega.{arith}
 use Rattle.profile.specs.Hundredths.{hundredths_row}
+use Rattle.lingua.specs.Numbers.{type_section}
+use Rattle.lingua.specs.Rows.{type_at, type_row}
+use Rattle.decoder.specs.Decoded.{decoded}
 use Rattle.profile.specs.Variables.{own_scope}
-use Rattle.decoder.proofs.Decoding.{type_decoded_lem}
+use Rattle.decoder.proofs.Decoding.{place, row_decoded}
 use Rattle.profile.proofs.Declaring.{type_below, says_declared}
 use Rattle.profile.proofs.declarations.in_hundredths.Goals as goal
 
@@ -16,8 +19,13 @@ declared_type-r-requires-clause-d_bound c = c.requires.d_bound
 pub overflow_add-types : goal.overflow_add-types
 overflow_add-types c = omega (arith, c.requires.table.1.within, type_below c.args.rows.now c.requires.accepted_rows c.args.t c.args.types c.requires.table.0 c.requires.table.1 c.args.d c.requires.d_bound c.declared_type-r.result c.declared_type-r.ensures)
 
-pub type_at-says-requires : goal.type_at-says-requires
-type_at-says-requires c = omega (arith, c.requires.table.1.within, type_below c.args.rows.now c.requires.accepted_rows c.args.t c.args.types c.requires.table.0 c.requires.table.1 c.args.d c.requires.d_bound c.declared_type-r.result c.declared_type-r.ensures)
+pub type_at-requires : goal.type_at-requires
+type_at-requires c = omega (arith, c.requires.table.1.within, type_below c.args.rows.now c.requires.accepted_rows c.args.t c.args.types c.requires.table.0 c.requires.table.1 c.args.d c.requires.d_bound c.declared_type-r.result c.declared_type-r.ensures)
 
-pub returns : goal.returns
-returns c = says_declared c.args.rows.now c.requires.accepted_rows c.args.t c.args.types c.requires.table.0 c.requires.table.1 c.args.d c.requires.d_bound c.declared_type-r.result c.declared_type-r.ensures _ (c.says_hundredths.ensures ∙ ap hundredths_row (type_decoded_lem c.args.rows.now c.args.types c.declared_type-r.result c.requires.table.1 c.type_at-says.result c.type_at-says.ensures))
+pub returns-in-Some : goal.returns-in-Some
+unfolding decoded type_row
+returns-in-Some c = says_declared c.args.rows.now c.requires.accepted_rows c.args.t c.args.types c.requires.table.0 c.requires.table.1 c.args.d c.requires.d_bound c.declared_type-r.result c.declared_type-r.ensures _ (c.makes_hundredths.ensures ∙ ap hundredths_row (row_decoded (type_at c.args.rows.now) (place c.args.rows.now type_section c.args.types c.declared_type-r.result c.requires.table.1) c.in-Some.ensures))
+
+pub returns-in-None : goal.returns-in-None
+unfolding decoded type_row hundredths_row
+returns-in-None c = says_declared c.args.rows.now c.requires.accepted_rows c.args.t c.args.types c.requires.table.0 c.requires.table.1 c.args.d c.requires.d_bound c.declared_type-r.result c.declared_type-r.ensures _ (ap hundredths_row (row_decoded (type_at c.args.rows.now) (place c.args.rows.now type_section c.args.types c.declared_type-r.result c.requires.table.1) c.in-None.ensures))

@@ -1,20 +1,21 @@
 -- `is_hundredths` meets its contract, body by body. Assumes nothing.
+use Rattle.std.proofs.Common.{◌≡◌, refl, false}
 use Rattle.lingua.specs.Body.{is_hundredths}
 use Rattle.decoder.specs.Decoded.{simple_meaning}
+use Rattle.decoder.specs.declared.decode.Simple.{Simple}
+use Rattle.decoder.specs.declared.decode.Simple.TheVariants as simple
 use Rattle.profile.proofs.declarations.is_hundredths.Goals as goal
 
-pub returns-in-Boolean : goal.returns-in-Boolean
+other_body : (s : Simple) → (s ≡ simple.Hundredths → ⊥) → false ≡ is_hundredths (simple_meaning s)
 unfolding is_hundredths simple_meaning
-returns-in-Boolean c = rw c.in-Boolean.is
-
-pub returns-in-Number : goal.returns-in-Number
-unfolding is_hundredths simple_meaning
-returns-in-Number c = rw c.in-Number.is
-
-pub returns-in-Word : goal.returns-in-Word
-unfolding is_hundredths simple_meaning
-returns-in-Word c = rw c.in-Word.is
+other_body simple.Boolean h = refl
+other_body simple.Number h = refl
+other_body simple.Word h = refl
+other_body simple.Hundredths h = absurd (h refl)
 
 pub returns-in-Hundredths : goal.returns-in-Hundredths
 unfolding is_hundredths simple_meaning
 returns-in-Hundredths c = rw c.in-Hundredths.is
+
+pub returns-in_default : goal.returns-in_default
+returns-in_default c = other_body c.args.s c.in_default.not-Hundredths

@@ -2,8 +2,8 @@
 use Rattle.profile.proofs.Decoding.{expression_says, expression_not_unknown}
 use Rattle.profile.proofs.row.expression_row.Goals as goal
 
-pub returns-in-Known : goal.returns-in-Known
-returns-in-Known c = expression_says c.args.rows.now c.args.t c.args.r c.requires.table c.expression_at-d.result c.expression_at-d.ensures c.requires.known_expression _ _ c.in-Known.is
+pub returns-in-Some : goal.returns-in-Some
+returns-in-Some c = expression_says c.args.rows.now c.args.t c.args.r c.requires.table c.in-Some.ensures c.requires.known_expression
 
-pub returns-in-Unknown : goal.returns-in-Unknown
-returns-in-Unknown c = absurd (expression_not_unknown c.args.rows.now c.args.t c.args.r c.requires.table c.expression_at-d.result c.expression_at-d.ensures c.requires.known_expression c.in-Unknown.is)
+pub returns-in-None : goal.returns-in-None
+returns-in-None c = absurd (expression_not_unknown c.args.rows.now c.args.t c.args.r c.requires.table c.in-None.ensures c.requires.known_expression)

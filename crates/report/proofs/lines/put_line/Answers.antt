@@ -1,8 +1,10 @@
 -- `report::lines::put_line` meets its contract: the line of a name, a flag and a part of the cells. Assumes nothing.
+use mathlib.Core.Path.{ap, ◌∙◌}
 use native.Mathlib.Omega.{arith}
+use Rattle.std.specs.Option.{option_copied}
 use Rattle.run.proofs.Parts.{states_room, cells_room}
 use Rattle.checked_row.proofs.Storing.{memory_of}
-use Rattle.report.proofs.Putting.{there, line_put}
+use Rattle.report.proofs.Putting.{there, lent, line_put}
 use Rattle.report.proofs.lines.put_line.Goals as goal
 
 pub present_cells-count-requires : goal.present_cells-count-requires
@@ -32,12 +34,12 @@ offset_bounds-cells-from c =
     let l = there h.left c.requires.table c.requires.d_bound in
     record { fits = omega (arith, h.left.stored.few, l) }
 
-pub slice_bounds-put_variable_line-end : goal.slice_bounds-put_variable_line-end
-slice_bounds-put_variable_line-end c =
+pub slice_bounds-then_some-end : goal.slice_bounds-then_some-end
+slice_bounds-then_some-end c =
     let h = c.requires.has_left in
     let l = there h.left c.requires.table c.requires.d_bound in
     omega (arith, cells_room (memory_of h.left.stored) _ l, c.present_cells-count.ensures _ _ _ h.left.stored l, (h.left.stored.holdable _ l).few_cells, l)
 
 pub returns : goal.returns
 returns c = λ vs h.
-    line_put c.args.rows.now c.args.cells.now c.args.states.now vs _ c.args.t c.args.d c.present_cells-count.result _ c.requires.table c.bytes_at-name.ensures.0 (c.present_cells-count.ensures _ _ vs h.stored (there h c.requires.table c.requires.d_bound)) c.is_filled.ensures c.put_variable_line.ensures
+    line_put c.args.rows.now c.args.cells.now c.args.states.now vs _ _ c.args.t c.args.d c.present_cells-count.result _ c.requires.table c.bytes_at-name.ensures.0 (c.present_cells-count.ensures _ _ vs h.stored (there h c.requires.table c.requires.d_bound)) c.is_filled.ensures (ap option_copied c.then_some-content.ensures ∙ lent _ _) c.put_variable_line.ensures

@@ -1,6 +1,5 @@
 -- `report::lines::put_lines` meets its contract. The invariant: the lines of the variables passed stand behind the text that was there. Assumes nothing.
 use mathlib.Core.List.{List}
-use Prim.Native.Nat.{◌≤◌, ◌-◌}
 use Rattle.lingua.specs.Store.{Variable}
 use Rattle.text.specs.Appended.{Appended}
 use Rattle.report.specs.Memory.{Left, memory_lines}
@@ -8,7 +7,4 @@ use Rattle.report.proofs.lines.put_lines.Given as goal
 
 abbrev pub invariant-loop-d : goal.invariant-loop-d
 invariant-loop-d l =
-    (l.d ≤ l.n) × ((vs : List Variable) → Left l.rows l.bodies l.cells l.states vs → Appended l.initial.out l.at (memory_lines l.rows l.cells l.states vs 0 l.d) l.out l.end)
-
-abbrev pub decreases-loop-d : goal.decreases-loop-d
-decreases-loop-d l = l.n - l.d
+    (vs : List Variable) → Left l.rows l.bodies l.cells l.states vs → Appended l.initial.out l.at (memory_lines l.rows l.cells l.states vs 0 l.d) l.out l.end

@@ -1,12 +1,20 @@
 -- `constant_fits_at` meets its contract: the decoded row is the row. Assumes nothing.
-use mathlib.Core.Path.{◌∙◌}
+use mathlib.Core.Path.{ap, ◌∙◌}
+use Rattle.lingua.specs.Numbers.{expression_section}
+use Rattle.lingua.specs.Rows.{expression_at, expression_row}
 use Rattle.lingua.specs.Rules.{row_constant_fits}
-use Rattle.decoder.proofs.Decoding.{expression_unknown_of, expression_known_of, constant_in_bytes}
+use Rattle.decoder.specs.Decoded.{decoded, in_bytes}
+use Rattle.decoder.proofs.Decoding.{place, row_decoded, constant_in_bytes}
 use Rattle.row_rules.proofs.constants.constant_fits_at.Goals as goal
 
-pub returns-in-Unknown : goal.returns-in-Unknown
-unfolding row_constant_fits
-returns-in-Unknown c = expression_unknown_of row_constant_fits constant_in_bytes c.args.rows.now c.args.t c.args.r c.requires.table c.expression_at-d.result c.expression_at-d.ensures c.in-Unknown.is
+pub returns-in-Some : goal.returns-in-Some
+unfolding expression_row decoded
+returns-in-Some c =
+    let e = row_decoded (λ i. in_bytes (expression_at c.args.rows.now i)) (place c.args.rows.now expression_section c.args.t c.args.r c.requires.table) c.in-Some.ensures in
+    c.row_constant_fits.ensures ∙ (ap row_constant_fits e ∙ constant_in_bytes (expression_row c.args.rows.now c.args.r))
 
-pub returns-in-Known : goal.returns-in-Known
-returns-in-Known c = c.row_constant_fits.ensures ∙ expression_known_of row_constant_fits constant_in_bytes c.args.rows.now c.args.t c.args.r c.requires.table c.expression_at-d.result c.expression_at-d.ensures _ _ c.in-Known.is
+pub returns-in-None : goal.returns-in-None
+unfolding expression_row decoded row_constant_fits
+returns-in-None c =
+    let e = row_decoded (λ i. in_bytes (expression_at c.args.rows.now i)) (place c.args.rows.now expression_section c.args.t c.args.r c.requires.table) c.in-None.ensures in
+    ap row_constant_fits e ∙ constant_in_bytes (expression_row c.args.rows.now c.args.r)

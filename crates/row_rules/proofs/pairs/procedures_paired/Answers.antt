@@ -1,10 +1,11 @@
 -- `procedures_paired` meets its contract: what stands between the limits and the first procedure is a row of neither. Assumes nothing.
 use mathlib.Core.Path.{◌∙◌}
+use borrow.Author.Tests.{ne_eqb}
 use Rattle.row_rules.proofs.Pairing.{paired_late, paired_rows}
 use Rattle.row_rules.proofs.pairs.procedures_paired.Goals as goal
 
-pub returns-then-heads-limits : goal.returns-then-heads-limits
-returns-then-heads-limits c = paired_late c.args.rows.now c.args.t c.requires c.if-heads-limits.true
+pub returns-then-t : goal.returns-then-t
+returns-then-t c = c.pairs_fit.ensures ∙ paired_rows c.args.rows.now c.args.t c.requires c.if-t.true
 
-pub returns : goal.returns
-returns c = c.pairs_fit.ensures ∙ paired_rows c.args.rows.now c.args.t c.requires c.if-heads-limits.false
+pub returns-else-t : goal.returns-else-t
+returns-else-t c = ne_eqb _ _ c.if-t.false ∙ paired_late c.args.rows.now c.args.t c.requires c.if-t.false

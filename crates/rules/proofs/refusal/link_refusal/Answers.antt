@@ -1,6 +1,5 @@
 -- `link_refusal` meets its contract: the first rule that applies is the first in order. Assumes nothing.
 use mathlib.Core.Path.{sym, ◌∙◌}
-use native.Mathlib.Omega.{arith}
 use Rattle.lingua.specs.References.{reference_wrong, use_wrong, place_wrong, type_wrong, parameters_wrong, references_wrong}
 use Rattle.rules.specs.Accepted.{rows_right}
 use Rattle.rules.specs.Types.{types_ready}
@@ -18,7 +17,7 @@ pub returns-then-reference_wrong : goal.returns-then-reference_wrong
 unfolding link_rules
 returns-then-reference_wrong c =
     let rows = c.args.rows.now in
-    refused_linked rows (reference_applies (reference_wrong rows) (use_wrong rows) (place_wrong rows) (type_wrong rows) (parameters_wrong rows) (references_wrong rows) (sym c.reference_wrong.ensures ∙ c.if-reference_wrong.true)) (omega arith)
+    refused_linked rows (reference_applies (reference_wrong rows) (use_wrong rows) (place_wrong rows) (type_wrong rows) (parameters_wrong rows) (references_wrong rows) (sym c.reference_wrong.ensures ∙ c.if-reference_wrong.true))
 
 pub use_wrong-requires-clause-are_tables : goal.use_wrong-requires-clause-are_tables
 use_wrong-requires-clause-are_tables c = c.requires.tables
@@ -30,7 +29,7 @@ pub returns-then-use_wrong : goal.returns-then-use_wrong
 unfolding link_rules
 returns-then-use_wrong c =
     let rows = c.args.rows.now in
-    refused_linked rows (use_applies (reference_wrong rows) (use_wrong rows) (place_wrong rows) (type_wrong rows) (parameters_wrong rows) (references_wrong rows) (sym c.reference_wrong.ensures ∙ c.if-reference_wrong.false) (sym c.use_wrong.ensures ∙ c.if-use_wrong.true)) (omega arith)
+    refused_linked rows (use_applies (reference_wrong rows) (use_wrong rows) (place_wrong rows) (type_wrong rows) (parameters_wrong rows) (references_wrong rows) (sym c.reference_wrong.ensures ∙ c.if-reference_wrong.false) (sym c.use_wrong.ensures ∙ c.if-use_wrong.true))
 
 pub place_wrong-requires-clause-are_tables : goal.place_wrong-requires-clause-are_tables
 place_wrong-requires-clause-are_tables c = c.requires.tables
@@ -45,7 +44,7 @@ pub returns-then-place_wrong : goal.returns-then-place_wrong
 unfolding link_rules
 returns-then-place_wrong c =
     let rows = c.args.rows.now in
-    refused_linked rows (place_applies (reference_wrong rows) (use_wrong rows) (place_wrong rows) (type_wrong rows) (parameters_wrong rows) (references_wrong rows) (sym c.reference_wrong.ensures ∙ c.if-reference_wrong.false) (sym c.use_wrong.ensures ∙ c.if-use_wrong.false) (sym c.place_wrong.ensures ∙ c.if-place_wrong.true)) (omega arith)
+    refused_linked rows (place_applies (reference_wrong rows) (use_wrong rows) (place_wrong rows) (type_wrong rows) (parameters_wrong rows) (references_wrong rows) (sym c.reference_wrong.ensures ∙ c.if-reference_wrong.false) (sym c.use_wrong.ensures ∙ c.if-use_wrong.false) (sym c.place_wrong.ensures ∙ c.if-place_wrong.true))
 
 pub type_wrong-requires-clause-table : goal.type_wrong-requires-clause-table
 type_wrong-requires-clause-table c =
@@ -63,7 +62,7 @@ pub returns-then-type_wrong : goal.returns-then-type_wrong
 unfolding link_rules
 returns-then-type_wrong c =
     let rows = c.args.rows.now in
-    refused_linked rows (type_applies (reference_wrong rows) (use_wrong rows) (place_wrong rows) (type_wrong rows) (parameters_wrong rows) (references_wrong rows) (sym c.reference_wrong.ensures ∙ c.if-reference_wrong.false) (sym c.use_wrong.ensures ∙ c.if-use_wrong.false) (sym c.place_wrong.ensures ∙ c.if-place_wrong.false) (sym c.type_wrong.ensures.value ∙ c.if-type_wrong.true)) (omega arith)
+    refused_linked rows (type_applies (reference_wrong rows) (use_wrong rows) (place_wrong rows) (type_wrong rows) (parameters_wrong rows) (references_wrong rows) (sym c.reference_wrong.ensures ∙ c.if-reference_wrong.false) (sym c.use_wrong.ensures ∙ c.if-use_wrong.false) (sym c.place_wrong.ensures ∙ c.if-place_wrong.false) (sym c.type_wrong.ensures.value ∙ c.if-type_wrong.true))
 
 pub parameters_wrong-requires : goal.parameters_wrong-requires
 parameters_wrong-requires c = record { tables = c.requires.tables; sized = sized _ _ c.requires.tables c.requires.counts; refers = rows_right _ (sym c.reference_wrong.ensures ∙ c.if-reference_wrong.false) }
@@ -72,7 +71,7 @@ pub returns-then-parameters_wrong : goal.returns-then-parameters_wrong
 unfolding link_rules
 returns-then-parameters_wrong c =
     let rows = c.args.rows.now in
-    refused_linked rows (parameters_apply (reference_wrong rows) (use_wrong rows) (place_wrong rows) (type_wrong rows) (parameters_wrong rows) (references_wrong rows) (sym c.reference_wrong.ensures ∙ c.if-reference_wrong.false) (sym c.use_wrong.ensures ∙ c.if-use_wrong.false) (sym c.place_wrong.ensures ∙ c.if-place_wrong.false) (sym c.type_wrong.ensures.value ∙ c.if-type_wrong.false) (sym c.parameters_wrong.ensures ∙ c.if-parameters_wrong.true)) (omega arith)
+    refused_linked rows (parameters_apply (reference_wrong rows) (use_wrong rows) (place_wrong rows) (type_wrong rows) (parameters_wrong rows) (references_wrong rows) (sym c.reference_wrong.ensures ∙ c.if-reference_wrong.false) (sym c.use_wrong.ensures ∙ c.if-use_wrong.false) (sym c.place_wrong.ensures ∙ c.if-place_wrong.false) (sym c.type_wrong.ensures.value ∙ c.if-type_wrong.false) (sym c.parameters_wrong.ensures ∙ c.if-parameters_wrong.true))
 
 pub references_wrong-requires : goal.references_wrong-requires
 references_wrong-requires c = record { tables = c.requires.tables; sized = sized _ _ c.requires.tables c.requires.counts; refers = rows_right _ (sym c.reference_wrong.ensures ∙ c.if-reference_wrong.false) }
@@ -81,7 +80,7 @@ pub returns-then-references_wrong : goal.returns-then-references_wrong
 unfolding link_rules
 returns-then-references_wrong c =
     let rows = c.args.rows.now in
-    refused_linked rows (repeats_apply (reference_wrong rows) (use_wrong rows) (place_wrong rows) (type_wrong rows) (parameters_wrong rows) (references_wrong rows) (sym c.reference_wrong.ensures ∙ c.if-reference_wrong.false) (sym c.use_wrong.ensures ∙ c.if-use_wrong.false) (sym c.place_wrong.ensures ∙ c.if-place_wrong.false) (sym c.type_wrong.ensures.value ∙ c.if-type_wrong.false) (sym c.parameters_wrong.ensures ∙ c.if-parameters_wrong.false) (sym c.references_wrong.ensures ∙ c.if-references_wrong.true)) (omega arith)
+    refused_linked rows (repeats_apply (reference_wrong rows) (use_wrong rows) (place_wrong rows) (type_wrong rows) (parameters_wrong rows) (references_wrong rows) (sym c.reference_wrong.ensures ∙ c.if-reference_wrong.false) (sym c.use_wrong.ensures ∙ c.if-use_wrong.false) (sym c.place_wrong.ensures ∙ c.if-place_wrong.false) (sym c.type_wrong.ensures.value ∙ c.if-type_wrong.false) (sym c.parameters_wrong.ensures ∙ c.if-parameters_wrong.false) (sym c.references_wrong.ensures ∙ c.if-references_wrong.true))
 
 pub returns : goal.returns
 unfolding link_rules

@@ -2,7 +2,6 @@
 use Rattle.rules.proofs.Lowest.{refused_6, refused_7, refused_8, refused_9, refused_later, later_profile, later_limits, is_profile, is_limits, only_profile, few_procedures_lem, refused_judged}
 use mathlib.Core.Path.{◌≡◌, sym, ◌∙◌, subst}
 use mathlib.Core.Bool.{false}
-use native.Mathlib.Omega.{arith}
 use Rattle.lingua.specs.Answers.{file_meaning}
 use Rattle.lingua.specs.Format.{File, profile}
 use Rattle.lingua.specs.Rules.{count_wrong, constant_wrong}
@@ -13,11 +12,11 @@ form_wrong-requires c = c.requires.are_tables
 
 pub returns-then-form_wrong : goal.returns-then-form_wrong
 returns-then-form_wrong c =
-    refused_judged (file_meaning c.args.file) c.args.rows.now (refused_6 (file_meaning c.args.file) c.args.rows.now c.form_wrong.ensures c.if-form_wrong.true) (omega arith)
+    refused_judged (file_meaning c.args.file) c.args.rows.now (refused_6 (file_meaning c.args.file) c.args.rows.now c.form_wrong.ensures c.if-form_wrong.true)
 
 pub returns-then-count_wrong : goal.returns-then-count_wrong
 returns-then-count_wrong c =
-    refused_judged (file_meaning c.args.file) c.args.rows.now (refused_7 (file_meaning c.args.file) c.args.rows.now c.form_wrong.ensures (c.count_wrong.ensures c.args.rows.now c.requires.are_tables) c.if-form_wrong.false c.if-count_wrong.true) (omega arith)
+    refused_judged (file_meaning c.args.file) c.args.rows.now (refused_7 (file_meaning c.args.file) c.args.rows.now c.form_wrong.ensures (c.count_wrong.ensures c.args.rows.now c.requires.are_tables) c.if-form_wrong.false c.if-count_wrong.true)
 
 pub name_wrong-requires-clause-are_tables : goal.name_wrong-requires-clause-are_tables
 name_wrong-requires-clause-are_tables c =
@@ -29,14 +28,14 @@ name_wrong-requires-clause-few_procedures c =
 
 pub returns-then-name_wrong : goal.returns-then-name_wrong
 returns-then-name_wrong c =
-    refused_judged (file_meaning c.args.file) c.args.rows.now (refused_8 (file_meaning c.args.file) c.args.rows.now c.form_wrong.ensures (c.count_wrong.ensures c.args.rows.now c.requires.are_tables) c.name_wrong.ensures c.if-form_wrong.false c.if-count_wrong.false c.if-name_wrong.true) (omega arith)
+    refused_judged (file_meaning c.args.file) c.args.rows.now (refused_8 (file_meaning c.args.file) c.args.rows.now c.form_wrong.ensures (c.count_wrong.ensures c.args.rows.now c.requires.are_tables) c.name_wrong.ensures c.if-form_wrong.false c.if-count_wrong.false c.if-name_wrong.true)
 
 pub constant_wrong-requires : goal.constant_wrong-requires
 constant_wrong-requires c = c.requires.are_tables
 
 pub returns-then-constant_wrong : goal.returns-then-constant_wrong
 returns-then-constant_wrong c =
-    refused_judged (file_meaning c.args.file) c.args.rows.now (refused_9 (file_meaning c.args.file) c.args.rows.now c.form_wrong.ensures (c.count_wrong.ensures c.args.rows.now c.requires.are_tables) c.name_wrong.ensures c.constant_wrong.ensures c.if-form_wrong.false c.if-count_wrong.false c.if-name_wrong.false c.if-constant_wrong.true) (omega arith)
+    refused_judged (file_meaning c.args.file) c.args.rows.now (refused_9 (file_meaning c.args.file) c.args.rows.now c.form_wrong.ensures (c.count_wrong.ensures c.args.rows.now c.requires.are_tables) c.name_wrong.ensures c.constant_wrong.ensures c.if-form_wrong.false c.if-count_wrong.false c.if-name_wrong.false c.if-constant_wrong.true)
 
 pub link_refusal-requires : goal.link_refusal-requires
 link_refusal-requires c =

@@ -1,21 +1,18 @@
 -- `note_all` meets its contract: the list's numbers are noted in turn. Assumes nothing.
-use mathlib.Core.List.{[], ◌∷◌, ◌++◌}
-use Rattle.decoder.specs.Mentions.{listed}
-use Rattle.rules.proofs.Usage.{counted_to, short_0, short_1, short_2, short_3}
+use Rattle.std.proofs.Common.{ap, sym, ◌∙◌, ◌++◌, take, List, ℕ}
+use Rattle.std.proofs.Common.{append_assoc}
+use Rattle.std.proofs.lemmas.List.{take_more, take_all}
+use mathlib.Core.List.{append-nil}
+use Rattle.rules.proofs.Usage.{counted_to}
 use Rattle.rules.proofs.uses.note_all.Goals as goal
 
-pub returns-then-count-eq0 : goal.returns-then-count-eq0
-unfolding listed
-returns-then-count-eq0 c = λ xs h. counted_to h (short_0 xs c.args.f.count c.args.f.x c.args.f.y c.args.f.z c.if-count-eq0.true)
+pub loop-x-init : goal.loop-x-init
+loop-x-init c = λ xs h. counted_to h (sym (append-nil xs))
 
-pub returns-then-count-eq1 : goal.returns-then-count-eq1
-unfolding listed
-returns-then-count-eq1 c = λ xs h. counted_to (c.note.ensures xs h) (short_1 xs c.args.f.count c.args.f.x c.args.f.y c.args.f.z c.if-count-eq1.true)
-
-pub returns-then-count-eq2 : goal.returns-then-count-eq2
-unfolding listed
-returns-then-count-eq2 c = λ xs h. counted_to (c.note-2.ensures (xs ++ (c.args.f.x ∷ [])) (c.note.ensures xs h)) (short_2 xs c.args.f.count c.args.f.x c.args.f.y c.args.f.z c.if-count-eq2.true)
+pub loop-x-preserved : goal.loop-x-preserved
+loop-x-preserved c = λ xs h.
+    counted_to (c.note.ensures (xs ++ take c.loop-x.x-index c.numbers-numbers.result.now) (c.loop-x.invariant xs h))
+    (append_assoc xs _ _ ∙ ap (λ (l : List ℕ). xs ++ l) (sym (take_more c.numbers-numbers.result.now c.loop-x.x-index 0 c.loop-x-test.true)))
 
 pub returns : goal.returns
-unfolding listed
-returns c = λ xs h. counted_to (c.note-3.ensures (xs ++ (c.args.f.x ∷ []) ++ (c.args.f.y ∷ [])) (c.note-2.ensures (xs ++ (c.args.f.x ∷ [])) (c.note.ensures xs h))) (short_3 xs c.args.f.count c.args.f.x c.args.f.y c.args.f.z c.if-count-eq0.false c.if-count-eq1.false c.if-count-eq2.false)
+returns c = λ xs h. counted_to (c.loop-x.invariant xs h) (ap (λ (l : List ℕ). xs ++ l) (take_all _ _ c.loop-x-test.false ∙ c.numbers-numbers.ensures))

@@ -11,22 +11,13 @@ use Rattle.rules.proofs.Usage.{mentions_alike, turn_none, turn_more, turn_all}
 use Rattle.rules.proofs.uses.note_mentioned.Goals as goal
 
 pub loop-r-init : goal.loop-r-init
-loop-r-init c = (omega arith, λ xs h. turn_none (λ (k : ℕ). mentioned_by c.args.what (instruction_row c.args.rows.now k)) c.args.uses.now xs h)
+loop-r-init c = λ xs h. turn_none (λ (k : ℕ). mentioned_by c.args.what (instruction_row c.args.rows.now k)) c.args.uses.now xs h
 
 pub instruction_in-requires-clause-table : goal.instruction_in-requires-clause-table
 instruction_in-requires-clause-table c = c.requires
 
-pub instruction_in-requires-clause-r_lt_count : goal.instruction_in-requires-clause-r_lt_count
-instruction_in-requires-clause-r_lt_count c = c.loop-r-test.true
-
-pub overflow_add-r : goal.overflow_add-r
-overflow_add-r c = omega arith
-
-pub loop-r-smaller : goal.loop-r-smaller
-loop-r-smaller c = omega arith
-
 pub loop-r-preserved : goal.loop-r-preserved
-loop-r-preserved c = (omega arith, λ xs h. turn_more (λ (k : ℕ). mentioned_by c.args.what (instruction_row c.args.rows.now k)) c.note_all.new.uses xs c.loop-r.r _ (c.mentioned.ensures ∙ mentions_alike c.args.what c.instruction_in.ensures) (c.note_all.ensures (xs ++ joined (tabulate c.loop-r.r (λ (k : ℕ). mentioned_by c.args.what (instruction_row c.args.rows.now k)))) (c.loop-r.invariant.1 xs h)))
+loop-r-preserved c = λ xs h. turn_more (λ (k : ℕ). mentioned_by c.args.what (instruction_row c.args.rows.now k)) c.note_all.new.uses xs c.loop-r.r _ (c.mentioned.ensures ∙ mentions_alike c.args.what c.instruction_in.ensures) (c.note_all.ensures (xs ++ joined (tabulate c.loop-r.r (λ (k : ℕ). mentioned_by c.args.what (instruction_row c.args.rows.now k)))) (c.loop-r.invariant xs h))
 
 pub returns : goal.returns
-returns c = λ xs h. turn_all (λ (k : ℕ). mentioned_by c.args.what (instruction_row c.args.rows.now k)) c.loop-r.uses xs c.loop-r.r (table_count c.args.rows.now instruction_section) (omega arith) (c.loop-r.invariant.1 xs h)
+returns c = λ xs h. turn_all (λ (k : ℕ). mentioned_by c.args.what (instruction_row c.args.rows.now k)) c.loop-r.uses xs c.loop-r.r (table_count c.args.rows.now instruction_section) (omega arith) (c.loop-r.invariant xs h)

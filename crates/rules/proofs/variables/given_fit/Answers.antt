@@ -1,6 +1,5 @@
 -- `given_fit` meets its contract: only a call is asked, its values first. Assumes nothing.
-use mathlib.Core.Path.{refl, sym, ◌∙◌}
-use mathlib.Core.List.{◌++◌}
+use Rattle.std.proofs.Common.{refl, ◌∙◌, sym, ◌++◌}
 use Rattle.lingua.specs.Trees.{given_values, given_references}
 use Rattle.lingua.specs.References.{all_below}
 use Rattle.rules.proofs.Calling.{call_at, no_call, called_at, given_values_fail, given_references_tell}
@@ -10,16 +9,13 @@ pub procedure_at-procedure-requires-clause-are_tables : goal.procedure_at-proced
 procedure_at-procedure-requires-clause-are_tables c = c.requires.tables
 
 pub procedure_at-procedure-requires-clause-k_lt_count : goal.procedure_at-procedure-requires-clause-k_lt_count
-procedure_at-procedure-requires-clause-k_lt_count c = (called_at c.args.rows.now c.args.t c.args.row _ _ _ c.requires c.in-Call.is)
+procedure_at-procedure-requires-clause-k_lt_count c = called_at c.args.rows.now c.args.t c.args.row _ _ _ c.requires c.in-Call.is
 
-pub procedure_at-procedure-requires-clause-count_le_most_procedures : goal.procedure_at-procedure-requires-clause-count_le_most_procedures
-procedure_at-procedure-requires-clause-count_le_most_procedures c = c.requires.few
+pub returns-then-groups_below : goal.returns-then-groups_below
+returns-then-groups_below c = c.groups_below-then-groups_below.ensures ∙ given_references_tell c.args.rows.now _ _ _ c.procedure_at-procedure.result c.procedure_at-procedure.ensures c.given.result c.given-then-groups_below.result c.given.ensures c.given-then-groups_below.ensures c.args.end (sym c.groups_below.ensures ∙ c.if-groups_below.true) ∙ sym (call_at c.args.row _ _ _ (λ k v w. all_below c.args.end (given_values c.args.rows.now k v ++ given_references c.args.rows.now k w)) c.in-Call.is)
 
-pub returns-then-not-groups_below : goal.returns-then-not-groups_below
-returns-then-not-groups_below c = given_values_fail c.args.rows.now _ _ _ c.procedure_at-procedure.result c.procedure_at-procedure.ensures c.given.result _ c.given.ensures refl c.args.end (sym c.groups_below.ensures ∙ c.if-not-groups_below.true) ∙ sym (call_at c.args.row _ _ _ (λ k v w. all_below c.args.end (given_values c.args.rows.now k v ++ given_references c.args.rows.now k w)) c.in-Call.is)
-
-pub returns-else-not-groups_below : goal.returns-else-not-groups_below
-returns-else-not-groups_below c = c.groups_below-in-Call.ensures ∙ given_references_tell c.args.rows.now _ _ _ c.procedure_at-procedure.result c.procedure_at-procedure.ensures c.given.result c.given-in-Call.result c.given.ensures c.given-in-Call.ensures c.args.end (sym c.groups_below.ensures ∙ c.if-not-groups_below.false) ∙ sym (call_at c.args.row _ _ _ (λ k v w. all_below c.args.end (given_values c.args.rows.now k v ++ given_references c.args.rows.now k w)) c.in-Call.is)
+pub returns-else-groups_below : goal.returns-else-groups_below
+returns-else-groups_below c = c.if-groups_below.false ∙ given_values_fail c.args.rows.now _ _ _ c.procedure_at-procedure.result c.procedure_at-procedure.ensures c.given.result _ c.given.ensures refl c.args.end (sym c.groups_below.ensures ∙ c.if-groups_below.false) ∙ sym (call_at c.args.row _ _ _ (λ k v w. all_below c.args.end (given_values c.args.rows.now k v ++ given_references c.args.rows.now k w)) c.in-Call.is)
 
 pub returns-in_default : goal.returns-in_default
 returns-in_default c = no_call c.args.row (λ k v w. all_below c.args.end (given_values c.args.rows.now k v ++ given_references c.args.rows.now k w)) c.in_default.not-Call

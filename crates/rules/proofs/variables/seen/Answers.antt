@@ -3,4 +3,4 @@ use Rattle.rules.proofs.Refers.{seen_from}
 use Rattle.rules.proofs.variables.seen.Goals as goal
 
 pub returns : goal.returns
-returns c = λ rows tables. seen_from rows c.args.s c.scope_table-own.result (c.scope_table-own.ensures rows tables)
+returns c = λ rows tables. seen_from rows c.args.s c.scope_table.result (c.scope_table.ensures rows tables)

@@ -4,6 +4,3 @@ use Rattle.run.proofs.part.put.Goals as goal
 
 pub returns-clause-cells_after : goal.returns-clause-cells_after
 returns-clause-cells_after c = (put_is c.args.cells.now c.args.value.now _ c.args.n c.args.width c.copy.ensures)
-
-pub returns-clause-states_after : goal.returns-clause-states_after
-returns-clause-states_after c = c.set_filled.ensures

@@ -8,41 +8,11 @@ use Rattle.run.proofs.start.keep_limit.Goals as goal
 pub bounds-owners-l : goal.bounds-owners-l
 bounds-owners-l c = omega (arith, limit_below c.requires.1)
 
-pub limit_low-low-requires-clause-table : goal.limit_low-low-requires-clause-table
-limit_low-low-requires-clause-table c = c.requires.1.known.limited.read.table
-
-pub limit_low-low-requires-clause-l_bound : goal.limit_low-low-requires-clause-l_bound
-limit_low-low-requires-clause-l_bound c = c.requires.1.there
-
-pub limit_high-high-requires-clause-table : goal.limit_high-high-requires-clause-table
-limit_high-high-requires-clause-table c = c.requires.1.known.limited.read.table
-
-pub limit_high-high-requires-clause-l_bound : goal.limit_high-high-requires-clause-l_bound
-limit_high-high-requires-clause-l_bound c = c.requires.1.there
-
-pub overflow_mul-at : goal.overflow_mul-at
-overflow_mul-at c = omega (arith, owner_room c.requires.1, c.requires.1.later.room)
-
-pub offset_bounds-kept-at : goal.offset_bounds-kept-at
-offset_bounds-kept-at c = omega (arith, owner_room c.requires.1, c.requires.1.later.room)
-
 pub slice_set_of-kept : goal.slice_set_of-kept
 slice_set_of-kept c = omega (arith, owner_room c.requires.1, c.requires.1.later.room)
 
-pub overflow_add-low : goal.overflow_add-low
-overflow_add-low c = omega (arith, owner_room c.requires.1, c.requires.1.later.room)
-
-pub offset_bounds-kept-at-2 : goal.offset_bounds-kept-at-2
-offset_bounds-kept-at-2 c = omega (arith, owner_room c.requires.1, c.requires.1.later.room)
-
 pub bounds-kept-at : goal.bounds-kept-at
 bounds-kept-at c = simp length-set (omega (arith, owner_room c.requires.1, c.requires.1.later.room))
-
-pub overflow_add-high : goal.overflow_add-high
-overflow_add-high c = omega (arith, owner_room c.requires.1, c.requires.1.later.room)
-
-pub offset_bounds-kept-at-3 : goal.offset_bounds-kept-at-3
-offset_bounds-kept-at-3 c = omega (arith, owner_room c.requires.1, c.requires.1.later.room)
 
 pub bounds-kept-at-2 : goal.bounds-kept-at-2
 bounds-kept-at-2 c = simp length-set (omega (arith, owner_room c.requires.1, c.requires.1.later.room))

@@ -1,33 +1,18 @@
 -- `mark_all` meets its contract: the list's rows are marked in turn. Assumes nothing.
-use native.Mathlib.Omega.{arith}
-use Rattle.decoder.specs.Mentions.{listed}
-use Rattle.scopes.proofs.Marking.{marked_none, marked_more, marked_to, short_0, short_1, short_2, short_3, first_in, second_in, third_in}
+use Rattle.std.proofs.Common.{arith, sym, ◌∙◌}
+use Rattle.std.proofs.lemmas.List.{take_more, take_all}
+use Rattle.scopes.proofs.Marking.{marked_none, marked_more, marked_to, in_same}
 use Rattle.scopes.proofs.pass.mark_all.Goals as goal
 
-pub returns-then-count-eq0 : goal.returns-then-count-eq0
-unfolding listed
-returns-then-count-eq0 c = marked_to (marked_none c.args.scopes.now c.args.s) (short_0 c.args.f.x c.args.f.y c.args.f.z c.args.f.count c.if-count-eq0.true)
+pub loop-x-init : goal.loop-x-init
+loop-x-init c = marked_none _ _
 
 pub mark-requires : goal.mark-requires
-unfolding listed
-mark-requires c = c.requires.each c.args.f.x (first_in c.args.f.x c.args.f.y c.args.f.z c.args.f.count c.if-count-eq0.false)
+mark-requires c =
+    omega (arith, c.loop-x.auto.scopes, c.requires.each _ (in_same _ c.numbers-numbers.ensures c.loop-x-test.true))
 
-pub returns-then-count-eq1 : goal.returns-then-count-eq1
-unfolding listed
-returns-then-count-eq1 c = marked_to c.mark.ensures (short_1 c.args.f.x c.args.f.y c.args.f.z c.args.f.count c.if-count-eq1.true)
-
-pub mark-requires-2 : goal.mark-requires-2
-unfolding listed
-mark-requires-2 c = omega (arith, c.mark.auto.scopes, c.requires.each c.args.f.y (second_in c.args.f.x c.args.f.y c.args.f.z c.args.f.count c.if-count-eq0.false c.if-count-eq1.false))
-
-pub returns-then-count-eq2 : goal.returns-then-count-eq2
-unfolding listed
-returns-then-count-eq2 c = marked_to (marked_more c.mark.ensures c.mark-2.ensures) (short_2 c.args.f.x c.args.f.y c.args.f.z c.args.f.count c.if-count-eq2.true)
-
-pub mark-requires-3 : goal.mark-requires-3
-unfolding listed
-mark-requires-3 c = omega (arith, c.mark.auto.scopes, c.mark-2.auto.scopes, c.requires.each c.args.f.z (third_in c.args.f.x c.args.f.y c.args.f.z c.args.f.count c.if-count-eq0.false c.if-count-eq1.false c.if-count-eq2.false))
+pub loop-x-preserved : goal.loop-x-preserved
+loop-x-preserved c = marked_to (marked_more c.loop-x.invariant c.mark.ensures) (sym (take_more _ _ 0 c.loop-x-test.true))
 
 pub returns : goal.returns
-unfolding listed
-returns c = marked_to (marked_more (marked_more c.mark.ensures c.mark-2.ensures) c.mark-3.ensures) (short_3 c.args.f.x c.args.f.y c.args.f.z c.args.f.count c.if-count-eq0.false c.if-count-eq1.false c.if-count-eq2.false)
+returns c = marked_to c.loop-x.invariant (take_all _ _ c.loop-x-test.false ∙ c.numbers-numbers.ensures)

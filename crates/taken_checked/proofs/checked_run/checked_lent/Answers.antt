@@ -9,21 +9,6 @@ use Rattle.lingua.specs.Calls.{checked_result}
 use Rattle.taken.proofs.Calling.{lent_length, front_back}
 use Rattle.taken_checked.proofs.checked_run.checked_lent.Goals as goal
 
-pub slice_bounds-checked_rows-count : goal.slice_bounds-checked_rows-count
-slice_bounds-checked_rows-count c = omega (arith, c.requires.bodies_below.1)
-
-pub slice_bounds-checked_rows-start : goal.slice_bounds-checked_rows-start
-slice_bounds-checked_rows-start c = omega (arith, c.requires.bodies_below.1)
-
-pub slice_bounds-checked_rows-end-2 : goal.slice_bounds-checked_rows-end-2
-slice_bounds-checked_rows-end-2 c = omega (arith, c.requires.bodies_below.1)
-
-pub checked_rows-answer-requires-clause-startable : goal.checked_rows-answer-requires-clause-startable
-checked_rows-answer-requires-clause-startable c = c.requires.startable
-
-pub checked_rows-answer-requires-clause-are_tables : goal.checked_rows-answer-requires-clause-are_tables
-checked_rows-answer-requires-clause-are_tables c = c.requires.are_tables
-
 pub checked_rows-answer-requires-clause-bodies_below : goal.checked_rows-answer-requires-clause-bodies_below
 checked_rows-answer-requires-clause-bodies_below c = ((c.requires.bodies_below.0, (refl, omega (arith, lent_length c.args.present.now 1536, c.requires.bodies_below.1))))
 

@@ -9,19 +9,10 @@ check_profile-verdict-requires-clause-ready c =
     (record { accepted = c.requires.startable.accepted; tables = c.requires.are_tables.0; types = c.requires.bodies_below.0 })
 
 pub returns-then-verdict-ne-NO_ERROR : goal.returns-then-verdict-ne-NO_ERROR
-returns-then-verdict-ne-NO_ERROR c = faulted _ c.args.limits.now _ _ c.check_profile-verdict.ensures _ _ c.args.budget (buffers _ _ _ _) _ c.if-verdict-ne-NO_ERROR.true
-
-pub copy_table-requires : goal.copy_table-requires
-copy_table-requires c = (omega (arith, c.check_profile-verdict.auto.layout), c.requires.bodies_below.1.0)
-
-pub passed_rows-requires-clause-startable : goal.passed_rows-requires-clause-startable
-passed_rows-requires-clause-startable c = c.requires.startable
-
-pub passed_rows-requires-clause-are_tables : goal.passed_rows-requires-clause-are_tables
-passed_rows-requires-clause-are_tables c = c.requires.are_tables
+returns-then-verdict-ne-NO_ERROR c = faulted _ c.args.limits.now _ _ c.check_profile-verdict.ensures _ _ c.args.budget (buffers _ _ _ _) _ c.number.ensures c.if-verdict-ne-NO_ERROR.true
 
 pub passed_rows-requires-clause-passed_rows : goal.passed_rows-requires-clause-passed_rows
-passed_rows-requires-clause-passed_rows c = ((passed_rows _ _ _ _ c.check_profile-verdict.ensures c.if-verdict-ne-NO_ERROR.false c.copy_table.ensures (omega (arith, c.check_profile-verdict.auto.layout)), c.requires.bodies_below.1.1))
+passed_rows-requires-clause-passed_rows c = ((passed_rows _ _ _ _ c.check_profile-verdict.ensures c.if-verdict-ne-NO_ERROR.false c.copy_from_slice.ensures.after (omega (arith, c.check_profile-verdict.auto.layout)), c.requires.bodies_below.1.1))
 
 pub returns : goal.returns
-returns c = passed_done _ _ _ _ c.args.budget _ _ _ (passed_rows _ c.args.limits.now _ _ c.check_profile-verdict.ensures c.if-verdict-ne-NO_ERROR.false c.copy_table.ensures (omega (arith, c.check_profile-verdict.auto.layout))) _ _ c.passed_rows.ensures
+returns c = passed_done _ _ _ _ c.args.budget _ _ _ (passed_rows _ c.args.limits.now _ _ c.check_profile-verdict.ensures c.if-verdict-ne-NO_ERROR.false c.copy_from_slice.ensures.after (omega (arith, c.check_profile-verdict.auto.layout))) _ _ c.passed_rows.ensures

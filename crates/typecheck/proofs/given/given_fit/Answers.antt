@@ -1,39 +1,47 @@
-use mathlib.Core.Path.{refl, sym, ◌∙◌}
+use mathlib.Core.Path.{◌≡◌, ap, sym, subst, ◌∙◌}
+use Prim.Native.Nat.{ℕ, ◌+◌, ◌-◌, ◌<◌}
 use native.Mathlib.Omega.{arith}
+use Rattle.lingua.specs.Rows.{pair_count, groups}
+use Rattle.lingua.specs.Typing.{given_fit}
+use Rattle.safety.specs.Every.{Every}
+use Rattle.typing.specs.Check.{variable_bodies}
 use Rattle.typecheck.proofs.Scoping.{few_known}
 use Rattle.typecheck.proofs.Giving.{group_first, group_rest, fit_fails, fit_more, fit_all}
 use Rattle.typecheck.proofs.given.given_fit.Goals as goal
 
-pub loop-left-init : goal.loop-left-init
-loop-left-init c = (refl, c.requires.declared, c.requires.within)
+pub overflow_add-m-end : goal.overflow_add-m-end
+overflow_add-m-end c = omega (arith, c.requires.within, few_known c.requires.wanted)
+
+pub loop-m-init : goal.loop-m-init
+loop-m-init c =
+    let a = c.args in
+    let e : a.first + a.n - a.first ≡ a.n = omega arith in
+    (ap (λ (k : ℕ). given_fit (variable_bodies a.rows.now a.own.section) (groups k a.w) (variable_bodies a.rows.now a.parameters.section) a.first) e, subst (λ (k : ℕ). Every (λ i. i < pair_count a.rows.now a.own.section) (groups k a.w)) (sym e) c.requires.declared)
 
 pub variable_body-given-requires-clause-variables_known : goal.variable_body-given-requires-clause-variables_known
 variable_body-given-requires-clause-variables_known c = c.requires.known
 
 pub variable_body-given-requires-clause-n_bound : goal.variable_body-given-requires-clause-n_bound
-variable_body-given-requires-clause-n_bound c = (group_first c.loop-left.left c.loop-left.rest c.loop-left-test.true c.loop-left.invariant.1)
+variable_body-given-requires-clause-n_bound c =
+    let a = c.args in
+    group_first _ (a.first + a.n - (c.loop-m.m + 1)) c.loop-m.rest (omega (arith, c.loop-m-test.true)) c.loop-m.invariant.1
 
 pub variable_body-wanted-requires-clause-variables_known : goal.variable_body-wanted-requires-clause-variables_known
 variable_body-wanted-requires-clause-variables_known c = c.requires.wanted
 
 pub variable_body-wanted-requires-clause-n_bound : goal.variable_body-wanted-requires-clause-n_bound
-variable_body-wanted-requires-clause-n_bound c = (omega (arith, c.loop-left-test.true, c.loop-left.invariant.2))
+variable_body-wanted-requires-clause-n_bound c = omega (arith, c.loop-m-test.true, c.requires.within)
 
 pub returns-then-not-same : goal.returns-then-not-same
-returns-then-not-same c = fit_fails _ _ c.loop-left.left c.loop-left.rest c.loop-left.m _ c.loop-left.invariant.0 c.loop-left-test.true (sym (c.same.ensures _ _ c.variable_body-given.ensures c.variable_body-wanted.ensures) ∙ c.if-not-same.true)
+returns-then-not-same c =
+    let a = c.args in
+    fit_fails _ _ _ c.loop-m.rest c.loop-m.m _ c.loop-m.invariant.0 (a.first + a.n - (c.loop-m.m + 1)) (omega (arith, c.loop-m-test.true)) (sym (c.same.ensures _ _ c.variable_body-given.ensures c.variable_body-wanted.ensures) ∙ c.if-not-same.true)
 
-pub overflow_sub-left : goal.overflow_sub-left
-overflow_sub-left c = omega (arith, c.loop-left-test.true)
-
-pub overflow_add-m : goal.overflow_add-m
-overflow_add-m c = omega (arith, c.loop-left-test.true, c.loop-left.invariant.2, few_known c.requires.wanted)
-
-pub loop-left-smaller : goal.loop-left-smaller
-loop-left-smaller c = omega (arith, c.loop-left-test.true)
-
-pub loop-left-preserved : goal.loop-left-preserved
-loop-left-preserved c =
-    (fit_more _ _ c.loop-left.left c.loop-left.rest c.loop-left.m _ c.loop-left.invariant.0 c.loop-left-test.true (sym (c.same.ensures _ _ c.variable_body-given.ensures c.variable_body-wanted.ensures) ∙ c.if-not-same.false), group_rest c.loop-left.left c.loop-left.rest c.loop-left-test.true c.loop-left.invariant.1, omega (arith, c.loop-left-test.true, c.loop-left.invariant.2))
+pub loop-m-preserved : goal.loop-m-preserved
+loop-m-preserved c =
+    let a = c.args in
+    let r = a.first + a.n - (c.loop-m.m + 1) in
+    (fit_more _ _ _ c.loop-m.rest c.loop-m.m _ c.loop-m.invariant.0 r (omega (arith, c.loop-m-test.true)) (sym (c.same.ensures _ _ c.variable_body-given.ensures c.variable_body-wanted.ensures) ∙ c.if-not-same.false), group_rest _ r c.loop-m.rest (omega (arith, c.loop-m-test.true)) c.loop-m.invariant.1)
 
 pub returns : goal.returns
-returns c = fit_all _ _ c.loop-left.left c.loop-left.rest c.loop-left.m _ c.loop-left.invariant.0 (omega (arith, c.loop-left-test.false))
+returns c = fit_all _ _ _ c.loop-m.rest c.loop-m.m _ c.loop-m.invariant.0 (omega (arith, c.loop-m-test.false))

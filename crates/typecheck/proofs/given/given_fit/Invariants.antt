@@ -1,17 +1,13 @@
 -- `typecheck::given::given_fit` meets its contract. The invariant: what is asked of the groups that are left is asked of all. Assumes nothing.
 use mathlib.Core.Path.{◌≡◌}
-use Prim.Native.Nat.{◌+◌, ◌≤◌, ◌<◌}
+use Prim.Native.Nat.{◌+◌, ◌-◌, ◌<◌}
 use Rattle.lingua.specs.Rows.{pair_count, groups}
 use Rattle.lingua.specs.Typing.{given_fit}
 use Rattle.safety.specs.Every.{Every}
 use Rattle.typing.specs.Check.{variable_bodies}
 use Rattle.typecheck.proofs.given.given_fit.Given as goal
 
-abbrev pub invariant-loop-left : goal.invariant-loop-left
-invariant-loop-left l =
-    (given_fit (variable_bodies l.rows l.own.section) (groups l.left l.rest) (variable_bodies l.rows l.parameters.section) l.m ≡ given_fit (variable_bodies l.rows l.own.section) (groups l.n l.w) (variable_bodies l.rows l.parameters.section) l.first)
-    × Every (λ i. i < pair_count l.rows l.own.section) (groups l.left l.rest)
-    × (l.m + l.left ≤ pair_count l.rows l.parameters.section)
-
-abbrev pub decreases-loop-left : goal.decreases-loop-left
-decreases-loop-left l = l.left
+abbrev pub invariant-loop-m : goal.invariant-loop-m
+invariant-loop-m l =
+    (given_fit (variable_bodies l.rows l.own.section) (groups (l.first + l.n - l.m) l.rest) (variable_bodies l.rows l.parameters.section) l.m ≡ given_fit (variable_bodies l.rows l.own.section) (groups l.n l.w) (variable_bodies l.rows l.parameters.section) l.first)
+    × Every (λ i. i < pair_count l.rows l.own.section) (groups (l.first + l.n - l.m) l.rest)

@@ -98,4 +98,4 @@ returns-in-Call c = rw (instruction_tree_at c.args.rows.now c.requires.ready.acc
 pub returns-in_default : goal.returns-in_default
 returns-in_default c =
     rw (instruction_tree_at c.args.rows.now c.requires.ready.accepted c.args.row c.requires.row_bound.0 _ _ c.instruction_row-i.ensures refl, others c.args.rows.now c.args.row c.instruction_row-i.result (procedure_bodies c.args.rows.now) (variable_bodies c.args.rows.now c.args.scope.variables.section) c.in_default.not-Assign c.in_default.not-SetYoke c.in_default.not-Branch c.in_default.not-Loop c.in_default.not-Call)
-    (nothing_settles c.settled.result _ c.settled.ensures)
+    (nothing_settles _)

@@ -2,11 +2,14 @@
 use Rattle.typecheck.proofs.Settling.{judged_fails, judged_own, judged_passes}
 use Rattle.typecheck.proofs.verdicts.judge.Goals as goal
 
-pub returns-then-x-ne0 : goal.returns-then-x-ne0
-returns-then-x-ne0 c = λ o asks l m j. judged_fails c.args.x c.args.suits _ c.settled.result o asks l m j c.if-x-ne0.true c.settled.ensures
+pub returns-in-Ok-true : goal.returns-in-Ok-true
+returns-in-Ok-true c = λ o asks l m j.
+    judged_passes o asks l m _ (rw (c.in-Ok-true.is, c.in-Ok-true.field-0-test) at j)
 
-pub returns-then-not-suits : goal.returns-then-not-suits
-returns-then-not-suits c = λ o asks l m j. judged_own c.args.x c.args.suits _ c.settled-then-not-suits.result c.if-x-ne0.false o asks l m j c.if-not-suits.true c.requires c.settled-then-not-suits.ensures
+pub returns-in-Ok-false : goal.returns-in-Ok-false
+returns-in-Ok-false c = λ o asks l m j.
+    judged_own o asks l m _ (rw (c.in-Ok-false.is, c.in-Ok-false.field-0-test) at j)
 
-pub returns : goal.returns
-returns c = λ o asks l m j. judged_passes c.args.x c.args.suits _ c.settled-2.result c.if-x-ne0.false o asks l m j c.if-not-suits.false c.settled-2.ensures
+pub returns-in-Err : goal.returns-in-Err
+returns-in-Err c = λ o asks l m j.
+    rw c.unwrap_or.ensures (judged_fails o asks l m c.in-Err.fault c.args.own (rw c.in-Err.is at j))

@@ -1,23 +1,40 @@
 -- `typing::findings::elements` meets its contract: no current value, no list, or the body that `top` gives of the list's. Assumes nothing.
-use mathlib.Core.Path.{refl, sym, subst}
-use mathlib.Core.List.{List}
-use Prim.Native.Nat.{ℕ}
+use Rattle.std.proofs.Common.{◌≡◌, ap, ◌∙◌, None, Some, arith}
+use Rattle.std.proofs.lemmas.Result.{err_from_is_err_and}
 use Rattle.lingua.specs.Operations.{unary_meaning}
-use Rattle.body.specs.Encode.{Holds}
-use Rattle.typing.proofs.Found.{current_missing, no_list, list_there}
+use Rattle.lingua.specs.Typing.{own_rule, elements_at}
+use Rattle.typing.proofs.Found.{own_fails, own_passes, current_some, current_none, elements_are, no_current}
 use Rattle.typing.proofs.findings.elements.Goals as goal
 
-pub returns-then-not-known : goal.returns-then-not-known
-returns-then-not-known c = λ b h.
-    let e = c.no_elements.ensures in
-    current_missing c.no_elements.result c.args.row c.args.known b c.if-not-known.true e.0 e.1 (subst (λ (x : List ℕ). Holds x b) (sym e.3) h)
+pub returns-in_err-list : goal.returns-in_err-list
+returns-in_err-list c = λ b h.
+    let p = err_from_is_err_and c.from_residual.result c.from_residual.ensures.1 in
+    let n : c.args.current ≡ None = grind arith in
+    let e : c.in_err-list.field-0.0 ≡ None = grind arith in
+    rw (p.1, p.2, e, current_none b (rw n at h)) (no_current c.args.row)
 
-pub returns-then-h-ne0 : goal.returns-then-h-ne0
+pub own_rule-requires : goal.own_rule-requires
+own_rule-requires c = c.requires.row_bound
+
+pub unary_half-requires : goal.unary_half-requires
+unary_half-requires c =
+    let e : c.args.current ≡ Some c.in_ok-list.list = grind arith in
+    let d = current_some _ _ (rw e at c.requires.held.holds) in
+    record { body = d.0; holds = d.2 }
+
+pub returns-in_err-h : goal.returns-in_err-h
 unfolding unary_meaning
-returns-then-h-ne0 c = λ b h.
-    let e = c.no_elements-then-h-ne0.ensures in
-    no_list c.no_elements-then-h-ne0.result c.args.row c.args.known b c.if-not-known.false c.unary_half-h.result (c.unary_half-h.ensures b h) c.if-h-ne0.true e.0 e.1 e.2 (subst (λ (x : List ℕ). Holds x b) (sym e.3) h)
+returns-in_err-h c = λ b h.
+    let p = err_from_is_err_and c.from_residual-in_err-h.result c.from_residual-in_err-h.ensures.1 in
+    let e : c.args.current ≡ Some c.in_ok-list.list = grind arith in
+    let d = current_some _ b (rw e at h) in
+    rw (p.1, p.2, d.1, elements_are c.args.row d.0)
+    (own_fails _ _ _ _ (c.unary_half.ensures d.0 d.2) _ c.in_err-h.ensures)
 
 pub returns : goal.returns
 unfolding unary_meaning
-returns c = λ b h. list_there _ c.args.row c.args.known b c.if-not-known.false c.unary_half-h.result (c.unary_half-h.ensures b h) c.if-h-ne0.false refl refl refl
+returns c = λ b h.
+    let e : c.args.current ≡ Some c.in_ok-list.list = grind arith in
+    let d = current_some _ b (rw e at h) in
+    let q = own_passes _ _ _ _ (c.unary_half.ensures d.0 d.2) _ c.in_ok-h.ensures in
+    record { element = q.body; is = ap (elements_at c.args.row) d.1 ∙ elements_are c.args.row d.0 ∙ ap (own_rule c.args.row) q.is; holds = q.passes.holds }

@@ -1,5 +1,5 @@
--- `typing::leaves::note-row` meets its contract: the measured cells are the body's. Assumes nothing.
-use mathlib.Core.Path.{refl, ap}
+-- `typing::leaves::note_row` meets its contract: the measured cells are the body's. Assumes nothing.
+use mathlib.Core.Path.{ap}
 use Prim.Native.Nat.{ℕ, ◌+◌, ◌*◌}
 use native.Mathlib.Omega.{arith}
 use lib.ListN.{set}
@@ -13,8 +13,5 @@ overflow_cast-layout c =
 pub returns : goal.returns
 returns c =
     record {
-      known = refl;
-      passed = refl;
-      same = refl;
       layout = λ b h. ap (λ (n : ℕ). set (set c.args.layout.now (2 * c.args.row) n) (2 * c.args.row + 1) c.args.second) (c.measure_body-m.ensures b h).is_cells;
     }

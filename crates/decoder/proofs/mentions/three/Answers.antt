@@ -1,8 +1,0 @@
--- `three` meets its contract. Assumes nothing.
-use mathlib.Core.Path.{refl}
-use Rattle.decoder.specs.Mentions.{listed}
-use Rattle.decoder.proofs.mentions.three.Goals as goal
-
-pub returns : goal.returns
-unfolding listed
-returns c = refl

@@ -1,2 +1,0 @@
-pub mod Inside
-pub mod Count
