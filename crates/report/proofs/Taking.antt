@@ -1,5 +1,10 @@
 -- The variables' lines of two files, taken whole. Assumes nothing.
-use mathlib.Core.Path.{◌≡◌, refl, sym, ◌∙◌, subst}
+use mathlib.Core.Path.{◌≡◌, refl, sym, ap, ◌∙◌, subst}
+use native.Mathlib.Omega.{arith}
+use Rattle.std.specs.Prelude.{Result, Ok, Err}
+use Rattle.lingua.specs.declared.errors.Refusal.{Refusal}
+use Rattle.lingua.specs.Faults.{refusal_of}
+use Rattle.laws.specs.Faults.{refusal_number_counted}
 use mathlib.Core.List.{List, []}
 use Prim.Native.Nat.{ℕ, zero, suc}
 use lib.ListN.{take}
@@ -15,24 +20,27 @@ use Rattle.text.specs.Appended.{Appended}
 use Rattle.text.proofs.Texts.{append_none}
 use Rattle.report.specs.Memory.{Left, memory_lines, lines_unless, variables_text}
 
-module _ (prof lims areas others types : List ℕ) (p : Pair) (h : PairIs p prof lims areas others types) where
+module _ (prof lims areas others types : List ℕ) (r : Result Pair Refusal) (h : PairIs r prof lims areas others types) where
   -- a rule applies
   no_lines : (rows : List ℕ) (cells : List ℤ) (states : List ℕ) (vs : List Variable) (n : ℕ) → (n ≡ 0 → ⊥) → [] ≡ lines_unless n rows cells states vs
   unfolding lines_unless
   no_lines rows cells states vs zero k = absurd (k refl)
   no_lines rows cells states vs (suc n) k = refl
 
-  pub none_put : (cells : List ℤ) (states : List ℕ) (vs : List Variable) (out : List ℕ) (at : ℕ) → (p.refusal ≡ 0 → ⊥) → Appended out at (variables_text prof lims cells states vs) out at
+  refused : (e : Refusal) → r ≡ Err e → lowest (pair_rules prof lims) ≡ 0 → ⊥
+  refused e q z = omega (arith, refusal_number_counted e, sym (ap refusal_of q) ∙ (h.refusal ∙ z))
+
+  pub none_put : (cells : List ℤ) (states : List ℕ) (vs : List Variable) (out : List ℕ) (at : ℕ) (e : Refusal) → r ≡ Err e → Appended out at (variables_text prof lims cells states vs) out at
   unfolding variables_text
-  none_put cells states vs out at k =
+  none_put cells states vs out at e q =
       subst (λ (text : List ℕ). Appended out at text out at)
-      (no_lines (rows_of prof) cells states vs (lowest (pair_rules prof lims)) (λ e. k (h.refusal ∙ e)))
+      (no_lines (rows_of prof) cells states vs (lowest (pair_rules prof lims)) (refused e q))
       (append_none out at)
 
   -- no rule applies
-  module _ (z : p.refusal ≡ 0) where
+  module _ (p : Pair) (z : r ≡ Ok p) where
     accepted : lowest (pair_rules prof lims) ≡ 0
-    accepted = sym h.refusal ∙ z
+    accepted = sym h.refusal ∙ ap refusal_of z
 
     pub lines_put : {out last : List ℕ} {at end : ℕ} (cells : List ℤ) (states : List ℕ) (vs : List Variable)
         → Appended out at (memory_lines (take p.rows areas) cells states vs 0 (pair_count (take p.rows areas) declaration_section)) last end
@@ -40,9 +48,9 @@ module _ (prof lims areas others types : List ℕ) (p : Pair) (h : PairIs p prof
     unfolding variables_text lines_unless
     lines_put {out} {last} {at} {end} cells states vs q =
         rw accepted
-        (subst (λ (rows : List ℕ). Appended out at (memory_lines rows cells states vs 0 (pair_count rows declaration_section)) last end) (h.taken z).rows q)
+        (subst (λ (rows : List ℕ). Appended out at (memory_lines rows cells states vs 0 (pair_count rows declaration_section)) last end) (h.taken p z).rows q)
 
 -- the rows that were taken are the file's
-pub left_rows : {prof lims areas others types present : List ℕ} {p : Pair} {cells : List ℤ} {states : List ℕ} {vs : List Variable} (h : PairIs p prof lims areas others types) → p.refusal ≡ 0
+pub left_rows : {prof lims areas others types present : List ℕ} {r : Result Pair Refusal} {cells : List ℤ} {states : List ℕ} {vs : List Variable} (h : PairIs r prof lims areas others types) (p : Pair) → r ≡ Ok p
     → Left (rows_of prof) present cells states vs → Left (take p.rows areas) present cells states vs
-left_rows {present = present} {cells = cells} {states} {vs} h z l = subst (λ (rows : List ℕ). Left rows present cells states vs) (sym (h.taken z).rows) l
+left_rows {present = present} {cells = cells} {states} {vs} h p z l = subst (λ (rows : List ℕ). Left rows present cells states vs) (sym (h.taken p z).rows) l

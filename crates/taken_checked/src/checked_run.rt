@@ -14,6 +14,7 @@ ghost use Rattle.taken.specs.Taken.{PairOf};
 ghost use Rattle.taken.specs.Ways.{Startable, checked_end};
 
 use decoder::tables::{Table, Tables};
+use frames::memory::{Context, Memory};
 use frames::way::Way;
 use lingua::RunAnswer;
 use lingua::errors::Refusal;
@@ -52,8 +53,6 @@ fn checked_rows(
     ensures { checked_result result (buffers cells.new states.new open_cells.new open_states.new) (followed own.new area.new) ≡ checked_end budget (meaning (profile_of rows.now limits.now) (readings_of who.now numbers.now) budget) }
 {
     let declarations = tables.declarations;
-    let procedures = tables.procedures;
-    let heads = procedures.heads;
     let mut kept = [0i64; LIMIT_CELLS_LENGTH];
     let layout = [0u16; 0];
     clear_cells(&mut *open_cells);
@@ -70,24 +69,32 @@ fn checked_rows(
         &mut *cells,
         &mut *states,
     );
-    let way = Way::Checked;
-    run(
-        way,
+    let context = Context {
+        way: Way::Checked,
         rows,
+        expressions: tables.expressions,
+        layout: &layout,
+        limits: &kept,
+    };
+    let mut memory = Memory {
+        bodies: own,
+        cells,
+        states,
+    };
+    let mut open = Memory {
+        bodies: area,
+        cells: open_cells,
+        states: open_states,
+    };
+    run(
+        &context,
         tables,
-        &heads,
         bodies,
-        own,
-        &layout,
-        &kept,
+        &mut memory,
+        &mut open,
         who,
         numbers,
         budget,
-        cells,
-        states,
-        area,
-        open_cells,
-        open_states,
     )
 }
 

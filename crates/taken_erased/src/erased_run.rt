@@ -15,6 +15,7 @@ ghost use Rattle.taken.specs.Taken.{PairOf};
 ghost use Rattle.taken.specs.Ways.{Startable, QuantitiesLimited, PassedRows, erased_rows};
 
 use decoder::tables::{Table, Tables};
+use frames::memory::{Context, Memory};
 use frames::way::Way;
 use lingua::RunAnswer;
 use lingua::errors::{NO_ERROR, Refusal};
@@ -48,8 +49,6 @@ fn passed_rows(
 {
     let declarations = tables.declarations;
     let mut kept = [0i64; LIMIT_CELLS_LENGTH];
-    let procedures = tables.procedures;
-    let heads = procedures.heads;
     let types = [0u8; 0];
     let mut bodies = [0u8; 0];
     let mut none = [0u8; 0];
@@ -65,24 +64,32 @@ fn passed_rows(
         &mut *cells,
         &mut *states,
     );
-    let way = Way::Erased;
-    run(
-        way,
+    let context = Context {
+        way: Way::Erased,
         rows,
-        tables,
-        &heads,
-        &types,
-        &mut bodies,
+        expressions: tables.expressions,
         layout,
-        &kept,
+        limits: &kept,
+    };
+    let mut memory = Memory {
+        bodies: &mut bodies,
+        cells,
+        states,
+    };
+    let mut open = Memory {
+        bodies: &mut none,
+        cells: open_cells,
+        states: open_states,
+    };
+    run(
+        &context,
+        tables,
+        &types,
+        &mut memory,
+        &mut open,
         who,
         numbers,
         budget,
-        cells,
-        states,
-        &mut none,
-        open_cells,
-        open_states,
     )
 }
 

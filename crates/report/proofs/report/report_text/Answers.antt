@@ -1,9 +1,10 @@
 -- `report::report::report_text` meets its contract: what the run of the taken files ensures, and the two texts behind each other. Assumes
 -- nothing.
-use mathlib.Core.Path.{refl, sym, ◌∙◌}
+use mathlib.Core.Path.{refl, sym, ap, ◌∙◌}
 use native.Mathlib.Omega.{arith}
 use borrow.Author.Rules.{rules}
 use lib.Seq.{length-take-le}
+use Rattle.lingua.specs.Faults.{refusal_of}
 use Rattle.pair.proofs.Given.{room_there}
 use Rattle.report.specs.Call.{report_call}
 use Rattle.report.proofs.Reporting.{run_left, report_written}
@@ -24,9 +25,9 @@ put_variables-requires-clause-by_index c = (_, (_, record { prof = _; lims = _; 
 
 pub put_variables-requires-clause-has_left : goal.put_variables-requires-clause-has_left
 unfolding report_call
-put_variables-requires-clause-has_left c = λ z.
+put_variables-requires-clause-has_left c = λ t z.
     let h = c.take_pair-pair.ensures in
-    record { store = _; left = left_rows h z (run_left c.args.profile.now c.args.limits.now _ _ _ (c.checked_taken-answer.ensures _ _ h) (sym h.refusal ∙ z)) }
+    record { store = _; left = left_rows h t z (run_left c.args.profile.now c.args.limits.now _ _ _ (c.checked_taken-answer.ensures _ _ h) (sym h.refusal ∙ ap refusal_of z)) }
 
 pub returns : goal.returns
 unfolding report_call
@@ -34,4 +35,4 @@ returns c =
     let h = c.take_pair-pair.ensures in
     let e = c.checked_taken-answer.ensures _ _ h in
     report_written c.args.profile.now c.args.limits.now _ _ _ c.requires e c.put_answer-end.ensures (search rules)
-    (c.put_variables.ensures _ _ _ _ _ h (λ z. left_rows h z (run_left c.args.profile.now c.args.limits.now _ _ _ e (sym h.refusal ∙ z))))
+    (c.put_variables.ensures _ _ _ _ _ h (λ t z. left_rows h t z (run_left c.args.profile.now c.args.limits.now _ _ _ e (sym h.refusal ∙ ap refusal_of z))))

@@ -3,14 +3,14 @@ use Rattle.pair.proofs.Given.{tables_there}
 use Rattle.report.proofs.Taking.{none_put, lines_put}
 use Rattle.report.proofs.variables.put_variables.Goals as goal
 
-pub returns-then-refusal-ne-NO_ERROR : goal.returns-then-refusal-ne-NO_ERROR
-returns-then-refusal-ne-NO_ERROR c = λ prof lims others types vs h left. none_put prof lims _ _ _ _ h _ _ vs _ _ c.if-refusal-ne-NO_ERROR.true
+pub returns-in-Err : goal.returns-in-Err
+returns-in-Err c = λ prof lims others types vs h left. none_put prof lims _ _ _ _ h _ _ vs _ _ _ c.in-Err.is
 
 pub put_lines-requires-clause-table : goal.put_lines-requires-clause-table
-put_lines-requires-clause-table c = (tables_there (c.requires.by_index.1.1.is.taken c.if-refusal-ne-NO_ERROR.false)).declarations
+put_lines-requires-clause-table c = (tables_there (c.requires.by_index.1.1.is.taken _ c.in-Ok.is)).declarations
 
 pub put_lines-requires-clause-has_left : goal.put_lines-requires-clause-has_left
-put_lines-requires-clause-has_left c = c.requires.has_left c.if-refusal-ne-NO_ERROR.false
+put_lines-requires-clause-has_left c = c.requires.has_left _ c.in-Ok.is
 
-pub returns : goal.returns
-returns c = λ prof lims others types vs h left. lines_put prof lims _ _ _ _ h c.if-refusal-ne-NO_ERROR.false _ _ vs (c.put_lines.ensures vs (left c.if-refusal-ne-NO_ERROR.false))
+pub returns-in-Ok : goal.returns-in-Ok
+returns-in-Ok c = λ prof lims others types vs h left. lines_put prof lims _ _ _ _ h _ c.in-Ok.is _ _ vs (c.put_lines.ensures vs (left _ c.in-Ok.is))

@@ -8,11 +8,20 @@ use Rattle.taken_checked.proofs.checked_run.checked_rows.Goals as goal
 pub keep_bodies-requires-clause-variables_known : goal.keep_bodies-requires-clause-variables_known
 keep_bodies-requires-clause-variables_known c = (declarations_known c.requires.startable.accepted c.requires.are_tables.0.declarations c.requires.bodies_below.0)
 
+pub keep_bodies-requires-clause-variables_value : goal.keep_bodies-requires-clause-variables_value
+keep_bodies-requires-clause-variables_value c = c.requires.bodies_below.1.0
+
 pub start-requires : goal.start-requires
 start-requires c = record { accepted = c.requires.startable.accepted; declared = c.requires.are_tables.0.declarations; limited = c.requires.are_tables.1; room = refl; long_cells = c.requires.startable.long_cells; long_states = c.requires.startable.long_states }
+
+pub run-requires-clause-are_tables : goal.run-requires-clause-are_tables
+run-requires-clause-are_tables c = c.requires.are_tables.0
 
 pub run-requires-clause-begins : goal.run-requires-clause-begins
 run-requires-clause-begins c = (record { limits = _; ready = checked_begins c.requires.startable.accepted c.start.ensures _ c.requires.are_tables.0 c.requires.bodies_below.0 (heads_known c.requires.startable.accepted c.requires.are_tables.0 (search (c.well_formed.1.0.1.1.1.1.1.1.1.0, rules))) c.keep_bodies.ensures refl (checked_clear _ _ _ c.clear_cells.ensures c.clear_states.ensures c.clear_bodies.ensures c.requires.startable.long_open_cells c.requires.startable.long_open_states c.requires.bodies_below.1.1) })
 
+pub run-requires-clause-readable : goal.run-requires-clause-readable
+run-requires-clause-readable c = c.requires.startable.readable
+
 pub returns : goal.returns
-returns c = checked_end_lem _ c.run.ensures (checked_begins c.requires.startable.accepted c.start.ensures _ c.requires.are_tables.0 c.requires.bodies_below.0 (heads_known c.requires.startable.accepted c.requires.are_tables.0 (search (c.well_formed.1.0.1.1.1.1.1.1.1.0, rules))) c.keep_bodies.ensures refl (checked_clear _ _ _ c.clear_cells.ensures c.clear_states.ensures c.clear_bodies.ensures c.requires.startable.long_open_cells c.requires.startable.long_open_states c.requires.bodies_below.1.1))
+returns c = let k = checked_end_lem _ c.run.ensures.runs (checked_begins c.requires.startable.accepted c.start.ensures _ c.requires.are_tables.0 c.requires.bodies_below.0 (heads_known c.requires.startable.accepted c.requires.are_tables.0 (search (c.well_formed.1.0.1.1.1.1.1.1.1.0, rules))) c.keep_bodies.ensures refl (checked_clear _ _ _ c.clear_cells.ensures c.clear_states.ensures c.clear_bodies.ensures c.requires.startable.long_open_cells c.requires.startable.long_open_states c.requires.bodies_below.1.1)) in search (rules, k, c.run.ensures.same_slices.0, c.run.ensures.same_slices.1)
