@@ -88,7 +88,8 @@ fn branch(
     if taken.out {
         return taken;
     }
-    match test(&setting.context, memory, e, &mut *stack) {
+    let told = test(&setting.context, memory, e, &mut *stack);
+    match told {
         Ok(true) => exec(i, setting, memory, area, taken, stack),
         Ok(false) => exec(j, setting, memory, area, taken, stack),
         Err(error) => settled(taken, Err(error), row as u16),
@@ -118,7 +119,8 @@ fn turns(
         if taken.out {
             return taken;
         }
-        match test(&setting.context, memory, e, &mut *stack) {
+        let told = test(&setting.context, memory, e, &mut *stack);
+        match told {
             Ok(true) => {}
             Ok(false) => return taken,
             Err(error) => return settled(taken, Err(error), row as u16),
