@@ -47,7 +47,7 @@ pub fn same(x: [u8; BODY_BYTES], y: [u8; BODY_BYTES]) -> bool
     all_same(x, y)
 }
 
-// It goes on after a difference: without a way out of the loop the compiler takes many bytes at once.
+// It goes on after a difference: without a way out of the loop, which `==` and `all` have, the compiler takes many bytes at once.
 fn all_same(x: [u8; BODY_BYTES], y: [u8; BODY_BYTES]) -> bool
     ensures { (b c : Body) → Holds x b → Holds y c → result ≡ same_body b c }
 {

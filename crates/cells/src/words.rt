@@ -25,6 +25,7 @@ fn moved_behind(first: u64, second: u64) -> Option<u64>
     let mut rest = first;
     let mut moved = second;
     let mut place = HIGHEST;
+    // The first word ends at its last byte, after none to eight turns: nothing is counted.
     while rest != 0 {
         if moved % 256 != 0 {
             return None;

@@ -21,6 +21,7 @@ fn read_all<F: Read>(file: &mut F, buffer: &mut [u8]) -> usize
     ensures { IsPrefixLength result buffer.new }
 {
     let mut count = 0;
+    // Each read says how much came, so that no range or iterator has the turns.
     while count < buffer.len() {
         match file.read(&mut buffer[count..]) {
             Ok(0) => return count,

@@ -15,6 +15,7 @@ use decoder::procedures::{procedure_at, variables_of};
 use decoder::tables::Tables;
 use lingua::sizes::{MOST_PARAMETERS, MOST_VARIABLES};
 
+// Each bound has its own return: the variables are counted, and the sum is taken, only where the bounds before hold.
 fn procedure_fits(rows: &[u8], t: Tables, k: usize) -> bool
     requires are_tables { AreTables rows.now t }
     requires k_lt_count { k < t.procedures.count }

@@ -73,6 +73,7 @@ fn call_refers(row: InstructionRow, procedures: usize) -> bool
     }
 }
 
+// Each test has its own return: one chain of && over four calls is no plainer.
 fn instruction_refers(rows: &[u8], t: Tables, r: usize) -> bool
     requires are_tables { AreTables rows.now t }
     requires r_lt_count { r < t.instructions.count }

@@ -18,6 +18,7 @@ fn put_named(out: &mut [u8], at: usize, name: &[u8], n: u64) -> usize
 }
 
 // The first line of a run that was made; `end` is 0 finished, 1 failed, 2 out.
+// It is document 01's number, which the line prints: an enum would only be turned back into it.
 pub fn put_end_line(out: &mut [u8], at: usize, end: u8, error: u8, place: u16, steps: u16) -> usize
     ensures { Appended out.old at (end_line (ending end error place steps)) out.new result }
 {
