@@ -12,8 +12,8 @@ use Rattle.lingua.specs.Errors.{bad_buffer, type_error_found}
 use Rattle.lingua.specs.Rows.{table_count}
 use Rattle.lingua.specs.Outcome.{Outcome, ok, fail}
 use Rattle.lingua.specs.Store.{Reading, present_in}
-use Rattle.lingua.specs.Run.{Progress, run}
-use Rattle.lingua.specs.Typing.{TypeError, Entry, check_profile, layout_of}
+use Rattle.lingua.specs.Run.{run}
+use Rattle.lingua.specs.Typing.{TypeError, Entry, check_profile}
 use Rattle.lingua.specs.Trees.{profile_of}
 use Rattle.lingua.specs.Format.{rows_of}
 use Rattle.lingua.specs.Inputs.{Inputs, Buffers, buffers}
