@@ -13,7 +13,7 @@ use Rattle.lingua.specs.Value.{all_of}
 use Rattle.lingua.specs.Format.{rows_of}
 use Rattle.std.specs.Prelude.{Ok, Err}
 use Rattle.lingua.specs.declared.errors.Refusal.{Refusal}
-use Rattle.lingua.specs.Faults.{refusal_number}
+use Rattle.lingua.specs.Faults.{error_number, refusal_number}
 use Rattle.lingua.specs.Refusal.{lowest, place_in, rank, file_rules, row_rules, whole_file_rules, pair_rules, type_check_refusal}
 use Rattle.lingua.specs.Trees.{profile_of}
 use Rattle.lingua.specs.Typing.{check_profile}
@@ -26,8 +26,8 @@ use Rattle.pair.specs.declared.Pair.{Pair}
 use Rattle.pair.proofs.Returns.{some_refusal}
 use Rattle.pair.proofs.Given.{rows_accepted, tables_there, bodies_held}
 use Rattle.typing.specs.Check.{Ready}
-use Rattle.typecheck.specs.declared.verdicts.Verdict.{Verdict}
-use Rattle.typecheck.specs.Verdicts.{Concludes}
+use Rattle.typing.specs.declared.findings.TypeError.{TypeError as CodeError}
+use Rattle.typecheck.specs.Verdicts.{ConcludesPassed, ConcludesFailed}
 use Rattle.typecheck.proofs.Answering.{verdict_passed, verdict_failed}
 
 above_one : (prof lims : List ℕ) → all_above 1 (pair_rules prof lims) ≡ true
@@ -64,14 +64,17 @@ module _ (prof lims layout areas others bodies : List ℕ) (p : Pair) (room : le
       let t = h.taken p refl in
       record { accepted = rows_accepted t (sym h.refusal); tables = tables_there t; types = bodies_held t }
 
-  module _ (v : Verdict) (exit : List ℕ) (c : (limits : List ℕ) → Concludes v exit (check_profile (profile_of (take p.rows areas) limits))) where
-    concludes : Concludes v exit (check_profile (profile_of (rows_of prof) (rows_of lims)))
-    concludes = subst (λ (rows : List ℕ). Concludes v exit (check_profile (profile_of rows (rows_of lims)))) (h.taken p refl).rows (c (rows_of lims))
-
-    pub check_passed : v.error ≡ 0 → type_check_result check_answer.Passed exit ≡ type_check_call prof lims layout
+  module _ (exit : List ℕ) where
+    pub check_passed : ((limits : List ℕ) → ConcludesPassed exit (check_profile (profile_of (take p.rows areas) limits)))
+        → type_check_result check_answer.Passed exit ≡ type_check_call prof lims layout
     unfolding type_check_result type_check_call type_check_unless type_check_meaning
-    check_passed e = rw refusal_is (sym (verdict_passed v exit (check_profile (profile_of (rows_of prof) (rows_of lims))) concludes e))
+    check_passed c =
+        let concludes = subst (λ (rows : List ℕ). ConcludesPassed exit (check_profile (profile_of rows (rows_of lims)))) (h.taken p refl).rows (c (rows_of lims)) in
+        rw refusal_is (sym (verdict_passed exit (check_profile (profile_of (rows_of prof) (rows_of lims))) concludes))
 
-    pub check_failed : (v.error ≡ 0 → ⊥) → type_check_result (check_answer.TypeError v.error v.place) exit ≡ type_check_call prof lims layout
+    pub check_failed : (e : CodeError) → ((limits : List ℕ) → ConcludesFailed e exit (check_profile (profile_of (take p.rows areas) limits)))
+        → type_check_result (check_answer.TypeError (error_number e.error) e.place) exit ≡ type_check_call prof lims layout
     unfolding type_check_result type_check_call type_check_unless type_check_meaning
-    check_failed k = rw refusal_is (sym (verdict_failed v exit (check_profile (profile_of (rows_of prof) (rows_of lims))) concludes k))
+    check_failed e c =
+        let concludes = subst (λ (rows : List ℕ). ConcludesFailed e exit (check_profile (profile_of rows (rows_of lims)))) (h.taken p refl).rows (c (rows_of lims)) in
+        rw refusal_is (sym (verdict_failed e exit (check_profile (profile_of (rows_of prof) (rows_of lims))) concludes))

@@ -10,7 +10,7 @@ use Rattle.lingua.specs.Numbers.{most_variables, declaration_section}
 use Rattle.lingua.specs.Rows.{pair_count}
 use Rattle.lingua.specs.Lookup.{Lookup, lookup, look_up}
 use Rattle.lingua.specs.Format.{profile}
-use Rattle.std.specs.Prelude.{Ok, Err}
+use Rattle.std.specs.Prelude.{Ok, Err, Option, Some, None}
 use Rattle.lingua.specs.declared.errors.Refusal.{Refusal}
 use Rattle.lingua.specs.Faults.{refusal_number}
 use Rattle.lingua.specs.Refusal.{find_refusal}
@@ -25,9 +25,8 @@ use Rattle.pair.specs.Taken.{RowsTaken, TakenIs}
 use Rattle.pair.specs.declared.file.Taken.{Taken}
 use Rattle.pair.proofs.Pairs.{accepted_file}
 use Rattle.pair.proofs.Returns.{none_of_either, some_refusal}
-use Rattle.profile.specs.Find.{found_meaning}
-use Rattle.profile.specs.declared.find.Found.{Found}
-use Rattle.profile.specs.declared.find.Found.TheVariants as found
+use Rattle.profile.specs.Find.{found_at, found_meaning}
+use Rattle.profile.specs.declared.find.Search.{Search}
 
 call_refused : (file name : List ℕ) (n m : ℕ) → find_refusal file ≡ n → n ≡ suc m → find_meaning (find_answer.Refused n) ≡ find_call file name
 unfolding find_meaning find_call find_unless
@@ -54,41 +53,51 @@ module _ (t : Taken) (file areas bodies : List ℕ) (h : TakenIs (Ok t) profile 
   few : pair_count (take t.length areas) declaration_section ≤ most_variables
   few = (counts (take t.length areas) rows_accepted.counts).variables.most
 
-  module _ (name : List ℕ) (r : Found) (is : found_meaning r ≡ look_up (take t.length areas) name) where
-    told : (l : Lookup) → found_meaning r ≡ l → look_up (take t.length areas) name ≡ l
-    told l e = sym is ∙ e
+  module _ (name : List ℕ) (r : Search) (is : found_meaning r ≡ look_up (take t.length areas) name) where
+    told : look_up (take t.length areas) name ≡ lookup (found_at r.index) r.looked
+    unfolding found_meaning
+    told = sym is
 
     answers : (l : Lookup) → look_up (take t.length areas) name ≡ l → answered l ≡ find_call file name
     unfolding find_call find_unless
     answers l e = rw refusal_is (ap answered (sym e ∙ ap (λ (rows : List ℕ). look_up rows name) rows_taken.rows))
 
-    module _ (d n : ℕ) (e : r ≡ found.At d n) where
-      at : look_up (take t.length areas) name ≡ lookup (some d) n
-      unfolding found_meaning
-      at = told (lookup (some d) n) (ap found_meaning e)
+    module _ (d : ℕ) (e : r.index ≡ Some d) where
+      at : look_up (take t.length areas) name ≡ lookup (some d) r.looked
+      at = told ∙ ap (λ (i : Option ℕ). lookup (found_at i) r.looked) e
 
       -- the two numbers fit the answer's
-      pub at_small : (d < 65536) × (n < 65536)
+      at_small : (d < 65536) × (r.looked < 65536)
       at_small =
           let f = found_first (take t.length areas) name d (ap (λ (l : Lookup). l.found) at) in
-          let looks : n ≡ suc d = sym (ap (λ (l : Lookup). l.looked) at) ∙ f.1 in
+          let looks : r.looked ≡ suc d = sym (ap (λ (l : Lookup). l.looked) at) ∙ f.1 in
           (omega (arith, f.0.there, few), omega (arith, f.0.there, few, looks))
 
-      pub find_found : find_meaning (find_answer.Found d n) ≡ find_call file name
+      pub index_small : d < 65536
+      index_small = at_small.0
+
+      pub find_found : find_meaning (find_answer.Found d r.looked) ≡ find_call file name
       unfolding find_meaning
-      find_found = answers (lookup (some d) n) at
+      find_found = answers (lookup (some d) r.looked) at
 
-    module _ (n : ℕ) (e : r ≡ found.Nothing n) where
-      missing : look_up (take t.length areas) name ≡ lookup none n
-      unfolding found_meaning
-      missing = told (lookup none n) (ap found_meaning e)
+    module _ (e : r.index ≡ None) where
+      missing : look_up (take t.length areas) name ≡ lookup none r.looked
+      missing = told ∙ ap (λ (i : Option ℕ). lookup (found_at i) r.looked) e
 
-      pub missing_small : n < 65536
+      missing_small : r.looked < 65536
       missing_small =
           let f = found_none (take t.length areas) name (ap (λ (l : Lookup). l.found) missing) in
-          let looks : n ≡ pair_count (take t.length areas) declaration_section = sym (ap (λ (l : Lookup). l.looked) missing) ∙ f.1 in
+          let looks : r.looked ≡ pair_count (take t.length areas) declaration_section = sym (ap (λ (l : Lookup). l.looked) missing) ∙ f.1 in
           omega (arith, few, looks)
 
-      pub find_missing : find_meaning (find_answer.Missing n) ≡ find_call file name
+      pub find_missing : find_meaning (find_answer.Missing r.looked) ≡ find_call file name
       unfolding find_meaning
-      find_missing = answers (lookup none n) missing
+      find_missing = answers (lookup none r.looked) missing
+
+    looked_by : (i : Option ℕ) → r.index ≡ i → r.looked < 65536
+    looked_by (Some d) e = (at_small d e).1
+    looked_by None e = missing_small e
+
+    -- so does how many were looked at, found or not
+    pub looked_small : r.looked < 65536
+    looked_small = looked_by r.index refl

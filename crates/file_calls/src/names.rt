@@ -6,7 +6,7 @@ ghost use Rattle.lingua.specs.Calls.{find_call};
 use lingua::sizes::{AREAS_LENGTH, NAME_BYTES, TYPE_BODIES_LENGTH};
 use lingua::{FileKind, FindAnswer};
 use pair::file::take;
-use profile::find::{Found, find};
+use profile::find::find;
 
 // Among the profile's own declarations; a procedure's are not searched. Nothing is lent, so a refusal leaves nothing.
 pub fn find_variable(profile: &[u8], name: [u8; NAME_BYTES]) -> FindAnswer
@@ -18,14 +18,13 @@ pub fn find_variable(profile: &[u8], name: [u8; NAME_BYTES]) -> FindAnswer
         Ok(taken) => taken,
         Err(refusal) => return FindAnswer::Refused(refusal.number()),
     };
-    let found = find(&areas[..taken.length], taken.tables.declarations, &name);
-    match found {
-        Found::At { index, looked } => FindAnswer::Found {
+    let search = find(&areas[..taken.length], taken.tables.declarations, &name);
+    let looked = search.looked as u16;
+    match search.index {
+        Some(index) => FindAnswer::Found {
             index: index as u16,
-            looked: looked as u16,
+            looked: looked,
         },
-        Found::Nothing { looked } => FindAnswer::Missing {
-            looked: looked as u16,
-        },
+        None => FindAnswer::Missing { looked: looked },
     }
 }

@@ -3,7 +3,7 @@ ghost use Rattle.std.specs.Prelude.{◌≡◌};
 ghost use Rattle.lingua.specs.Calls.{type_check_call, type_check_result};
 
 use lingua::CheckAnswer;
-use lingua::errors::{NO_ERROR, Refusal};
+use lingua::errors::Refusal;
 use lingua::sizes::{AREA_BYTES, AREAS_LENGTH, LAYOUT_LENGTH, TYPE_BODIES_LENGTH};
 use pair::take_pair;
 use typecheck::whole::check_profile;
@@ -22,13 +22,11 @@ pub fn check_types(profile: &[u8], limits: &[u8], layout: &mut [u16]) -> CheckAn
         Ok(pair) => pair,
         Err(refusal) => return CheckAnswer::Refused(refusal.number()),
     };
-    let verdict = check_profile(&areas[..pair.rows], pair.tables, &bodies, layout);
-    let error = verdict.error;
-    if error != NO_ERROR {
-        return CheckAnswer::TypeError {
-            error: error,
-            place: verdict.place,
-        };
+    match check_profile(&areas[..pair.rows], pair.tables, &bodies, layout) {
+        Ok(()) => CheckAnswer::Passed,
+        Err(found) => CheckAnswer::TypeError {
+            error: found.error.number(),
+            place: found.place,
+        },
     }
-    CheckAnswer::Passed
 }

@@ -1,6 +1,10 @@
 -- Copies one after the other: where a loop over them stands in the definition, from the first copy on. Assumes nothing.
 use mathlib.Core.Path.{◌≡◌, refl, sym, ap, ◌∙◌, subst}
-use mathlib.Core.Bool.{Bool}
+use mathlib.Core.Bool.{Bool, true, false, true≢false, false≢true}
+use Rattle.std.specs.Prelude.{Result as CodeResult, Ok, Err, is_err}
+use Rattle.lingua.specs.declared.errors.Error.{Error}
+use Rattle.lingua.specs.Faults.{number_of}
+use Rattle.laws.specs.Faults.{error_some}
 use mathlib.Core.List.{List, [], ◌∷◌}
 use Prim.Native.Nat.{ℕ, zero, suc, ◌+◌, ◌<◌}
 use native.Mathlib.Numerals.{add-one}
@@ -241,3 +245,12 @@ module _ {w : Way} {from : Lent} {c : Context} {l₀ : Lent} (row field count fi
                   let q = f.each p a b limits vs ws g u in
                   record { store = q.store; is = q.is; holds = q.holds; clean = λ e. absurd (z (sym (recorded_error s r row z) ∙ e)); same_out = recorded_out s r row };
             })
+
+-- ---- an error, and none, as a number
+pub fault_number : {A : Type 0} (r : CodeResult A Error) → is_err r ≡ true → number_of r ≡ 0 → ⊥
+fault_number (Ok a) e z = absurd (false≢true e)
+fault_number (Err x) e z = error_some x z
+
+pub no_fault_number : {A : Type 0} (r : CodeResult A Error) → is_err r ≡ false → number_of r ≡ 0
+no_fault_number (Ok a) e = refl
+no_fault_number (Err x) e = absurd (true≢false e)

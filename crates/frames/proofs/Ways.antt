@@ -6,7 +6,7 @@ use native.Mathlib.Omega.{arith}
 use lib.IntN.{ℤ}
 use lib.ListN.{length}
 use Rattle.lingua.specs.Numbers.{declaration_section, scope_table}
-use Rattle.lingua.specs.Outcome.{ok, Result}
+use Rattle.lingua.specs.Outcome.{ok, Result as Outcome}
 use Rattle.lingua.specs.Rows.{pair_count}
 use Rattle.lingua.specs.Store.{Variable, contents, assigned, copied, reading_taken}
 use Rattle.lingua.specs.Run.{Profile}
@@ -14,7 +14,8 @@ use Rattle.lingua.specs.Typing.{scope_bodies}
 use Rattle.lingua.specs.Evaluation.{eval_test}
 use Rattle.lingua.specs.Trees.{expression_tree}
 use Rattle.decoder.specs.declared.tables.Table.{Table}
-use Rattle.run.specs.declared.steps.Truth.{Truth}
+use Rattle.std.specs.Prelude.{Bool, Result}
+use Rattle.lingua.specs.declared.errors.Error.{Error}
 use Rattle.run.specs.Reached.{Lent, lent, Holding, Settles, Tells}
 use Rattle.run.specs.Memory.{reading}
 use Rattle.checked_row.specs.Meaning.{Stored, HasStored}
@@ -27,7 +28,7 @@ use Rattle.frames.specs.Meaning.{Context, CheckedIn, ErasedIn, HoldsBy, Holds, S
 use Rattle.frames.proofs.Lengths.{copied_long}
 
 -- what is asked of the memory may be exchanged for what follows from it
-settles_as : {r : ℕ} {M N : Holding} {l after : Lent} {p : Result (List Variable)} → ((vs : List Variable) → p ≡ ok vs → M after vs → N after vs) → Settles r M l after p → Settles r N l after p
+settles_as : {r : ℕ} {M N : Holding} {l after : Lent} {p : Outcome (List Variable)} → ((vs : List Variable) → p ≡ ok vs → M after vs → N after vs) → Settles r M l after p → Settles r N l after p
 settles_as f h =
     record { answer = λ e. let a = h.answer e in record { store = a.store; is = a.is; running = f a.store a.is a.running }; error = h.error }
 
@@ -55,12 +56,12 @@ module _ {w : Way} where
       count = k ∙ h.count;
     }
 
-    pub checked_stores : {c : Context} {l after : Lent} {r : ℕ} (P : ℕ → Type 0) (f : List Variable → Result (List Variable)) → ((vs ws : List Variable) → f vs ≡ ok ws → length ws ≡ length vs)
+    pub checked_stores : {c : Context} {l after : Lent} {r : ℕ} (P : ℕ → Type 0) (f : List Variable → Outcome (List Variable)) → ((vs ws : List Variable) → f vs ≡ ok ws → length ws ≡ length vs)
         → ((a : ℕ) (vs : List Variable) → P a → CheckedRunning c.rows c.expressions c.limits l vs → length vs ≡ pair_count c.rows (scope_table a)
         → Settles r (CheckedRunning c.rows c.expressions c.limits) l after (f vs)) → Stores w c l after r P f
     checked_stores P f long h = record { settles = λ p a vs q k. settles_as (λ ws is g. checked_again k (long vs ws is) g) (h a vs q (checked_running k) k.count) }
 
-    pub checked_tells : {c : Context} {l : Lent} {n : ℕ} {r : Truth} → ((vs : List Variable) → CheckedRunning c.rows c.expressions c.limits l vs → Tells r (eval_test (expression_tree c.rows n) (contents vs)))
+    pub checked_tells : {c : Context} {l : Lent} {n : ℕ} {r : Result Bool Error} → ((vs : List Variable) → CheckedRunning c.rows c.expressions c.limits l vs → Tells r (eval_test (expression_tree c.rows n) (contents vs)))
         → TellsTest w c l n r
     checked_tells h = record { tells = λ p a vs q k. h vs (checked_running k) }
 
@@ -111,21 +112,21 @@ module _ {w : Way} where
           count = k ∙ h.count;
         }
 
-        erased_settles : {p : Profile} {a : ℕ} {c : Context} {vs : List Variable} {r : ℕ} (o : Result (List Variable)) → Holds w p a c (lent cells states bodies) vs → ((ws : List Variable) → o ≡ ok ws → length ws ≡ length vs)
+        erased_settles : {p : Profile} {a : ℕ} {c : Context} {vs : List Variable} {r : ℕ} (o : Outcome (List Variable)) → Holds w p a c (lent cells states bodies) vs → ((ws : List Variable) → o ≡ ok ws → length ws ≡ length vs)
             → Settles r (ErasedRunning p a c.rows c.expressions c.layout c.limits) (lent cells states []) (lent cells' states' []) o
             → Settles r (Holds w p a c) (lent cells states bodies) (lent cells' states' bodies) o
         erased_settles {p} {a} {c} {vs} {r} o k long h =
             subst (λ (b : List ℕ). Settles r (Holds w p a c) (lent cells states b) (lent cells' states' b) o) (sym (erased_in k).no_bodies)
             (settles_as (λ ws is g. erased_again k (long ws is) g) h)
 
-        pub erased_stores : {c : Context} {r : ℕ} (P : ℕ → Type 0) (f : List Variable → Result (List Variable)) → ((vs ws : List Variable) → f vs ≡ ok ws → length ws ≡ length vs)
+        pub erased_stores : {c : Context} {r : ℕ} (P : ℕ → Type 0) (f : List Variable → Outcome (List Variable)) → ((vs ws : List Variable) → f vs ≡ ok ws → length ws ≡ length vs)
             → ((p : Profile) (a : ℕ) (vs : List Variable) → ErasedRunning p a c.rows c.expressions c.layout c.limits (lent cells states []) vs → P a
             → Settles r (ErasedRunning p a c.rows c.expressions c.layout c.limits) (lent cells states []) (lent cells' states' []) (f vs))
             → Stores w c (lent cells states bodies) (lent cells' states' bodies) r P f
         erased_stores P f long h = record { settles = λ p a vs q k. erased_settles (f vs) k (long vs) (h p a vs (erased_running k) q) }
 
         -- a reading is asked of the profile's variables alone
-        pub erased_reads : {c : Context} {r : ℕ} (f : List Variable → Result (List Variable)) → ((vs ws : List Variable) → f vs ≡ ok ws → length ws ≡ length vs)
+        pub erased_reads : {c : Context} {r : ℕ} (f : List Variable → Outcome (List Variable)) → ((vs ws : List Variable) → f vs ≡ ok ws → length ws ≡ length vs)
             → ((p : Profile) (vs : List Variable) → ErasedRunning p 0 c.rows c.expressions c.layout c.limits (lent cells states []) vs
             → Settles r (ErasedRunning p 0 c.rows c.expressions c.layout c.limits) (lent cells states []) (lent cells' states' []) (f vs))
             → Stores w c (lent cells states bodies) (lent cells' states' bodies) r (λ a. a ≡ 0) f
@@ -133,7 +134,7 @@ module _ {w : Way} where
             subst (λ (b : ℕ). Settles r (ErasedRunning p b c.rows c.expressions c.layout c.limits) (lent cells states []) (lent cells' states' []) (f vs)) (sym z)
             (h p vs (subst (λ (b : ℕ). ErasedRunning p b c.rows c.expressions c.layout c.limits (lent cells states []) vs) z k)))
 
-      pub erased_tells : {c : Context} {n : ℕ} {r : Truth}
+      pub erased_tells : {c : Context} {n : ℕ} {r : Result Bool Error}
           → ((p : Profile) (a : ℕ) (vs : List Variable) → ErasedRunning p a c.rows c.expressions c.layout c.limits (lent cells states []) vs → TestRow c.rows a n
           → Tells r (eval_test (expression_tree c.rows n) (contents vs))) → TellsTest w c (lent cells states bodies) n r
       erased_tells h = record { tells = λ p a vs q k. h p a vs (erased_running k) q }

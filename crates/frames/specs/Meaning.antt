@@ -1,9 +1,9 @@
 -- What is done to the variables of the profile or of an open call, in each of the two ways to run: what is asked of their memory, and what it
 -- holds afterwards. Assumes nothing: these are definitions.
-use Rattle.std.specs.Prelude.{◌≡◌, List, [], ℕ, ◌+◌, ◌*◌, ◌/◌, ◌≤◌, ◌<◌, ℤ, length, get_or, replicate}
+use Rattle.std.specs.Prelude.{◌≡◌, Bool, Result, List, [], ℕ, ◌+◌, ◌*◌, ◌/◌, ◌≤◌, ◌<◌, ℤ, length, get_or, replicate}
 use Rattle.lingua.specs.Numbers.{body_cells, most_procedures, variable_bodies_length, type_section, header_table, scope_table}
 use Rattle.lingua.specs.Errors.{no_error}
-use Rattle.lingua.specs.Outcome.{Result, fail}
+use Rattle.lingua.specs.Outcome.{Result as Outcome, fail}
 use Rattle.lingua.specs.Rows.{table_start, table_count, pair_count, procedure_count, groups}
 use Rattle.lingua.specs.Store.{Variable, contents, assigned, copied, copied_in}
 use Rattle.lingua.specs.Evaluation.{eval_test}
@@ -15,7 +15,7 @@ use Rattle.safety.specs.Programs.{TypedProfile}
 use Rattle.decoder.specs.declared.tables.Table.{Table}
 use Rattle.rules.specs.Types.{BodiesBelow}
 use Rattle.run.specs.declared.steps.Status.{Status}
-use Rattle.run.specs.declared.steps.Truth.{Truth}
+use Rattle.lingua.specs.declared.errors.Error.{Error}
 use Rattle.run.specs.Statuses.{state_of}
 use Rattle.run.specs.Kept.{YokesKept, BodiesKept}
 use Rattle.run.specs.Reached.{Lent, Holding, StoredAs, Settles, Tells}
@@ -72,11 +72,11 @@ pub record StandsUnder (w : Way) (rows : List ℕ) (t : Table) (layout : List �
 
 -- ---- what differs between the ways
 -- a store, in a scope with a property: the new one in memory, or the error and the memory as it was
-pub record Stores (w : Way) (c : Context) (l after : Lent) (r : ℕ) (P : ℕ → Type 0) (f : List Variable → Result (List Variable)) : Type 0 where
+pub record Stores (w : Way) (c : Context) (l after : Lent) (r : ℕ) (P : ℕ → Type 0) (f : List Variable → Outcome (List Variable)) : Type 0 where
   pub settles : (p : Profile) (a : ℕ) (vs : List Variable) → P a → Holds w p a c l vs → Settles r (Holds w p a c) l after (f vs)
 
 -- a test's answer
-pub record TellsTest (w : Way) (c : Context) (l : Lent) (e : ℕ) (r : Truth) : Type 0 where
+pub record TellsTest (w : Way) (c : Context) (l : Lent) (e : ℕ) (r : Result Bool Error) : Type 0 where
   pub tells : (p : Profile) (a : ℕ) (vs : List Variable) → TestRow c.rows a e → Holds w p a c l vs → Tells r (eval_test (expression_tree c.rows e) (contents vs))
 
 -- ---- copies between two memories

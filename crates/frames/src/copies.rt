@@ -1,6 +1,7 @@
 // The copies of a call: its caller's variables into its own, and on a clean end those that were given by reference back again.
 ghost use Rattle.std.specs.Prelude.{◌≤◌, length};
 ghost use Rattle.lingua.specs.Numbers.{most_parameters};
+ghost use Rattle.lingua.specs.Faults.{number_of};
 ghost use Rattle.run.specs.Reached.{Going};
 ghost use Rattle.frames.specs.Meaning.{HasFacing, AllPairs, AllBack, CopiesIn, CopiesOut};
 ghost use Rattle.frames.specs.Lending.{context_of, lent_in, SameSlices};
@@ -8,7 +9,7 @@ ghost use Rattle.frames.specs.Lending.{context_of, lent_in, SameSlices};
 use crate::leaves::copy;
 use crate::memory::{Context, Memory};
 use decoder::groups::group;
-use lingua::errors::NO_ERROR;
+use lingua::errors::{Error, NO_ERROR};
 use run::steps::{Status, settled};
 
 // The variables of a field, one after the other, to the variables from first on; the first error ends it.
@@ -20,19 +21,16 @@ pub fn copies_in(
     first: usize,
     own: &mut Memory,
     stack: &mut [i64],
-) -> u8
+) -> Result<(), Error>
     requires has_facing { HasFacing context.now.way (lent_in from.now) (context_of context.now) (lent_in own.old) (length stack.old) (λ p a b vs ws. AllPairs context.now.way p a b vs ws field count first) }
     requires count_le_most_parameters { (count ≤ most_parameters) × (first ≤ most_parameters) }
-    ensures copies { CopiesIn context.now.way (lent_in from.now) (context_of context.now) (lent_in own.old) (lent_in own.new) field count first result }
+    ensures copies { CopiesIn context.now.way (lent_in from.now) (context_of context.now) (lent_in own.old) (lent_in own.new) field count first (number_of result) }
     ensures same_slices { SameSlices own.old own.new }
 {
     for i in 0..count {
-        let error = copy(context, from, group(field, i), own, first + i, &mut *stack);
-        if error != NO_ERROR {
-            return error;
-        }
+        copy(context, from, group(field, i), own, first + i, &mut *stack)?;
     }
-    NO_ERROR
+    Ok(())
 }
 
 // The variables from first on, one after the other, to those of a field, unless an error is recorded; what came back before one stays.
@@ -58,9 +56,9 @@ pub fn copies_out(
     }
     for i in 0..count {
         let given = first + i;
-        let wrong = copy(context, own, given, memory, group(field, i), &mut *stack);
-        if wrong != NO_ERROR {
-            return settled(m, wrong, row);
+        let copied = copy(context, own, given, memory, group(field, i), &mut *stack);
+        if copied.is_err() {
+            return settled(m, copied, row);
         }
     }
     m

@@ -5,6 +5,7 @@ ghost use Rattle.lingua.specs.Outcome.{◌>>=◌ as bind};
 ghost use Rattle.lingua.specs.Rows.{pair_count};
 ghost use Rattle.lingua.specs.Refusal.{is_quantity_variable};
 ghost use Rattle.lingua.specs.Evaluation.{eval as meaning, no_current};
+ghost use Rattle.lingua.specs.Faults.{number_of};
 ghost use Rattle.lingua.specs.Store.{Variable, contents, assigned, yoke_changed, reading_taken};
 ghost use Rattle.lingua.specs.Trees.{expression_tree, yoke_tree};
 ghost use Rattle.decoder.specs.Tables.{IsTable};
@@ -19,10 +20,15 @@ use crate::memory::{Context, Memory};
 use crate::way::Way;
 use checked_row::answer::Evaluated;
 use decoder::tables::Table;
-use run::steps::Truth;
+use lingua::errors::Error;
 
 // What expression row e gives in the checked run.
-fn evaluated(context: &Context, memory: &Memory, e: usize, stack: &mut [i64]) -> Evaluated
+fn evaluated(
+    context: &Context,
+    memory: &Memory,
+    e: usize,
+    stack: &mut [i64],
+) -> Result<Evaluated, Error>
     requires has_world { HasWorld context.now.rows.now context.now.expressions memory.now.bodies.now memory.now.cells.now memory.now.states.now }
     requires e_lt_count { e < context.now.expressions.count }
     requires e_in_bounds { body_cells * (e + 2) ≤ length stack.old }
@@ -41,10 +47,16 @@ fn evaluated(context: &Context, memory: &Memory, e: usize, stack: &mut [i64]) ->
 }
 
 // Variable n takes what expression row e gives.
-pub fn assign(context: &Context, memory: &mut Memory, n: usize, e: usize, stack: &mut [i64]) -> u8
+pub fn assign(
+    context: &Context,
+    memory: &mut Memory,
+    n: usize,
+    e: usize,
+    stack: &mut [i64],
+) -> Result<(), Error>
     requires standing { Standing context.now.way (context_of context.now) (lent_in memory.old) (length stack.old) (λ a. AssignRow context.now.rows.now a n e) }
     requires e_lt_count { e < context.now.expressions.count }
-    ensures stores { Stores context.now.way (context_of context.now) (lent_in memory.old) (lent_in memory.new) result
+    ensures stores { Stores context.now.way (context_of context.now) (lent_in memory.old) (lent_in memory.new) (number_of result)
         (λ a. AssignRow context.now.rows.now a n e) (λ vs. bind (meaning (expression_tree context.now.rows.now e) (contents vs) no_current) (assigned vs n)) }
     ensures same_slices { SameSlices memory.old memory.new }
 {
@@ -84,10 +96,10 @@ pub fn change_yoke(
     n: usize,
     y: u16,
     stack: &mut [i64],
-) -> u8
+) -> Result<(), Error>
     requires standing { Standing context.now.way (context_of context.now) (lent_in memory.old) (length stack.old) (λ a. YokeRow context.now.rows.now a n y) }
     requires y_le_count { y ≤ context.now.expressions.count }
-    ensures stores { Stores context.now.way (context_of context.now) (lent_in memory.old) (lent_in memory.new) result
+    ensures stores { Stores context.now.way (context_of context.now) (lent_in memory.old) (lent_in memory.new) (number_of result)
         (λ a. YokeRow context.now.rows.now a n y) (λ vs. yoke_changed vs n (yoke_tree context.now.rows.now y)) }
     ensures cells_same { memory.new.cells.now ≡ memory.old.cells.now }
     ensures bodies_same { memory.new.bodies.now ≡ memory.old.bodies.now }
@@ -121,7 +133,7 @@ pub fn change_yoke(
 }
 
 // Whether the test of expression row e holds.
-pub fn test(context: &Context, memory: &Memory, e: usize, stack: &mut [i64]) -> Truth
+pub fn test(context: &Context, memory: &Memory, e: usize, stack: &mut [i64]) -> Result<bool, Error>
     requires stands_under { StandsUnder context.now.way context.now.rows.now context.now.expressions context.now.layout.now (lent_in memory.now) (length stack.old) (λ a. TestRow context.now.rows.now a e) }
     requires e_lt_count { e < context.now.expressions.count }
     ensures { (limits : List ℤ) → TellsTest context.now.way (under_limits context.now limits) (lent_in memory.now) e result }
@@ -157,11 +169,11 @@ pub fn take_reading(
     n: usize,
     z: i64,
     stack: &mut [i64],
-) -> u8
+) -> Result<(), Error>
     requires standing { Standing context.now.way (context_of context.now) (lent_in memory.old) (length stack.old) (λ a. a ≡ 0) }
     requires n_bound { (n < pair_count context.now.rows.now declaration_section) × (is_quantity_variable context.now.rows.now n ≡ true) }
     requires table { IsTable context.now.rows.now declaration_section declarations × IsTable context.now.rows.now type_section types }
-    ensures stores { Stores context.now.way (context_of context.now) (lent_in memory.old) (lent_in memory.new) result
+    ensures stores { Stores context.now.way (context_of context.now) (lent_in memory.old) (lent_in memory.new) (number_of result)
         (λ a. a ≡ 0) (λ vs. reading_taken vs (reading n z)) }
     ensures same_slices { SameSlices memory.old memory.new }
 {
@@ -201,9 +213,9 @@ pub fn copy(
     memory: &mut Memory,
     m: usize,
     stack: &mut [i64],
-) -> u8
+) -> Result<(), Error>
     requires { HasFacing context.now.way (lent_in from.now) (context_of context.now) (lent_in memory.old) (length stack.old) (λ p a b vs ws. Pair context.now.way p a b vs ws n m) }
-    ensures copies { Copies context.now.way (lent_in from.now) (context_of context.now) (lent_in memory.old) (lent_in memory.new) n m result }
+    ensures copies { Copies context.now.way (lent_in from.now) (context_of context.now) (lent_in memory.old) (lent_in memory.new) n m (number_of result) }
     ensures same_slices { SameSlices memory.old memory.new }
 {
     match context.way {

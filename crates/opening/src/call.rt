@@ -2,6 +2,7 @@
 // of budget, they stay in the area.
 ghost use Rattle.std.specs.Prelude.{◌≡◌, ◌<◌, length};
 ghost use Rattle.lingua.specs.Rows.{procedure_count, body_row};
+ghost use Rattle.lingua.specs.Faults.{number_of};
 ghost use Rattle.frames.specs.Meaning.{HeadsOf};
 ghost use Rattle.frames.specs.Lending.{context_of, lent_in, SameSlices};
 ghost use Rattle.opening.specs.Meaning.{setting_of};
@@ -14,7 +15,7 @@ use frames::begin::begin;
 use frames::copies::{copies_in, copies_out};
 use frames::memory::{Context, Memory};
 use frames::procedure::{procedure_in, variables_in};
-use lingua::errors::NO_ERROR;
+use lingua::errors::Error;
 use lingua::sizes::LIMIT_CELLS_LENGTH;
 use run::steps::Status;
 
@@ -35,10 +36,10 @@ pub fn enter(
     memory: &Memory,
     own: &mut Memory,
     stack: &mut [i64],
-) -> u8
+) -> Result<(), Error>
     requires calling { Calling call.row call.procedure call.values call.references setting.now.context.way (setting_of setting.now) (lent_in memory.now) (length stack.old) }
     requires zeros_by { ZerosBy setting.now.context.way (lent_in own.old) }
-    ensures enters { Enters call.row call.procedure call.values call.references setting.now.context.way (setting_of setting.now) (lent_in memory.now) (lent_in own.new) result }
+    ensures enters { Enters call.row call.procedure call.values call.references setting.now.context.way (setting_of setting.now) (lent_in memory.now) (lent_in own.new) (number_of result) }
     ensures same_slices { SameSlices own.old own.new }
 {
     let none = [0i64; LIMIT_CELLS_LENGTH];
@@ -51,10 +52,7 @@ pub fn enter(
     let references = given(procedure.references);
     let variables = variables_in(context.rows, setting.heads, call.procedure);
     begin(&context, variables, setting.types, own);
-    let error = copies_in(&context, memory, call.values, values, 0, own, &mut *stack);
-    if error != NO_ERROR {
-        return error;
-    }
+    copies_in(&context, memory, call.values, values, 0, own, &mut *stack)?;
     copies_in(
         &context,
         memory,

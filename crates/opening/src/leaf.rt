@@ -43,8 +43,8 @@ pub fn assignment(
     if taken.out {
         return taken;
     }
-    let error = assign(&setting.context, memory, n, e, stack);
-    settled(taken, error, row as u16)
+    let stored = assign(&setting.context, memory, n, e, stack);
+    settled(taken, stored, row as u16)
 }
 
 // Variable n's yoke becomes y.
@@ -71,6 +71,6 @@ pub fn yoke_change(
     if taken.out {
         return taken;
     }
-    let error = change_yoke(&setting.context, memory, n, y as u16, stack);
-    settled(taken, error, row as u16)
+    let changed = change_yoke(&setting.context, memory, n, y as u16, stack);
+    settled(taken, changed, row as u16)
 }

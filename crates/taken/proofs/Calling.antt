@@ -33,8 +33,8 @@ use Rattle.pair.proofs.Given.{rows_accepted, tables_there, limits_there, bodies_
 use Rattle.decoder.specs.Tables.{AreTables}
 use Rattle.rules.specs.Types.{BodiesBelow}
 use Rattle.profile.specs.Find.{LimitsOwned}
-use Rattle.typecheck.specs.declared.verdicts.Verdict.{Verdict}
-use Rattle.typecheck.specs.Verdicts.{Concludes}
+use Rattle.typing.specs.declared.findings.TypeError.{TypeError as CodeError}
+use Rattle.typecheck.specs.Verdicts.{ConcludesPassed, ConcludesFailed}
 use Rattle.run.specs.Reached.{Lent}
 use Rattle.frames.specs.declared.way.Way.TheVariants as way
 use Rattle.frames.specs.Meaning.{HoldsBy}
@@ -114,32 +114,16 @@ module _ (i : Inputs) (b : Buffers) (present : List ℕ) (budget : ℕ) where
         ∙ ap (λ (k : ℕ). checked_unless k i budget b present) (sym (ap (λ (x : Result Pair Refusal). refusal_of x) q) ∙ shares)
 
 -- ---- the type check's verdict on rows
-module _ (rows limits : List ℕ) (v : Verdict) (table : List ℕ) (c : (lims : List ℕ) → Concludes v table (check_profile (profile_of rows lims))) where
-  verdict_fails : (budget : ℕ) (b : Buffers) (layout : List ℕ) (o : Outcome TypeError (List Entry)) (q : Progress) → Concludes v table o → (v.error ≡ 0 → ⊥) → erased_result (run_answer.Refused 17) b layout ≡ erased_verdict o budget q b layout
-  unfolding Concludes erased_verdict erased_result run_meaning
-  verdict_fails budget b layout (ok es) q h f = absurd (f h.passed)
-  verdict_fails budget b layout (fail e) q h f = refl
-
-  pub faulted : (who : List ℕ) (numbers : List ℤ) (budget : ℕ) (b : Buffers) (layout : List ℕ) {n : ℕ} → n ≡ type_error_found → (v.error ≡ 0 → ⊥) → erased_result (run_answer.Refused n) b layout ≡ erased_rows rows limits who numbers budget b layout
-  unfolding erased_rows
+module _ (rows limits : List ℕ) (table : List ℕ) where
+  pub faulted : {e : CodeError} (who : List ℕ) (numbers : List ℤ) (budget : ℕ) (b : Buffers) (layout : List ℕ) {n : ℕ} → n ≡ type_error_found → ConcludesFailed e table (check_profile (profile_of rows limits))
+      → erased_result (run_answer.Refused n) b layout ≡ erased_rows rows limits who numbers budget b layout
+  unfolding erased_rows erased_verdict erased_result run_meaning
   faulted who numbers budget b layout e f =
       ap (λ (k : ℕ). erased_result (run_answer.Refused k) b layout) e
-      ∙ verdict_fails budget b layout (check_profile (profile_of rows limits)) (run (profile_of rows limits) (readings_of who numbers) budget) (c limits) f
+      ∙ ap (λ (o : Outcome TypeError (List Entry)). erased_verdict o budget (run (profile_of rows limits) (readings_of who numbers) budget) b layout) (sym f.is)
 
-  record Found (o : Outcome TypeError (List Entry)) : Type 0 where
-    pub entries : List Entry
-    pub is : o ≡ ok entries
-    pub table_is : table ≡ layout_of entries
-
-  verdict_passes : (o : Outcome TypeError (List Entry)) → Concludes v table o → v.error ≡ 0 → Found o
-  unfolding Concludes
-  verdict_passes (ok es) h z = record { entries = es; is = refl; table_is = h.layout }
-  verdict_passes (fail e) h z = absurd (let k : ⊥ = omega (arith, z, h.error, h.some_error) in k)
-
-  pub passed_rows : v.error ≡ 0 → {copy : List ℕ} → copy ≡ table → length table ≡ layout_length → PassedRows rows limits copy
-  passed_rows z e l =
-      let f = verdict_passes (check_profile (profile_of rows limits)) (c limits) z in
-      record { entries = f.entries; passed = f.is; layout_is = e ∙ f.table_is; long = ap length e ∙ l }
+  pub passed_rows : ConcludesPassed table (check_profile (profile_of rows limits)) → {copy : List ℕ} → copy ≡ table → length table ≡ layout_length → PassedRows rows limits copy
+  passed_rows f e l = record { entries = f.entries; passed = f.is; layout_is = e ∙ f.layout; long = ap length e ∙ l }
 
 pub passed_done : (rows limits who : List ℕ) (numbers : List ℤ) (budget : ℕ) (b : Buffers) (layout copy : List ℕ) → PassedRows rows limits copy → (r : RunAnswer) (after : Buffers)
     → run_result r after ≡ ran budget (run (profile_of rows limits) (readings_of who numbers) budget) → erased_result r after copy ≡ erased_rows rows limits who numbers budget b layout

@@ -22,8 +22,8 @@ use lingua::sizes::{
     LIMIT_CELLS_LENGTH, MOST_LIMITS, PRESENT_BODIES_LENGTH, VARIABLE_BODIES_LENGTH,
 };
 use pair::Pair;
-use run::bodies::{clear_bodies, keep_bodies};
-use run::start::{clear_cells, clear_states, start};
+use run::bodies::keep_bodies;
+use run::start::start;
 use taken::present::copy_front;
 use taken::refusal::run_refusal;
 use whole_run::whole::run;
@@ -55,9 +55,9 @@ fn checked_rows(
     let declarations = tables.declarations;
     let mut kept = [0i64; LIMIT_CELLS_LENGTH];
     let layout = [0u16; 0];
-    clear_cells(&mut *open_cells);
-    clear_states(&mut *open_states);
-    clear_bodies(&mut *area);
+    open_cells.fill(0);
+    open_states.fill(0);
+    area.fill(0);
     keep_bodies(rows, declarations, bodies, &mut *own);
     start(
         rows,

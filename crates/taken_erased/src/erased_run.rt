@@ -18,10 +18,10 @@ use decoder::tables::{Table, Tables};
 use frames::memory::{Context, Memory};
 use frames::way::Way;
 use lingua::RunAnswer;
-use lingua::errors::{NO_ERROR, Refusal};
+use lingua::errors::Refusal;
 use lingua::sizes::{LAYOUT_LENGTH, LIMIT_CELLS_LENGTH, MOST_LIMITS};
 use pair::Pair;
-use run::start::{clear_cells, clear_states, start};
+use run::start::start;
 use taken::refusal::run_refusal;
 use typecheck::whole::check_profile;
 use whole_run::whole::run;
@@ -52,8 +52,8 @@ fn passed_rows(
     let types = [0u8; 0];
     let mut bodies = [0u8; 0];
     let mut none = [0u8; 0];
-    clear_cells(&mut *open_cells);
-    clear_states(&mut *open_states);
+    open_cells.fill(0);
+    open_states.fill(0);
     start(
         rows,
         declarations,
@@ -116,26 +116,27 @@ fn erased_rows(
     ensures { erased_result result (buffers cells.new states.new open_cells.new open_states.new) layout.new ≡ erased_rows rows.now limits.now who.now numbers.now budget (buffers cells.old states.old open_cells.old open_states.old) layout.old }
 {
     let mut table = [0u16; LAYOUT_LENGTH];
-    let verdict = check_profile(rows, tables, bodies, &mut table);
-    if verdict.error != NO_ERROR {
-        return RunAnswer::Refused(Refusal::TypeErrorFound.number());
+    match check_profile(rows, tables, bodies, &mut table) {
+        Ok(()) => {
+            layout.copy_from_slice(&table);
+            passed_rows(
+                rows,
+                tables,
+                limits,
+                named,
+                owners,
+                layout,
+                who,
+                numbers,
+                budget,
+                cells,
+                states,
+                open_cells,
+                open_states,
+            )
+        }
+        Err(_) => RunAnswer::Refused(Refusal::TypeErrorFound.number()),
     }
-    layout.copy_from_slice(&table);
-    passed_rows(
-        rows,
-        tables,
-        limits,
-        named,
-        owners,
-        layout,
-        who,
-        numbers,
-        budget,
-        cells,
-        states,
-        open_cells,
-        open_states,
-    )
 }
 
 // The lent layout table must be as long as listed, as cells and state words must.

@@ -10,7 +10,7 @@ ghost use Rattle.walk.specs.Meaning.{Asked, BranchAt, LoopAt, HandleAt, Executes
 use decoder::decode::InstructionRow;
 use frames::leaves::test;
 use frames::memory::{Context, Memory};
-use lingua::errors::{NO_ERROR, TOO_DEEP};
+use lingua::errors::{Error, NO_ERROR};
 use lingua::sizes::{CELLS_LENGTH, LIMIT_CELLS_LENGTH, STATES_LENGTH, VARIABLE_BODIES_LENGTH};
 use opening::call::{body_in, enter, leave};
 use opening::leaf::{assignment, skip, yoke_change};
@@ -88,14 +88,12 @@ fn branch(
     if taken.out {
         return taken;
     }
-    let truth = test(&setting.context, memory, e, &mut *stack);
-    if truth.error != NO_ERROR {
-        return settled(taken, truth.error, row as u16);
+    let told = test(&setting.context, memory, e, &mut *stack);
+    match told {
+        Ok(true) => exec(i, setting, memory, area, taken, stack),
+        Ok(false) => exec(j, setting, memory, area, taken, stack),
+        Err(error) => settled(taken, Err(error), row as u16),
     }
-    if truth.holds {
-        return exec(i, setting, memory, area, taken, stack);
-    }
-    exec(j, setting, memory, area, taken, stack)
 }
 
 // Each turn's test takes a step, the last one too.
@@ -121,12 +119,11 @@ fn turns(
         if taken.out {
             return taken;
         }
-        let truth = test(&setting.context, memory, e, &mut *stack);
-        if truth.error != NO_ERROR {
-            return settled(taken, truth.error, row as u16);
-        }
-        if !truth.holds {
-            return taken;
+        let told = test(&setting.context, memory, e, &mut *stack);
+        match told {
+            Ok(true) => {}
+            Ok(false) => return taken,
+            Err(error) => return settled(taken, Err(error), row as u16),
         }
         at = exec(i, setting, memory, area, taken, &mut *stack);
         if at.out {
@@ -186,7 +183,7 @@ fn call(
         return taken;
     }
     if area.cells.len() < CELLS_LENGTH {
-        return settled(taken, TOO_DEEP, of.row as u16);
+        return settled(taken, Err(Error::TooDeep), of.row as u16);
     }
     let n = memory.bodies.len();
     let mut own_cells = [0i64; CELLS_LENGTH];
@@ -217,9 +214,9 @@ fn opened(
     ensures opens { Opens of.row of.procedure of.values of.references setting.now.context.way (setting_of setting.now) (lent_in memory.old) (lent_in area.old) (lent_in memory.new) (lent_in area.new) m result }
     ensures same_slices { SameSlices memory.old memory.new × SameSlices area.old area.new }
 {
-    let error = enter(of, setting, memory, own, &mut *stack);
-    if error != NO_ERROR {
-        return settled(m, error, of.row as u16);
+    let entered = enter(of, setting, memory, own, &mut *stack);
+    if entered.is_err() {
+        return settled(m, entered, of.row as u16);
     }
     let n = memory.bodies.len();
     let row = body_in(setting.context.rows, setting.heads, of.procedure);

@@ -36,8 +36,8 @@ fn take_one(
     ensures takes { Takes context.now.way (context_of context.now) (lent_in memory.old) (lent_in memory.new) m result place n z }
     ensures same_slices { SameSlices memory.old memory.new }
 {
-    let error = take_reading(context, declarations, types, memory, n, z, stack);
-    settled(m, error, place)
+    let taken = take_reading(context, declarations, types, memory, n, z, stack);
+    settled(m, taken, place)
 }
 
 pub fn take_readings(

@@ -4,7 +4,7 @@ use lib.Seq.{length-take-le}
 use Rattle.lingua.specs.Answers.{file_meaning}
 use Rattle.pair.proofs.Returns.{room_most}
 use Rattle.lingua.specs.Format.{profile}
-use Rattle.file_calls.proofs.Naming.{find_refused, declarations_there, at_small, missing_small, find_found, find_missing}
+use Rattle.file_calls.proofs.Naming.{find_refused, declarations_there, looked_small, index_small, find_found, find_missing}
 use Rattle.file_calls.proofs.names.find_variable.Goals as goal
 
 pub take-requires-clause-kind_in_bounds : goal.take-requires-clause-kind_in_bounds
@@ -21,26 +21,22 @@ slice_bounds-areas-end c = (c.in-Ok.ensures.taken _ refl).within
 pub slice_bounds-find-end : goal.slice_bounds-find-end
 slice_bounds-find-end c = sym (length-take-le _ _ (c.in-Ok.ensures.taken _ refl).within)
 
-pub find-found-requires-clause-table : goal.find-found-requires-clause-table
+pub find-search-requires-clause-table : goal.find-search-requires-clause-table
 unfolding file_meaning
-find-found-requires-clause-table c = declarations_there _ _ _ _ c.in-Ok.ensures
+find-search-requires-clause-table c = declarations_there _ _ _ _ c.in-Ok.ensures
+
+pub overflow_cast-looked : goal.overflow_cast-looked
+unfolding file_meaning
+overflow_cast-looked c = record { fits = looked_small _ _ _ _ c.in-Ok.ensures _ _ c.find-search.ensures }
 
 pub overflow_cast-result : goal.overflow_cast-result
 unfolding file_meaning
-overflow_cast-result c = record { fits = (at_small _ _ _ _ c.in-Ok.ensures _ _ c.find-found.ensures _ _ c.in-At.is).0 }
+overflow_cast-result c = record { fits = index_small _ _ _ _ c.in-Ok.ensures _ _ c.find-search.ensures _ c.in-Some.is }
 
-pub overflow_cast-result-in-At : goal.overflow_cast-result-in-At
+pub returns-in-Some : goal.returns-in-Some
 unfolding file_meaning
-overflow_cast-result-in-At c = record { fits = (at_small _ _ _ _ c.in-Ok.ensures _ _ c.find-found.ensures _ _ c.in-At.is).1 }
+returns-in-Some c = find_found _ _ _ _ c.in-Ok.ensures _ _ c.find-search.ensures _ c.in-Some.is
 
-pub overflow_cast-result-in-Nothing : goal.overflow_cast-result-in-Nothing
+pub returns-in-None : goal.returns-in-None
 unfolding file_meaning
-overflow_cast-result-in-Nothing c = record { fits = missing_small _ _ _ _ c.in-Ok.ensures _ _ c.find-found.ensures _ c.in-Nothing.is }
-
-pub returns-in-At : goal.returns-in-At
-unfolding file_meaning
-returns-in-At c = find_found _ _ _ _ c.in-Ok.ensures _ _ c.find-found.ensures _ _ c.in-At.is
-
-pub returns-in-Nothing : goal.returns-in-Nothing
-unfolding file_meaning
-returns-in-Nothing c = find_missing _ _ _ _ c.in-Ok.ensures _ _ c.find-found.ensures _ c.in-Nothing.is
+returns-in-None c = find_missing _ _ _ _ c.in-Ok.ensures _ _ c.find-search.ensures c.in-None.is

@@ -20,13 +20,12 @@ slice_bounds-areas-end c = (c.in-Ok.ensures.taken _ refl).within
 pub slice_bounds-check_profile-end : goal.slice_bounds-check_profile-end
 slice_bounds-check_profile-end c = sym (length-take-le _ _ (c.in-Ok.ensures.taken _ refl).within)
 
-pub check_profile-verdict-requires-clause-ready : goal.check_profile-verdict-requires-clause-ready
-check_profile-verdict-requires-clause-ready c = ready _ _ c.args.layout.now _ _ _ _ c.if-layout-ne-LAYOUT_LENGTH.false c.in-Ok.ensures
+pub check_profile-requires-clause-ready : goal.check_profile-requires-clause-ready
+check_profile-requires-clause-ready c = ready _ _ c.args.layout.now _ _ _ _ c.if-layout-ne-LAYOUT_LENGTH.false c.in-Ok.ensures
 
-pub returns-then-error-ne-NO_ERROR : goal.returns-then-error-ne-NO_ERROR
-returns-then-error-ne-NO_ERROR c =
-    check_failed _ _ _ _ _ _ _ c.if-layout-ne-LAYOUT_LENGTH.false c.in-Ok.ensures _ _ c.check_profile-verdict.ensures c.if-error-ne-NO_ERROR.true
+pub returns-in-Ok-check_profile : goal.returns-in-Ok-check_profile
+returns-in-Ok-check_profile c = check_passed _ _ _ _ _ _ _ c.if-layout-ne-LAYOUT_LENGTH.false c.in-Ok.ensures _ c.in-Ok-check_profile.ensures
 
-pub returns : goal.returns
-returns c =
-    check_passed _ _ _ _ _ _ _ c.if-layout-ne-LAYOUT_LENGTH.false c.in-Ok.ensures _ _ c.check_profile-verdict.ensures c.if-error-ne-NO_ERROR.false
+pub returns-in-Err-check_profile : goal.returns-in-Err-check_profile
+returns-in-Err-check_profile c =
+    rw c.number-in-Err-check_profile.ensures (check_failed _ _ _ _ _ _ _ c.if-layout-ne-LAYOUT_LENGTH.false c.in-Ok.ensures _ _ c.in-Err-check_profile.ensures)

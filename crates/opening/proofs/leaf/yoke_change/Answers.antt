@@ -12,15 +12,15 @@ pub returns-then-taken-clause-executes : goal.returns-then-taken-clause-executes
 unfolding instruction_row_tree
 returns-then-taken-clause-executes c = leaf_executes c.requires.asked_leaf c.requires.set_yoke_at (λ p b vs h k calls o. change_out calls vs h c.requires.asked_leaf.going _ _ _ c.stepped-taken.ensures c.if-m-ne-NO_ERROR.false c.if-taken.true)
 
-pub change_yoke-error-requires-clause-standing : goal.change_yoke-error-requires-clause-standing
-change_yoke-error-requires-clause-standing c = (record { profile = c.requires.asked_leaf.profile; scope = c.requires.asked_leaf.scope; store = c.requires.asked_leaf.store; holds = c.requires.asked_leaf.holds; of_scope = yoke_row c.requires.asked_leaf c.requires.set_yoke_at c.requires.asked_leaf.scope c.requires.asked_leaf.holds.here c.requires.asked_leaf.under; enough = c.requires.asked_leaf.enough })
+pub change_yoke-changed-requires-clause-standing : goal.change_yoke-changed-requires-clause-standing
+change_yoke-changed-requires-clause-standing c = (record { profile = c.requires.asked_leaf.profile; scope = c.requires.asked_leaf.scope; store = c.requires.asked_leaf.store; holds = c.requires.asked_leaf.holds; of_scope = yoke_row c.requires.asked_leaf c.requires.set_yoke_at c.requires.asked_leaf.scope c.requires.asked_leaf.holds.here c.requires.asked_leaf.under; enough = c.requires.asked_leaf.enough })
 
-pub change_yoke-error-requires-clause-y_le_count : goal.change_yoke-error-requires-clause-y_le_count
-change_yoke-error-requires-clause-y_le_count c = (yoke_there c.requires.asked_leaf c.requires.set_yoke_at)
+pub change_yoke-changed-requires-clause-y_le_count : goal.change_yoke-changed-requires-clause-y_le_count
+change_yoke-changed-requires-clause-y_le_count c = (yoke_there c.requires.asked_leaf c.requires.set_yoke_at)
 
 pub returns-clause-executes : goal.returns-clause-executes
 unfolding instruction_row_tree
-returns-clause-executes c = leaf_executes c.requires.asked_leaf c.requires.set_yoke_at (λ p b vs h k calls o. change_settled calls vs h c.requires.asked_leaf.going _ _ _ c.stepped-taken.ensures c.if-m-ne-NO_ERROR.false _ _ c.if-taken.false (c.change_yoke-error.ensures.stores.settles p b vs (yoke_row c.requires.asked_leaf c.requires.set_yoke_at b h.here k) h) c.settled.ensures)
+returns-clause-executes c = leaf_executes c.requires.asked_leaf c.requires.set_yoke_at (λ p b vs h k calls o. change_settled calls vs h c.requires.asked_leaf.going _ _ _ c.stepped-taken.ensures c.if-m-ne-NO_ERROR.false _ _ c.if-taken.false (c.change_yoke-changed.ensures.stores.settles p b vs (yoke_row c.requires.asked_leaf c.requires.set_yoke_at b h.here k) h) c.settled.ensures)
 
 pub overflow_cast-y : goal.overflow_cast-y
 overflow_cast-y c = record { fits = few_yokes c.requires.asked_leaf c.requires.set_yoke_at }

@@ -18,10 +18,10 @@ pub run-requires-clause-are_tables : goal.run-requires-clause-are_tables
 run-requires-clause-are_tables c = c.requires.are_tables.0
 
 pub run-requires-clause-begins : goal.run-requires-clause-begins
-run-requires-clause-begins c = (record { limits = _; ready = checked_begins c.requires.startable.accepted c.start.ensures _ c.requires.are_tables.0 c.requires.bodies_below.0 (heads_known c.requires.startable.accepted c.requires.are_tables.0 (search (c.well_formed.1.0.1.1.1.1.1.1.1.0, rules))) c.keep_bodies.ensures refl (checked_clear _ _ _ c.clear_cells.ensures c.clear_states.ensures c.clear_bodies.ensures c.requires.startable.long_open_cells c.requires.startable.long_open_states c.requires.bodies_below.1.1) })
+run-requires-clause-begins c = (record { limits = _; ready = checked_begins c.requires.startable.accepted c.start.ensures _ c.requires.are_tables.0 c.requires.bodies_below.0 (heads_known c.requires.startable.accepted c.requires.are_tables.0 (search (c.well_formed.1.0.1.1.1.1.1.1.1.0, rules))) c.keep_bodies.ensures refl (checked_clear _ _ _ (c.fill.ensures.after (λ y e. e)) (c.fill-2.ensures.after (λ y e. e)) (c.fill-3.ensures.after (λ y e. e)) c.requires.startable.long_open_cells c.requires.startable.long_open_states c.requires.bodies_below.1.1) })
 
 pub run-requires-clause-readable : goal.run-requires-clause-readable
 run-requires-clause-readable c = c.requires.startable.readable
 
 pub returns : goal.returns
-returns c = let k = checked_end_lem _ c.run.ensures.runs (checked_begins c.requires.startable.accepted c.start.ensures _ c.requires.are_tables.0 c.requires.bodies_below.0 (heads_known c.requires.startable.accepted c.requires.are_tables.0 (search (c.well_formed.1.0.1.1.1.1.1.1.1.0, rules))) c.keep_bodies.ensures refl (checked_clear _ _ _ c.clear_cells.ensures c.clear_states.ensures c.clear_bodies.ensures c.requires.startable.long_open_cells c.requires.startable.long_open_states c.requires.bodies_below.1.1)) in search (rules, k, c.run.ensures.same_slices.0, c.run.ensures.same_slices.1)
+returns c = let k = checked_end_lem _ c.run.ensures.runs (checked_begins c.requires.startable.accepted c.start.ensures _ c.requires.are_tables.0 c.requires.bodies_below.0 (heads_known c.requires.startable.accepted c.requires.are_tables.0 (search (c.well_formed.1.0.1.1.1.1.1.1.1.0, rules))) c.keep_bodies.ensures refl (checked_clear _ _ _ (c.fill.ensures.after (λ y e. e)) (c.fill-2.ensures.after (λ y e. e)) (c.fill-3.ensures.after (λ y e. e)) c.requires.startable.long_open_cells c.requires.startable.long_open_states c.requires.bodies_below.1.1)) in search (rules, k, c.run.ensures.same_slices.0, c.run.ensures.same_slices.1)

@@ -11,10 +11,10 @@ pub run-requires-clause-are_tables : goal.run-requires-clause-are_tables
 run-requires-clause-are_tables c = c.requires.are_tables.0
 
 pub run-requires-clause-begins : goal.run-requires-clause-begins
-run-requires-clause-begins c = (record { limits = _; ready = erased_begins c.requires.startable.accepted c.start.ensures _ c.requires.are_tables.0 c.requires.passed_rows.0 c.requires.passed_rows.1 (heads_known c.requires.startable.accepted c.requires.are_tables.0 (search (c.well_formed.1.0.1.1.1.1.1.1.1.0, rules))) (erased_clear _ _ c.clear_cells.ensures c.clear_states.ensures c.requires.startable.long_open_cells c.requires.startable.long_open_states) })
+run-requires-clause-begins c = (record { limits = _; ready = erased_begins c.requires.startable.accepted c.start.ensures _ c.requires.are_tables.0 c.requires.passed_rows.0 c.requires.passed_rows.1 (heads_known c.requires.startable.accepted c.requires.are_tables.0 (search (c.well_formed.1.0.1.1.1.1.1.1.1.0, rules))) (erased_clear _ _ (c.fill.ensures.after (λ y e. e)) (c.fill-2.ensures.after (λ y e. e)) c.requires.startable.long_open_cells c.requires.startable.long_open_states) })
 
 pub run-requires-clause-readable : goal.run-requires-clause-readable
 run-requires-clause-readable c = c.requires.startable.readable
 
 pub returns : goal.returns
-returns c = let k = c.run.ensures.runs.is _ (erased_begins c.requires.startable.accepted c.start.ensures _ c.requires.are_tables.0 c.requires.passed_rows.0 c.requires.passed_rows.1 (heads_known c.requires.startable.accepted c.requires.are_tables.0 (search (c.well_formed.1.0.1.1.1.1.1.1.1.0, rules))) (erased_clear _ _ c.clear_cells.ensures c.clear_states.ensures c.requires.startable.long_open_cells c.requires.startable.long_open_states)) in search (rules, k, c.run.ensures.same_slices.0, c.run.ensures.same_slices.1)
+returns c = let k = c.run.ensures.runs.is _ (erased_begins c.requires.startable.accepted c.start.ensures _ c.requires.are_tables.0 c.requires.passed_rows.0 c.requires.passed_rows.1 (heads_known c.requires.startable.accepted c.requires.are_tables.0 (search (c.well_formed.1.0.1.1.1.1.1.1.1.0, rules))) (erased_clear _ _ (c.fill.ensures.after (λ y e. e)) (c.fill-2.ensures.after (λ y e. e)) c.requires.startable.long_open_cells c.requires.startable.long_open_states)) in search (rules, k, c.run.ensures.same_slices.0, c.run.ensures.same_slices.1)
