@@ -33,8 +33,7 @@ use Rattle.pair.proofs.Given.{rows_accepted, tables_there, limits_there, bodies_
 use Rattle.decoder.specs.Tables.{AreTables}
 use Rattle.rules.specs.Types.{BodiesBelow}
 use Rattle.profile.specs.Find.{LimitsOwned}
-use Rattle.typing.specs.declared.findings.TypeError.{TypeError as CodeError}
-use Rattle.typecheck.specs.Verdicts.{ConcludesPassed, ConcludesFailed}
+use Rattle.typecheck.specs.Verdicts.{ConcludesPassed}
 use Rattle.run.specs.Reached.{Lent}
 use Rattle.frames.specs.declared.way.Way.TheVariants as way
 use Rattle.frames.specs.Meaning.{HoldsBy}
@@ -114,16 +113,16 @@ module _ (i : Inputs) (b : Buffers) (present : List ℕ) (budget : ℕ) where
         ∙ ap (λ (k : ℕ). checked_unless k i budget b present) (sym (ap (λ (x : Result Pair Refusal). refusal_of x) q) ∙ shares)
 
 -- ---- the type check's verdict on rows
-module _ (rows limits : List ℕ) (table : List ℕ) where
-  pub faulted : {e : CodeError} (who : List ℕ) (numbers : List ℤ) (budget : ℕ) (b : Buffers) (layout : List ℕ) {n : ℕ} → n ≡ type_error_found → ConcludesFailed e table (check_profile (profile_of rows limits))
+module _ (rows limits : List ℕ) where
+  pub faulted : {f : TypeError} (who : List ℕ) (numbers : List ℤ) (budget : ℕ) (b : Buffers) (layout : List ℕ) {n : ℕ} → n ≡ type_error_found → check_profile (profile_of rows limits) ≡ fail f
       → erased_result (run_answer.Refused n) b layout ≡ erased_rows rows limits who numbers budget b layout
   unfolding erased_rows erased_verdict erased_result run_meaning
-  faulted who numbers budget b layout e f =
+  faulted who numbers budget b layout e is =
       ap (λ (k : ℕ). erased_result (run_answer.Refused k) b layout) e
-      ∙ ap (λ (o : Outcome TypeError (List Entry)). erased_verdict o budget (run (profile_of rows limits) (readings_of who numbers) budget) b layout) (sym f.is)
+      ∙ ap (λ (o : Outcome TypeError (List Entry)). erased_verdict o budget (run (profile_of rows limits) (readings_of who numbers) budget) b layout) (sym is)
 
-  pub passed_rows : ConcludesPassed table (check_profile (profile_of rows limits)) → {copy : List ℕ} → copy ≡ table → length table ≡ layout_length → PassedRows rows limits copy
-  passed_rows f e l = record { entries = f.entries; passed = f.is; layout_is = e ∙ f.layout; long = ap length e ∙ l }
+  pub passed_rows : {table : List ℕ} → ConcludesPassed table (check_profile (profile_of rows limits)) → {copy : List ℕ} → copy ≡ table → length table ≡ layout_length → PassedRows rows limits copy
+  passed_rows p e l = record { entries = p.entries; passed = p.is; layout_is = e ∙ p.layout; long = ap length e ∙ l }
 
 pub passed_done : (rows limits who : List ℕ) (numbers : List ℤ) (budget : ℕ) (b : Buffers) (layout copy : List ℕ) → PassedRows rows limits copy → (r : RunAnswer) (after : Buffers)
     → run_result r after ≡ ran budget (run (profile_of rows limits) (readings_of who numbers) budget) → erased_result r after copy ≡ erased_rows rows limits who numbers budget b layout
