@@ -96,7 +96,7 @@ fn branch(
     }
 }
 
-// Each turn's test takes a step, the last one too.
+// Each turn's test takes a step, the last one too: the steps that are left bound the turns, and the `while` counts nothing.
 #[cycle(instructions)]
 fn turns(
     row: usize,

@@ -5,4 +5,3 @@ use Rattle.calls.proofs.erased_run.run_erased.Goals as goal
 
 pub take_pair-pair-requires : goal.take_pair-pair-requires
 take_pair-pair-requires c = room_there _ _ _ refl refl refl
-
