@@ -1,6 +1,6 @@
 -- What decoding a row by its kind gives: a known kind's arm says what the table has for it, and where no arm's kind is the row's, the
 -- table has none. What a decoded row names is what the row names, but for attributes above a byte. Assumes nothing.
-use mathlib.Core.Path.{◌≡◌, refl, sym, ap, ◌∙◌}
+use mathlib.Core.Path.{◌≡◌, refl, sym, ap, ◌∙◌, subst}
 use mathlib.Core.Logic.{◌≢◌, ⊎_elim}
 use mathlib.Core.Bool.{Bool, true, ◌&&◌}
 use mathlib.Core.List.{List, [], ◌∷◌}
@@ -12,12 +12,20 @@ use lib.Dec.{ltb}
 use borrow.Author.Tests.{ne_eqb, lt-ltb, le-ltb}
 use Rattle.lingua.specs.Value.{all_of}
 use Rattle.lingua.specs.Operation.{Unary, Binary}
-use Rattle.lingua.specs.Rows.{kind_at, a_at, b_at, c_at, row_in, RowKind, numbered, said, used_of, ExpressionRow, constant_row, variable_row, current_row, unary_row, binary_row, lazy_row, choice_row, all_list_row, unknown_expression, operands}
-use Rattle.lingua.specs.Rules.{row_constant_fits, attributes_fit, expression_attributes}
-use Rattle.lingua.specs.References.{expression_variables}
+use Rattle.lingua.specs.Rows.{TypeRow, InstructionRow, unknown_type, unknown_instruction, parts, evaluated, yoke_set, kind_at, a_at, b_at, c_at, row_in, RowKind, numbered, said, used_of, ExpressionRow, constant_row, variable_row, current_row, unary_row, binary_row, lazy_row, choice_row, all_list_row, unknown_expression, operands}
+use Rattle.lingua.specs.Rules.{row_constant_fits, attributes_fit, type_attributes, expression_attributes, handled_errors}
+use Rattle.lingua.specs.References.{type_parts, expression_variables, instruction_variables, on_call}
 use Rattle.decoder.specs.Tables.{IsTable}
 use Rattle.decoder.specs.Reads.{reads_row}
-use Rattle.decoder.specs.Decoded.{byte, Naming, names_none, names_one_lem, unary_naming, binary_naming, renamed, Decoded, decoded, uses, Says, unary_in_bytes, binary_in_bytes, in_bytes}
+use Rattle.decoder.specs.Decoded.{byte, Naming, names_none, names_one_lem, unary_naming, binary_naming, renamed, Decoded, decoded, uses, Says, unary_in_bytes, binary_in_bytes, in_bytes, type_meaning, expression_meaning, instruction_meaning}
+use Rattle.decoder.specs.Mentions.{TypeAlike, ExpressionAlike, InstructionAlike}
+use Rattle.decoder.specs.declared.decode.Simple.TheVariants as simple
+use Rattle.decoder.specs.declared.decode.TypeRow.{TypeRow as CodeType}
+use Rattle.decoder.specs.declared.decode.TypeRow.TheVariants as type
+use Rattle.decoder.specs.declared.decode.ExpressionRow.{ExpressionRow as CodeRow}
+use Rattle.decoder.specs.declared.decode.ExpressionRow.TheVariants as code
+use Rattle.decoder.specs.declared.decode.InstructionRow.{InstructionRow as CodeInstruction}
+use Rattle.decoder.specs.declared.decode.InstructionRow.TheVariants as does
 use Rattle.decoder.specs.declared.tables.Table.{Table}
 use Rattle.decoder.proofs.Counting.{order}
 
@@ -124,3 +132,46 @@ place rows s t r h = rw (← h.start)
 -- what was decoded there means what the definitions have for the table's row
 pub row_decoded : {C R : Type 0} {unknown : R} {meaning : C → R} {used : Maybe ℕ} {d : Decoded C} {i j : ℕ} (at : ℕ → R) → i ≡ j → Says unknown meaning (at i) used d → decoded unknown meaning d ≡ at j
 row_decoded at e s = s.says ∙ ap at e
+
+-- ---- what a decoded row names: an unknown row is taken for one that names nothing
+pub type_alike : {row : CodeType} {x : TypeRow} → type_meaning row ≡ x → TypeAlike row x
+type_alike e = record { attributes = ap type_attributes e; parts = ap type_parts e }
+
+pub no_type_alike : {x : TypeRow} → unknown_type ≡ x → TypeAlike (type.Simple simple.Boolean) x
+unfolding type_attributes type_parts type_meaning
+no_type_alike {x} e = subst (λ y. TypeAlike (type.Simple simple.Boolean) y) e (record { attributes = refl; parts = refl })
+
+pub instruction_alike : {row : CodeInstruction} {x : InstructionRow} → instruction_meaning row ≡ x → InstructionAlike row x
+instruction_alike e =
+    record {
+      handled = ap handled_errors e;
+      parts = ap parts e;
+      evaluated = ap evaluated e;
+      assigned = ap instruction_variables e;
+      yoke = ap yoke_set e;
+      calls = λ f. ap (λ y. on_call y f) e;
+    }
+
+pub no_instruction_alike : {x : InstructionRow} → unknown_instruction ≡ x → InstructionAlike does.Skip x
+unfolding handled_errors parts evaluated instruction_variables yoke_set instruction_meaning
+no_instruction_alike {x} e =
+    subst (λ y. InstructionAlike does.Skip y) e (record { handled = refl; parts = refl; evaluated = refl; assigned = refl; yoke = refl; calls = λ f. refl })
+
+pub expression_alike : {rows : List ℕ} {i : ℕ} {row : CodeRow} {x : ExpressionRow} → expression_meaning rows i row ≡ in_bytes x → ExpressionAlike rows i row x
+expression_alike {rows} {i} {row} {x} e =
+    record {
+      operands = ap operands e ∙ operands_in_bytes x;
+      attributes = ap (λ y. attributes_fit (expression_attributes y)) e ∙ attributes_in_bytes x;
+      variables = ap expression_variables e ∙ variables_in_bytes x;
+      reads = λ v. ap (reads_row v) e ∙ reads_in_bytes v x;
+    }
+
+pub no_expression_alike : {rows : List ℕ} {i : ℕ} {x : ExpressionRow} → unknown_expression ≡ in_bytes x → ExpressionAlike rows i (code.Constant simple.Boolean) x
+unfolding operands expression_attributes expression_variables reads_row expression_meaning
+no_expression_alike {rows} {i} {x} e =
+    record {
+      operands = ap operands e ∙ operands_in_bytes x;
+      attributes = ap (λ y. attributes_fit (expression_attributes y)) e ∙ attributes_in_bytes x;
+      variables = ap expression_variables e ∙ variables_in_bytes x;
+      reads = λ v. ap (reads_row v) e ∙ reads_in_bytes v x;
+    }

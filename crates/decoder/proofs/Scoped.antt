@@ -14,15 +14,12 @@ use Rattle.decoder.specs.declared.tables.Table.{Table}
 use Rattle.decoder.specs.declared.tables.Tables.{Tables}
 use Rattle.decoder.proofs.Counting.{table_is}
 
-module _ (rows : List ℕ) (t : Tables) (k : ℕ) (tables : AreTables rows t) (h : k < t.procedures.count) (few : t.procedures.count ≤ most_procedures) where
+module _ (rows : List ℕ) (t : Tables) (k : ℕ) (tables : AreTables rows t) (begun : k < procedure_count rows) (few : k < most_procedures) where
   abbrev head : ℕ
   head = get_or t.procedures.heads k 0
 
   abbrev next : ℕ
   next = get_or t.procedures.heads (k + 1) 0
-
-  begun : k < procedure_count rows
-  begun = omega (arith, tables.procedures)
 
   head_row : head ≡ header_row rows k
   unfolding header_row row_in

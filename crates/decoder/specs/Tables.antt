@@ -5,7 +5,7 @@ use Rattle.lingua.specs.Numbers.{most_variables, most_types, most_expressions, m
 use Rattle.lingua.specs.Rows.{table_start, table_count, procedure_count, body_row, value_count, reference_count}
 use Rattle.decoder.specs.declared.tables.Tables.{Tables}
 use Rattle.decoder.specs.declared.tables.Table.{Table}
-use Rattle.decoder.specs.declared.procedures.Procedure.{Procedure}
+use Rattle.decoder.specs.declared.tables.Procedure.{Procedure}
 
 pub record IsTable (rows : List ℕ) (s : ℕ) (t : Table) : Type 0 where
   pub section : t.section ≡ s
@@ -29,19 +29,13 @@ pub record AreTables (rows : List ℕ) (t : Tables) : Type 0 where
   pub heads : (k : ℕ) → k ≤ most_procedures → get_or t.procedures.heads k 0 ≡ table_start rows (header_table k)
 
 -- the counts that rule 7 lets through
-pub record Sized (t : Tables) : Type 0 where
-  pub declarations : t.declarations.count / 2 ≤ most_variables
-  pub types : t.types.count ≤ most_types
-  pub expressions : t.expressions.count ≤ most_expressions
-  pub some_instruction : 1 ≤ t.instructions.count
-  pub instructions : t.instructions.count ≤ most_instructions
-  pub procedures : t.procedures.count ≤ most_procedures
-
--- tables of some rows, with no more procedures than rule 7 lets through
-pub record Described (t : Tables) : Type 0 where
-  pub rows : List ℕ
-  pub tables : AreTables rows t
-  pub few : t.procedures.count ≤ most_procedures
+pub record Sized (rows : List ℕ) : Type 0 where
+  pub declarations : table_count rows declaration_section / 2 ≤ most_variables
+  pub types : table_count rows type_section ≤ most_types
+  pub expressions : table_count rows expression_section ≤ most_expressions
+  pub some_instruction : 1 ≤ table_count rows instruction_section
+  pub instructions : table_count rows instruction_section ≤ most_instructions
+  pub procedures : procedure_count rows ≤ most_procedures
 
 -- the fields of the row that begins procedure k
 pub record IsProcedure (rows : List ℕ) (k : ℕ) (p : Procedure) : Type 0 where

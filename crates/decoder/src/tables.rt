@@ -36,6 +36,14 @@ pub struct Tables {
     pub procedures: Procedures,
 }
 
+// The instruction row of a procedure's body, and how many parameters it has by value and by reference.
+#[derive(Clone, Copy)]
+pub struct Procedure {
+    pub body: usize,
+    pub values: usize,
+    pub references: usize,
+}
+
 // How many rows each table has, and how many procedures were begun; the last number counts the rows of all tables above.
 #[derive(Clone, Copy)]
 struct Counted {
