@@ -13,11 +13,7 @@ use Rattle.lingua.specs.Lookup.{Lookup, look_up}
 use Rattle.lingua.specs.Format.{File, model_of, rows_of, file_of}
 use Rattle.lingua.specs.Inputs.{Inputs, Buffers, buffers}
 use Rattle.lingua.specs.Refusal.{read_refusal, find_refusal, write_refusal, type_check_refusal, checked_refusal, erased_refusal}
-use Rattle.lingua.specs.Answers.{Answer, refused, answered, Ending, ending, end_number, Verdict, passed, faulted, RowsRead, run_meaning, type_check_meaning, read_meaning, write_meaning}
-use Rattle.lingua.specs.declared.RunAnswer.{RunAnswer}
-use Rattle.lingua.specs.declared.CheckAnswer.{CheckAnswer}
-use Rattle.lingua.specs.declared.ReadAnswer.{ReadAnswer}
-use Rattle.lingua.specs.declared.WriteAnswer.{WriteAnswer}
+use Rattle.lingua.specs.Answers.{RunAnswer, CheckAnswer, ReadAnswer, WriteAnswer, Answer, refused, answered, Ending, ending, end_number, Verdict, passed, faulted, RowsRead, run_meaning, type_check_meaning, read_meaning, write_meaning}
 
 -- ---- the reader: the rows, then zeros
 pub record ReadCall : Type 0 where

@@ -35,6 +35,13 @@ impl Error {
     }
 }
 
+// An error with the row where it arose, as a run records it and as the type check finds it (document 01: fault).
+#[derive(Clone, Copy, Debug, PartialEq, Eq)]
+pub struct ErrorAt {
+    pub error: Error,
+    pub place: u16,
+}
+
 // Why files, readings or buffers are refused.
 #[derive(Clone, Copy, Debug, PartialEq, Eq)]
 pub enum Refusal {

@@ -7,6 +7,8 @@ pub mod operations; // operations.rt: the operations of expression rows
 pub mod sizes; // sizes.rt: sizes, counts and places
 pub mod words; // words.rt: integers in bytes
 
+use errors::{ErrorAt, Refusal};
+
 // Which of the two kinds of file the reader or the writer is told.
 #[derive(Clone, Copy)]
 pub enum FileKind {
@@ -14,41 +16,33 @@ pub enum FileKind {
     Limits,
 }
 
-// What a run answers: refused, or one case for each end (document 01: finished, failed or out), each with its numbers.
-#[derive(Clone, Copy)]
-pub enum RunAnswer {
-    Refused(u8),
+// How a run ended, with its steps. Out of budget may leave an error recorded.
+#[derive(Clone, Copy, Debug, PartialEq, Eq)]
+pub enum RunEnd {
     Finished { steps: u16 },
-    Failed { error: u8, place: u16, steps: u16 },
-    Out { error: u8, place: u16, steps: u16 },
+    Failed { at: ErrorAt, steps: u16 },
+    Out { recorded: Option<ErrorAt>, steps: u16 },
 }
 
-// What the type check answers (document 01: inspection; a type error is its fault).
-#[derive(Clone, Copy)]
-pub enum CheckAnswer {
-    Refused(u8),
-    Passed,
-    TypeError { error: u8, place: u16 },
+// What the reader found; the rows are in the caller's buffer.
+#[derive(Clone, Copy, Debug, PartialEq, Eq)]
+pub struct RowsRead {
+    pub model: u16,
+    pub count: u16,
 }
 
-// What the reader answers; the rows are in the caller's buffer.
-#[derive(Clone, Copy)]
-pub enum ReadAnswer {
-    Refused(u8),
-    Rows { model: u16, count: u16 },
+// What the search for a variable by its name found, and how many declarations it looked at.
+#[derive(Clone, Copy, Debug, PartialEq, Eq)]
+pub struct Search {
+    pub index: Option<u16>,
+    pub looked: u16,
 }
 
-// What the search for a variable by its name answers, with how many declarations it looked at.
-#[derive(Clone, Copy)]
-pub enum FindAnswer {
-    Refused(u8),
-    Found { index: u16, looked: u16 },
-    Missing { looked: u16 },
-}
-
-// What the writer answers; the file is in the caller's buffer.
-#[derive(Clone, Copy)]
-pub enum WriteAnswer {
-    Refused(u8),
-    Written,
-}
+// Each public call is refused or answers.
+pub type RunAnswer = Result<RunEnd, Refusal>;
+// The type check (document 01: inspection) finds a profile in order, or its fault.
+pub type CheckAnswer = Result<Result<(), ErrorAt>, Refusal>;
+pub type ReadAnswer = Result<RowsRead, Refusal>;
+// The file is in the caller's buffer.
+pub type WriteAnswer = Result<(), Refusal>;
+pub type FindAnswer = Result<Search, Refusal>;

@@ -26,7 +26,7 @@ use Rattle.lingua.specs.Inputs.{Inputs, inputs, Buffers, buffers}
 use Rattle.lingua.specs.Calls.{CheckedCall, readings_of, type_check_call, checked_call, erased_call, checked_result, erased_result}
 use Rattle.lingua.specs.Examples.{row, example_limits, example_limits_file}
 use Rattle.lingua.specs.Computing.{computing}
-use Rattle.lingua.specs.declared.RunAnswer.TheVariants as run_answer
+use Rattle.lingua.specs.declared.RunEnd.TheVariants as run_end
 use Rattle.safety.specs.Memory.{HoldsValue, HoldsPresent, ValuesHold, call_cells_at, call_states_at, call_bodies_at}
 use Rattle.safety.specs.TwoRuns.{Passes, ListedLengths, TwoRuns, both_refused, both_ran, two_runs, checked_holds}
 
@@ -130,14 +130,14 @@ listed =
 
 unfoldable pub WitnessRuns : Type 0
 WitnessRuns =
-    TwoRuns witness_inputs 9 fives sevens (checked_result (run_answer.Finished 4) (none_open speed_cells speed_states) speed_bodies)
-    sixes (replicate layout_length 8) (erased_result (run_answer.Finished 4) (none_open speed_cells speed_states) witness_layout)
+    TwoRuns witness_inputs 9 fives sevens (checked_result (Ok (run_end.Finished 4)) (none_open speed_cells speed_states) speed_bodies)
+    sixes (replicate layout_length 8) (erased_result (Ok (run_end.Finished 4)) (none_open speed_cells speed_states) witness_layout)
 
 pub witness_two_runs : WitnessRuns
 unfolding WitnessRuns
 witness_two_runs =
     two_runs witness_inputs 9 fives sevens sixes (replicate layout_length 8)
-    (checked_result (run_answer.Finished 4) (none_open speed_cells speed_states) speed_bodies) (erased_result (run_answer.Finished 4) (none_open speed_cells speed_states) witness_layout)
+    (checked_result (Ok (run_end.Finished 4)) (none_open speed_cells speed_states) speed_bodies) (erased_result (Ok (run_end.Finished 4)) (none_open speed_cells speed_states) witness_layout)
     (unfold checked_result run_meaning in sym checked_gives) (unfold erased_result run_meaning in sym erased_gives) witness_passes
     listed
 
@@ -217,14 +217,14 @@ pace_yoke = refl
 -- so the claim speaks of the open call, and says of PACE what it says of a filled variable
 unfoldable pub CallRuns : Type 0
 CallRuns =
-    TwoRuns call_inputs 2 fives sevens (checked_result (run_answer.Out 0 0 2) one_open pace_bodies)
-    sixes (replicate layout_length 8) (erased_result (run_answer.Out 0 0 2) one_open call_layout)
+    TwoRuns call_inputs 2 fives sevens (checked_result (Ok (run_end.Out None 2)) one_open pace_bodies)
+    sixes (replicate layout_length 8) (erased_result (Ok (run_end.Out None 2)) one_open call_layout)
 
 pub call_two_runs : CallRuns
 unfolding CallRuns
 call_two_runs =
     two_runs call_inputs 2 fives sevens sixes (replicate layout_length 8)
-    (checked_result (run_answer.Out 0 0 2) one_open pace_bodies) (erased_result (run_answer.Out 0 0 2) one_open call_layout)
+    (checked_result (Ok (run_end.Out None 2)) one_open pace_bodies) (erased_result (Ok (run_end.Out None 2)) one_open call_layout)
     (unfold checked_result run_meaning in sym call_checked) (unfold erased_result run_meaning in sym call_erased) call_passes
     listed
 
