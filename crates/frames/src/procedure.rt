@@ -6,8 +6,7 @@ ghost use Rattle.decoder.specs.Tables.{IsTable, IsProcedure};
 ghost use Rattle.frames.specs.Meaning.{HeadsOf};
 
 use decoder::fields::{a_at, b_at, c_at};
-use decoder::procedures::Procedure;
-use decoder::tables::Table;
+use decoder::tables::{Procedure, Table};
 use lingua::sizes::VARIABLE_TABLE;
 
 pub fn procedure_in(rows: &[u8], heads: &[usize], k: usize) -> Procedure

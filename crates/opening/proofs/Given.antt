@@ -22,7 +22,7 @@ use Rattle.safety.specs.Layout.{HoldsIn}
 use Rattle.decoder.specs.Tables.{IsProcedure}
 use Rattle.decoder.specs.Decoded.{instruction_meaning}
 use Rattle.decoder.specs.declared.decode.InstructionRow.TheVariants as does
-use Rattle.decoder.specs.declared.procedures.Procedure.{Procedure}
+use Rattle.decoder.specs.declared.tables.Procedure.{Procedure}
 use Rattle.profile.specs.Facts.{CallFacts, call_facts, InstructionFacts, instruction_row_tree, instruction_row_tree_lem}
 use Rattle.run.specs.Reached.{Lent}
 use Rattle.frames.specs.declared.way.Way.{Way}

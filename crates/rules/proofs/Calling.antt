@@ -15,7 +15,7 @@ use Rattle.decoder.specs.Decoded.{instruction_meaning}
 use Rattle.decoder.specs.Mentions.{InstructionAlike}
 use Rattle.decoder.specs.declared.decode.InstructionRow.{InstructionRow}
 use Rattle.decoder.specs.declared.decode.InstructionRow.TheVariants as row
-use Rattle.decoder.specs.declared.procedures.Procedure.{Procedure}
+use Rattle.decoder.specs.declared.tables.Procedure.{Procedure}
 use Rattle.decoder.specs.declared.tables.Table.{Table}
 use Rattle.decoder.specs.declared.tables.Tables.{Tables}
 use Rattle.decoder.proofs.Short.{all_append}

@@ -17,7 +17,7 @@ use Rattle.lingua.specs.Rows.{pair_count}
 use Rattle.lingua.specs.Format.{File, profile, limits}
 use Rattle.lingua.specs.Rules.{form_wrong, count_wrong, name_wrong, constant_wrong}
 use Rattle.lingua.specs.Refusal.{Rule, rule, rank, place_in, lowest, row_rules}
-use Rattle.decoder.specs.Tables.{AreTables, Sized}
+use Rattle.decoder.specs.Tables.{AreTables, OldSized}
 use Rattle.rules.specs.Accepted.{counts}
 use Rattle.rules.specs.Refusals.{link_rules, Linked, Judged}
 use Rattle.decoder.specs.declared.tables.Tables.{Tables}
@@ -53,7 +53,7 @@ later_behind profile rows = record { form = refl; count = refl; name = refl; con
 later_behind limits rows = record { form = refl; count = refl; name = refl; constant = refl }
 
 -- ---- what rule 7 lets through
-pub sized : (rows : List ℕ) (t : Tables) → AreTables rows t → count_wrong profile rows ≡ false → Sized t
+pub sized : (rows : List ℕ) (t : Tables) → AreTables rows t → count_wrong profile rows ≡ false → OldSized t
 unfolding pair_count
 sized rows t h e =
     let c = counts rows e in

@@ -2,7 +2,7 @@
 use Rattle.std.specs.Prelude.{◌≡◌, true, List, ℕ, ◌≤◌, ltb}
 use Rattle.lingua.specs.Numbers.{most_procedures}
 use Rattle.lingua.specs.References.{on_call, rows_refer}
-use Rattle.decoder.specs.Tables.{AreTables, Sized}
+use Rattle.decoder.specs.Tables.{AreTables, OldSized}
 use Rattle.decoder.specs.Decoded.{instruction_meaning}
 use Rattle.decoder.specs.declared.decode.InstructionRow.{InstructionRow as CodeInstruction}
 use Rattle.decoder.specs.declared.tables.Tables.{Tables}
@@ -10,7 +10,7 @@ use Rattle.decoder.specs.declared.tables.Tables.{Tables}
 -- what rows name by number is there
 pub record Scoped (rows : List ℕ) (t : Tables) : Type 0 where
   pub tables : AreTables rows t
-  pub sized : Sized t
+  pub sized : OldSized t
   pub refers : rows_refer rows ≡ true
 
 -- a row that calls names a procedure

@@ -7,10 +7,10 @@ ghost use Rattle.lingua.specs.Rows.{table_count, procedure_count, expression_row
 ghost use Rattle.lingua.specs.Trees.{expression_tree};
 ghost use Rattle.lingua.specs.Format.{every_below};
 ghost use Rattle.lingua.specs.References.{declared_roots, reference_wrong, place_wrong};
-ghost use Rattle.decoder.specs.Tables.{IsTable, AreTables, Sized};
+ghost use Rattle.decoder.specs.Tables.{IsTable, AreTables, OldSized};
 ghost use Rattle.decoder.specs.Mentions.{listed};
 ghost use Rattle.decoder.specs.Decoded.{expression_meaning};
-ghost use Rattle.decoder.specs.Reads.{reads, reads_row, Marked, PlacesMarked};
+ghost use Rattle.decoder.specs.Reads.{reads, reads_row, Marked, OldPlacesMarked};
 
 use decoder::decode::ExpressionRow;
 use decoder::fields::b_at;
@@ -80,7 +80,7 @@ fn readers(rows: &[u8], t: Table, variable: bool) -> [bool; MOST_EXPRESSIONS]
 
 // No yoke that a scope declares reads a variable.
 fn declared_fit(rows: &[u8], t: Tables, marks: &[bool; MOST_EXPRESSIONS], s: usize) -> bool
-    requires places_marked { PlacesMarked rows.now t true marks.now }
+    requires places_marked { OldPlacesMarked rows.now t true marks.now }
     requires s_le_count { s ≤ t.procedures.count }
     ensures { result ≡ all_of (λ r. not (reads true (expression_tree rows.now r))) (declared_roots rows.now s) }
 {
@@ -98,7 +98,7 @@ fn declared_fit(rows: &[u8], t: Tables, marks: &[bool; MOST_EXPRESSIONS], s: usi
 
 // Those of the profile and of each procedure.
 fn scopes_fit(rows: &[u8], t: Tables, marks: &[bool; MOST_EXPRESSIONS]) -> bool
-    requires { PlacesMarked rows.now t true marks.now }
+    requires { OldPlacesMarked rows.now t true marks.now }
     ensures { result ≡ every_below (suc (procedure_count rows.now)) (λ s. all_of (λ r. not (reads true (expression_tree rows.now r))) (declared_roots rows.now s)) }
 {
     (0..t.procedures.count + 1).all(|s| declared_fit(rows, t, marks, s))
@@ -106,7 +106,7 @@ fn scopes_fit(rows: &[u8], t: Tables, marks: &[bool; MOST_EXPRESSIONS]) -> bool
 
 // No yoke that is set reads a variable.
 fn set_fit(rows: &[u8], t: Tables, marks: &[bool; MOST_EXPRESSIONS]) -> bool
-    requires { PlacesMarked rows.now t true marks.now }
+    requires { OldPlacesMarked rows.now t true marks.now }
     ensures { result ≡ every_below (table_count rows.now instruction_section) (λ i. all_of (λ r. not (reads true (expression_tree rows.now r))) (yoke_set (instruction_row rows.now i))) }
 {
     let instructions = t.instructions;
@@ -122,7 +122,7 @@ fn set_fit(rows: &[u8], t: Tables, marks: &[bool; MOST_EXPRESSIONS]) -> bool
 
 // No expression that an instruction evaluates reads the current value.
 fn evaluated_fit(rows: &[u8], t: Tables, marks: &[bool; MOST_EXPRESSIONS]) -> bool
-    requires { PlacesMarked rows.now t false marks.now }
+    requires { OldPlacesMarked rows.now t false marks.now }
     ensures { result ≡ every_below (table_count rows.now instruction_section) (λ i. all_of (λ r. not (reads false (expression_tree rows.now r))) (evaluated (instruction_row rows.now i))) }
 {
     let instructions = t.instructions;
@@ -138,7 +138,7 @@ fn evaluated_fit(rows: &[u8], t: Tables, marks: &[bool; MOST_EXPRESSIONS]) -> bo
 
 pub fn place_wrong(rows: &[u8], t: Tables) -> bool
     requires are_tables { AreTables rows.now t }
-    requires sized { Sized t }
+    requires sized { OldSized t }
     requires rows_value { reference_wrong rows.now ≡ false }
     ensures { result ≡ place_wrong rows.now }
 {

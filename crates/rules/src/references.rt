@@ -5,7 +5,7 @@ ghost use Rattle.lingua.specs.Numbers.{type_section, expression_section, instruc
 ghost use Rattle.lingua.specs.Rows.{table_count, procedure_count, body_row, type_row, expression_row, operands};
 ghost use Rattle.lingua.specs.Format.{every_below};
 ghost use Rattle.lingua.specs.References.{all_below, type_parts, on_call, declaration_refers, declarations_refer, instruction_refers, rows_refer, reference_wrong};
-ghost use Rattle.decoder.specs.Tables.{IsTable, AreTables, Sized};
+ghost use Rattle.decoder.specs.Tables.{IsTable, AreTables, OldSized};
 ghost use Rattle.decoder.specs.Decoded.{instruction_meaning};
 
 use crate::variables::variables_wrong;
@@ -103,7 +103,7 @@ fn instructions_refer(rows: &[u8], t: Tables) -> bool
 // No procedure's body is the program.
 fn bodies_refer(rows: &[u8], t: Tables) -> bool
     requires are_tables { AreTables rows.now t }
-    requires sized { Sized t }
+    requires sized { OldSized t }
     ensures { result ≡ every_below (procedure_count rows.now) (λ k. ltb (body_row rows.now k) (pred (table_count rows.now instruction_section))) }
 {
     let last = t.instructions.count - 1;
@@ -112,7 +112,7 @@ fn bodies_refer(rows: &[u8], t: Tables) -> bool
 
 fn rows_refer(rows: &[u8], t: Tables) -> bool
     requires are_tables { AreTables rows.now t }
-    requires sized { Sized t }
+    requires sized { OldSized t }
     ensures { result ≡ rows_refer rows.now }
 {
     scopes_refer(rows, t)
@@ -124,7 +124,7 @@ fn rows_refer(rows: &[u8], t: Tables) -> bool
 
 pub fn reference_wrong(rows: &[u8], t: Tables) -> bool
     requires are_tables { AreTables rows.now t }
-    requires sized { Sized t }
+    requires sized { OldSized t }
     ensures { result ≡ reference_wrong rows.now }
 {
     !rows_refer(rows, t) || variables_wrong(rows, t)

@@ -7,7 +7,7 @@ ghost use Rattle.lingua.specs.Trees.{tabulate};
 ghost use Rattle.lingua.specs.Typing.{joined};
 ghost use Rattle.lingua.specs.Format.{every_below};
 ghost use Rattle.lingua.specs.References.{yoke_in, declared_roots, occurrences, expression_uses, instruction_uses, use_wrong};
-ghost use Rattle.decoder.specs.Tables.{IsTable, AreTables, Sized};
+ghost use Rattle.decoder.specs.Tables.{IsTable, AreTables, OldSized};
 ghost use Rattle.decoder.specs.Mentions.{listed, mentioned_by};
 ghost use Rattle.rules.specs.Uses.{Counted};
 
@@ -104,7 +104,7 @@ fn all_once(uses: &[u8; MOST_EXPRESSIONS], n: usize) -> bool
 
 fn expressions_once(rows: &[u8], t: Tables) -> bool
     requires are_tables { AreTables rows.now t }
-    requires sized { Sized t }
+    requires sized { OldSized t }
     ensures { result ≡ every_below (table_count rows.now expression_section) (λ r. eqb (occurrences r (expression_uses rows.now)) 1) }
 {
     let mut uses = [0u8; MOST_EXPRESSIONS];
@@ -120,7 +120,7 @@ fn expressions_once(rows: &[u8], t: Tables) -> bool
 // The last instruction row is the program, and no row names it.
 fn instructions_once(rows: &[u8], t: Tables) -> bool
     requires are_tables { AreTables rows.now t }
-    requires sized { Sized t }
+    requires sized { OldSized t }
     ensures { result ≡ every_below (pred (table_count rows.now instruction_section)) (λ r. eqb (occurrences r (instruction_uses rows.now)) 1) }
 {
     let mut uses = [0u8; MOST_EXPRESSIONS];
@@ -132,7 +132,7 @@ fn instructions_once(rows: &[u8], t: Tables) -> bool
 
 pub fn use_wrong(rows: &[u8], t: Tables) -> bool
     requires are_tables { AreTables rows.now t }
-    requires sized { Sized t }
+    requires sized { OldSized t }
     ensures { result ≡ use_wrong rows.now }
 {
     !expressions_once(rows, t) || !instructions_once(rows, t)

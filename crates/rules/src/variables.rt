@@ -5,7 +5,7 @@ ghost use Rattle.lingua.specs.Rows.{table_count, expression_row};
 ghost use Rattle.lingua.specs.Trees.{given_values, given_references, instruction_scope, expression_scope};
 ghost use Rattle.lingua.specs.Format.{every_below};
 ghost use Rattle.lingua.specs.References.{all_below, expression_variables, on_call, variables_seen, variables_fit, variables_wrong, rows_refer};
-ghost use Rattle.decoder.specs.Tables.{AreTables, Sized, Described};
+ghost use Rattle.decoder.specs.Tables.{AreTables, OldSized, Described};
 ghost use Rattle.decoder.specs.Decoded.{instruction_meaning};
 ghost use Rattle.scopes.specs.Marks.{InstructionScopes, ExpressionScopes};
 ghost use Rattle.rules.specs.Calls.{Scoped, Calls};
@@ -84,7 +84,7 @@ fn instructions_fit(rows: &[u8], t: Tables, scopes: &[u8; MOST_INSTRUCTIONS]) ->
 
 pub fn variables_wrong(rows: &[u8], t: Tables) -> bool
     requires are_tables { AreTables rows.now t }
-    requires sized { Sized t }
+    requires sized { OldSized t }
     requires rows_value { rows_refer rows.now ≡ true }
     ensures { result ≡ variables_wrong rows.now }
 {

@@ -2,7 +2,7 @@
 -- filled under a yoke of its own and under a limit, an error is met, and a handler clears it. A second pair, whose runs are out with a call open,
 -- in which a variable is filled under a yoke. And a pair that does not pass, whose checked run leaves a variable with another body than the
 -- declared one. Assumes nothing.
-use Rattle.std.specs.Prelude.{◌≡◌, refl, List, [], ◌∷◌, ◌++◌, ℕ, zero, suc, ◌-◌, ◌*◌, ◌<◌, length, get_or, take, drop, replicate, ℤ, pos}
+use Rattle.std.specs.Prelude.{Ok, None, ◌≡◌, refl, List, [], ◌∷◌, ◌++◌, ℕ, zero, suc, ◌-◌, ◌*◌, ◌<◌, length, get_or, take, drop, replicate, ℤ, pos}
 use Rattle.std.proofs.Math.Path.{sym}
 use Rattle.std.proofs.Common.{ap, arith}
 use Rattle.std.proofs.Math.Option.{some}

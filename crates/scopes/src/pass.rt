@@ -5,7 +5,7 @@ ghost use Rattle.std.specs.Prelude.{◌≡◌, true, [], ◌∷◌, ◌<◌, len
 ghost use Rattle.lingua.specs.Numbers.{expression_section, instruction_section};
 ghost use Rattle.lingua.specs.Rows.{table_count, procedure_count};
 ghost use Rattle.lingua.specs.References.{rows_refer};
-ghost use Rattle.decoder.specs.Tables.{AreTables, Sized};
+ghost use Rattle.decoder.specs.Tables.{AreTables, OldSized};
 ghost use Rattle.decoder.specs.Mentions.{listed};
 ghost use Rattle.scopes.specs.Marks.{Nearer, Within, Marked, Ready, Owned, Used, InstructionScopes, ExpressionScopes};
 
@@ -78,7 +78,7 @@ fn mark_parts(scopes: &mut [u8], rows: &[u8], t: Tables)
 
 pub fn instruction_scopes(rows: &[u8], t: Tables) -> [u8; MOST_INSTRUCTIONS]
     requires are_tables { AreTables rows.now t }
-    requires sized { Sized t }
+    requires sized { OldSized t }
     requires rows_value { rows_refer rows.now ≡ true }
     ensures { InstructionScopes rows.now result }
 {
@@ -124,7 +124,7 @@ pub fn expression_scopes(
     owners: &[u8; MOST_INSTRUCTIONS],
 ) -> [u8; MOST_EXPRESSIONS]
     requires are_tables { AreTables rows.now t }
-    requires sized { Sized t }
+    requires sized { OldSized t }
     requires rows_value { rows_refer rows.now ≡ true }
     requires instruction_scopes { InstructionScopes rows.now owners.now }
     ensures { ExpressionScopes rows.now result }

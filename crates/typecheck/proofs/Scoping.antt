@@ -16,7 +16,7 @@ use Rattle.lingua.specs.References.{yoke_in}
 use Rattle.safety.specs.Constants.{ClosedYoke}
 use Rattle.safety.specs.Accepted.{AcceptedRows, few_variables, scope_root, scope_closed}
 use Rattle.safety.specs.ProfileScopes.{scope_declaration, scope_declarations_lem}
-use Rattle.decoder.specs.Tables.{IsTable, Described, Sized}
+use Rattle.decoder.specs.Tables.{IsTable, Described, OldSized}
 use Rattle.decoder.specs.declared.tables.Table.{Table}
 use Rattle.decoder.specs.declared.tables.Tables.{Tables}
 use Rattle.scopes.specs.Marks.{InstructionScopes}
@@ -39,7 +39,7 @@ module _ {rows bodies : List ℕ} {t : Tables} (ready : Ready rows t bodies) whe
   pub described : Described t
   described = record { rows = rows; tables = ready.tables; few = few_procedures_lem }
 
-  pub sized : Sized t
+  pub sized : OldSized t
   sized =
       let c = counts rows ready.accepted.counts in
       record {
