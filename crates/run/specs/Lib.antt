@@ -7,3 +7,4 @@ pub mod Begun
 pub mod Kept
 pub mod Memory
 pub mod Started
+pub mod Lending
