@@ -120,7 +120,7 @@ module _ (rows limits : List ℕ) where
         };
       }
 
-  module _ (u : Table) (read : LimitsRead limits u) (count : u.count / 2 ≡ pair_count limits limit_section) where
+  module _ (u : Table) (read : LimitsRead limits) (count : u.count / 2 ≡ pair_count limits limit_section) where
     pub limits_wrong : (l : ℕ) (o : Option ℕ) → o ≡ None → OwnerIs o rows limits l → l < u.count / 2 → true ≡ limit_wrong rows limits
     unfolding limit_wrong OwnerIs
     limits_wrong l o e h k =
@@ -131,7 +131,7 @@ module _ (rows limits : List ℕ) where
       unfolding limit_wrong
       limits_right = none_wrong (pair_count limits limit_section) l (λ j. limit_fits rows limits j) h.fit (all ∙ count)
 
-      pub all_owned : LimitsOwned rows limits u owners
+      pub all_owned : LimitsOwned rows limits owners
       all_owned = record { read = read; owners_are = subst (λ (n : ℕ). OwnersBelow rows limits owners n) (all ∙ count) h.owners_are }
 
 -- ---- readings

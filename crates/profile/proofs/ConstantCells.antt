@@ -139,24 +139,25 @@ module _ (rows : List ℕ) (t : Table) (r : ℕ) (h : IsTable rows expression_se
         ap (λ (j : Simple). row_constant_fits (constant_row (constant_meaning rows (t.start + r) j))) (sym p) ∙ (ap row_constant_fits (sym (row_is row)) ∙ f) in
         ap (padded_by is_character) k ∙ and_right (leb (length (bytes_at rows (t.start + r))) word_length) (padded_by is_character (bytes_at rows (t.start + r))) g
 
-    -- ---- bodies
-    held : (k : Simple) (b : Body) (out : List ℕ) → s ≡ k → simple_meaning k ≡ b → out ≡ encoded b → size b ≡ 1 → nodes b ≡ 1 → Holds out (constant_of rows r).body
-    unfolding ConstantSays constant_of
-    held k b out e q o u v =
-        subst (λ (c : Body). Holds out c) (sym (says.body ∙ (ap simple_meaning e ∙ q))) (record { is = o; few_cells = omega arith; few_nodes = omega arith })
+-- ---- bodies
+module _ (rows : List ℕ) (r : ℕ) (s : Simple) (says : ConstantSays rows r s) where
+  held : (k : Simple) (b : Body) (out : List ℕ) → s ≡ k → simple_meaning k ≡ b → out ≡ encoded b → size b ≡ 1 → nodes b ≡ 1 → Holds out (constant_of rows r).body
+  unfolding ConstantSays constant_of
+  held k b out e q o u v =
+      subst (λ (c : Body). Holds out c) (sym (says.body ∙ (ap simple_meaning e ∙ q))) (record { is = o; few_cells = omega arith; few_nodes = omega arith })
 
-    pub body_boolean : (out : List ℕ) → s ≡ simple.Boolean → out ≡ pad body_bytes 0 (1 ∷ []) → Holds out (constant_of rows r).body
-    unfolding encoded bytes size nodes simple_meaning
-    body_boolean out p k = held simple.Boolean boolean out p refl k refl refl
+  pub body_boolean : (out : List ℕ) → s ≡ simple.Boolean → out ≡ pad body_bytes 0 (1 ∷ []) → Holds out (constant_of rows r).body
+  unfolding encoded bytes size nodes simple_meaning
+  body_boolean out p k = held simple.Boolean boolean out p refl k refl refl
 
-    pub body_number : (out : List ℕ) → s ≡ simple.Number → out ≡ pad body_bytes 0 (2 ∷ []) → Holds out (constant_of rows r).body
-    unfolding encoded bytes size nodes simple_meaning
-    body_number out p k = held simple.Number number out p refl k refl refl
+  pub body_number : (out : List ℕ) → s ≡ simple.Number → out ≡ pad body_bytes 0 (2 ∷ []) → Holds out (constant_of rows r).body
+  unfolding encoded bytes size nodes simple_meaning
+  body_number out p k = held simple.Number number out p refl k refl refl
 
-    pub body_word : (out : List ℕ) → s ≡ simple.Word → out ≡ pad body_bytes 0 (3 ∷ []) → Holds out (constant_of rows r).body
-    unfolding encoded bytes size nodes simple_meaning
-    body_word out p k = held simple.Word word out p refl k refl refl
+  pub body_word : (out : List ℕ) → s ≡ simple.Word → out ≡ pad body_bytes 0 (3 ∷ []) → Holds out (constant_of rows r).body
+  unfolding encoded bytes size nodes simple_meaning
+  body_word out p k = held simple.Word word out p refl k refl refl
 
-    pub body_hundredths : (out : List ℕ) → s ≡ simple.Hundredths → out ≡ pad body_bytes 0 (7 ∷ []) → Holds out (constant_of rows r).body
-    unfolding encoded bytes size nodes simple_meaning
-    body_hundredths out p k = held simple.Hundredths hundredths out p refl k refl refl
+  pub body_hundredths : (out : List ℕ) → s ≡ simple.Hundredths → out ≡ pad body_bytes 0 (7 ∷ []) → Holds out (constant_of rows r).body
+  unfolding encoded bytes size nodes simple_meaning
+  body_hundredths out p k = held simple.Hundredths hundredths out p refl k refl refl

@@ -1,5 +1,5 @@
 -- A word's bytes in one number: zeros behind the characters add nothing, so all eight bytes are taken. Assumes nothing.
-use mathlib.Core.Path.{◌≡◌, refl, ap, ◌∙◌}
+use mathlib.Core.Path.{◌≡◌, refl, sym, ap, ◌∙◌}
 use mathlib.Core.Bool.{Bool, true, false, ◌&&◌}
 use mathlib.Core.List.{List, [], ◌∷◌}
 use Prim.Native.Nat.{ℕ, zero, suc, ◌+◌, ◌*◌, ◌^◌, ◌<◌}
@@ -48,7 +48,7 @@ packed_from n k cs =
     ∙ ap (λ (m : ℕ). m * 256 ^ n + packed_in n (drop 1 (drop k cs))) (get_or-drop k cs 0 0 ∙ ap (λ (j : ℕ). get_or cs j 0) (add-zero k))
     ∙ ap (λ (l : List ℕ). get_or cs k 0 * 256 ^ n + packed_in n l) (drop-drop 1 k cs)
 
-pub eight : (cs : List ℕ) → packed_in 8 cs ≡ 4294967296 * (16777216 * get_or cs 0 0 + 65536 * get_or cs 1 0 + 256 * get_or cs 2 0 + get_or cs 3 0) + (16777216 * get_or cs 4 0 + 65536 * get_or cs 5 0 + 256 * get_or cs 6 0 + get_or cs 7 0)
+eight : (cs : List ℕ) → packed_in 8 cs ≡ get_or cs 0 0 * 72057594037927936 + get_or cs 1 0 * 281474976710656 + get_or cs 2 0 * 1099511627776 + get_or cs 3 0 * 4294967296 + get_or cs 4 0 * 16777216 + get_or cs 5 0 * 65536 + get_or cs 6 0 * 256 + get_or cs 7 0
 unfolding packed_in
 eight cs =
     let a : packed_in 8 cs ≡ get_or cs 0 0 * 72057594037927936 + packed_in 7 (drop 1 cs) = packed_from 7 0 cs in
@@ -62,11 +62,9 @@ eight cs =
     omega (arith, a, b, c, d, e, f, g, h)
 
 -- the cell of a word
-module _ (p : ℕ → Bool) (cs : List ℕ) (padded : padded_by p cs ≡ true) (high low : ℕ)
-    (eh : high ≡ 16777216 * get_or cs 0 0 + 65536 * get_or cs 1 0 + 256 * get_or cs 2 0 + get_or cs 3 0)
-    (el : low ≡ 16777216 * get_or cs 4 0 + 65536 * get_or cs 5 0 + 256 * get_or cs 6 0 + get_or cs 7 0) where
-  pub word_is : packed_in 8 (until_zero cs) ≡ 4294967296 * high + low
-  word_is = padded_packed p 8 cs padded ∙ (eight cs ∙ (let e : 4294967296 * (16777216 * get_or cs 0 0 + 65536 * get_or cs 1 0 + 256 * get_or cs 2 0 + get_or cs 3 0) + (16777216 * get_or cs 4 0 + 65536 * get_or cs 5 0 + 256 * get_or cs 6 0 + get_or cs 7 0) ≡ 4294967296 * high + low = omega arith in e))
+module _ (p : ℕ → Bool) (cs : List ℕ) (padded : padded_by p cs ≡ true) (n : ℕ) (en : n ≡ get_or cs 0 0 * 72057594037927936 + get_or cs 1 0 * 281474976710656 + get_or cs 2 0 * 1099511627776 + get_or cs 3 0 * 4294967296 + get_or cs 4 0 * 16777216 + get_or cs 5 0 * 65536 + get_or cs 6 0 * 256 + get_or cs 7 0) where
+  pub word_is : packed_in 8 (until_zero cs) ≡ n
+  word_is = padded_packed p 8 cs padded ∙ (eight cs ∙ sym en)
 
-  pub word_half : is_text (until_zero cs) ≡ true → 4294967296 * high + low < 9223372036854775808
+  pub word_half : is_text (until_zero cs) ≡ true → n < 9223372036854775808
   word_half t = omega (arith, word_is, packed_half (until_zero cs) (text_characters (until_zero cs) t))

@@ -9,8 +9,6 @@ use Rattle.lingua.specs.Rows.{pair_count}
 use Rattle.lingua.specs.Trees.{name_at}
 use Rattle.lingua.specs.Lookup.{Lookup, lookup, look_up}
 use Rattle.lingua.specs.Refusal.{names_one, limit_fits}
-use Rattle.decoder.specs.Tables.{IsTable}
-use Rattle.decoder.specs.declared.tables.Table.{Table}
 use Rattle.profile.specs.declared.find.Search.{Search}
 
 abbrev pub found_at : Option ℕ → Maybe ℕ
@@ -34,9 +32,8 @@ unfoldable pub OwnerIs : Option ℕ → List ℕ → List ℕ → ℕ → Type 0
 OwnerIs (Some d) rows limits l = ((look_up rows (name_at limits limit_section l)).found ≡ some d) × (limit_fits rows limits l ≡ true)
 OwnerIs None rows limits l = limit_fits rows limits l ≡ false
 
--- the table of a file's limits, of which there are not too many
-pub record LimitsRead (limits : List ℕ) (u : Table) : Type 0 where
-  pub table : IsTable limits limit_section u
+-- a file's limits, of which there are not too many
+pub record LimitsRead (limits : List ℕ) : Type 0 where
   pub few : pair_count limits limit_section ≤ most_limits
 
 -- the first n limits have their owners: each the variable that the search for its name finds
@@ -44,10 +41,10 @@ pub record OwnersBelow (rows limits owners : List ℕ) (n : ℕ) : Type 0 where
   pub owned : (l : ℕ) → l < n → (look_up rows (name_at limits limit_section l)).found ≡ some (get_or owners l 0)
 
 -- all have, so that no run searches for a name
-pub record LimitsOwned (rows limits : List ℕ) (u : Table) (owners : List ℕ) : Type 0 where
-  pub read : LimitsRead limits u
+pub record LimitsOwned (rows limits : List ℕ) (owners : List ℕ) : Type 0 where
+  pub read : LimitsRead limits
   pub owners_are : OwnersBelow rows limits owners (pair_count limits limit_section)
 
-pub owned_as : {rows rows' limits limits' owners : List ℕ} {u : Table} → rows ≡ rows' → limits ≡ limits' → LimitsOwned rows limits u owners → LimitsOwned rows' limits' u owners
-owned_as {rows} {rows'} {limits} {limits'} {owners} {u} e f h =
-    subst (λ (x : List ℕ). LimitsOwned x limits' u owners) e (subst (λ (x : List ℕ). LimitsOwned rows x u owners) f h)
+pub owned_as : {rows rows' limits limits' owners : List ℕ} → rows ≡ rows' → limits ≡ limits' → LimitsOwned rows limits owners → LimitsOwned rows' limits' owners
+owned_as {rows} {rows'} {limits} {limits'} {owners} e f h =
+    subst (λ (x : List ℕ). LimitsOwned x limits' owners) e (subst (λ (x : List ℕ). LimitsOwned rows x owners) f h)

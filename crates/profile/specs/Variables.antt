@@ -34,9 +34,8 @@ own_scope is = record { scope = 0; there = omega arith; table = is }
 pub own_table : {rows : List ℕ} {s : ℕ} {t : Table} → IsTable rows s t → IsTable rows t.section t
 own_table {rows} {s} {t} is = subst (λ (n : ℕ). IsTable rows n t) (sym is.section) is
 
--- what is known of an accepted profile where its declarations are read: their table, and the bodies of the type rows
-pub record DeclarationsKnown (rows : List ℕ) (t : Table) (bodies : List ℕ) : Type 0 where
-  pub table : IsTable rows declaration_section t
+-- what is known of an accepted profile where its declarations are read: the bodies of the type rows
+pub record DeclarationsKnown (rows : List ℕ) (bodies : List ℕ) : Type 0 where
   pub accepted : AcceptedRows rows
   pub held : BodiesBelow rows bodies (table_count rows type_section)
 
@@ -46,8 +45,8 @@ pub record VariablesKnown (rows : List ℕ) (t : Table) (bodies : List ℕ) : Ty
   pub accepted : AcceptedRows rows
   pub held : BodiesBelow rows bodies (table_count rows type_section)
 
-pub variables_known : {rows : List ℕ} {t : Table} {bodies : List ℕ} → DeclarationsKnown rows t bodies → VariablesKnown rows t bodies
-variables_known k = record { scope = own_scope k.table; accepted = k.accepted; held = k.held }
+pub variables_known : {rows : List ℕ} {t : Table} {bodies : List ℕ} → IsTable rows declaration_section t → DeclarationsKnown rows bodies → VariablesKnown rows t bodies
+variables_known is k = record { scope = own_scope is; accepted = k.accepted; held = k.held }
 
 -- ---- declared bodies and yokes, by the table's number
 pub record DeclaredIs (rows : List ℕ) (s d : ℕ) (x : List ℕ) : Type 0 where

@@ -9,23 +9,17 @@ use Rattle.profile.proofs.Finding.{found_there, none_named, one_named, other_nam
 use mir.ValLaws.{to_z-of_z}
 use Rattle.profile.proofs.agreement.owner_named.Goals as goal
 
-pub find-search-requires-clause-table : goal.find-search-requires-clause-table
-find-search-requires-clause-table c = c.requires.declarations_known.table
-
-pub find-search-requires-clause-name_len : goal.find-search-requires-clause-name_len
-find-search-requires-clause-name_len c = c.requires.name_len
-
 pub returns-in_default : goal.returns-in_default
 returns-in_default c = none_named (ends_fit (limit c.args.low c.args.high)) c.args.rows.now c.args.name.now c.find-search.result c.in_default.is c.find-search.ensures
 
 pub declared_body-body-requires-clause-variables_known : goal.declared_body-body-requires-clause-variables_known
-declared_body-body-requires-clause-variables_known c = (variables_known c.requires.declarations_known)
+declared_body-body-requires-clause-variables_known c = (variables_known c.declarations.ensures c.requires.declarations_known)
 
 pub declared_body-body-requires-clause-d_bound : goal.declared_body-body-requires-clause-d_bound
-declared_body-body-requires-clause-d_bound c = (omega (arith, found_there (ends_fit (limit c.args.low c.args.high)) c.args.rows.now c.args.name.now c.find-search.result _ c.in-Some.is c.find-search.ensures, pairs c.args.rows.now declaration_section c.args.t c.requires.declarations_known.table))
+declared_body-body-requires-clause-d_bound c = (omega (arith, found_there (ends_fit (limit c.args.low c.args.high)) c.args.rows.now c.args.name.now c.find-search.result _ c.in-Some.is c.find-search.ensures, pairs c.args.rows.now declaration_section c.declarations.result c.declarations.ensures))
 
 pub returns-then-ends_fit : goal.returns-then-ends_fit
-returns-then-ends_fit c = one_named (ends_fit (limit c.args.low c.args.high)) c.args.rows.now c.args.name.now c.find-search.result _ c.in-Some.is c.find-search.ensures c.requires.declarations_known.accepted.names c.ends_fit.result (variable_there (ends_fit (limit c.args.low c.args.high)) c.args.rows.now c.args.t _ c.requires.declarations_known.table c.declared_body-body.result c.ends_fit.result (omega (arith, found_there (ends_fit (limit c.args.low c.args.high)) c.args.rows.now c.args.name.now c.find-search.result _ c.in-Some.is c.find-search.ensures, pairs c.args.rows.now declaration_section c.args.t c.requires.declarations_known.table)) c.declared_body-body.ensures (simp (to_z-of_z _ _ c.ranges.low, to_z-of_z _ _ c.ranges.high) at c.ends_fit.ensures)) c.if-ends_fit.true
+returns-then-ends_fit c = one_named (ends_fit (limit c.args.low c.args.high)) c.args.rows.now c.args.name.now c.find-search.result _ c.in-Some.is c.find-search.ensures c.requires.declarations_known.accepted.names c.ends_fit.result (variable_there (ends_fit (limit c.args.low c.args.high)) c.args.rows.now c.declarations.result _ c.declarations.ensures c.declared_body-body.result c.ends_fit.result (omega (arith, found_there (ends_fit (limit c.args.low c.args.high)) c.args.rows.now c.args.name.now c.find-search.result _ c.in-Some.is c.find-search.ensures, pairs c.args.rows.now declaration_section c.declarations.result c.declarations.ensures)) c.declared_body-body.ensures (simp (to_z-of_z _ _ c.ranges.low, to_z-of_z _ _ c.ranges.high) at c.ends_fit.ensures)) c.if-ends_fit.true
 
 pub returns : goal.returns
-returns c = other_named (ends_fit (limit c.args.low c.args.high)) c.args.rows.now c.args.name.now c.find-search.result _ c.in-Some.is c.find-search.ensures c.requires.declarations_known.accepted.names c.ends_fit.result (variable_there (ends_fit (limit c.args.low c.args.high)) c.args.rows.now c.args.t _ c.requires.declarations_known.table c.declared_body-body.result c.ends_fit.result (omega (arith, found_there (ends_fit (limit c.args.low c.args.high)) c.args.rows.now c.args.name.now c.find-search.result _ c.in-Some.is c.find-search.ensures, pairs c.args.rows.now declaration_section c.args.t c.requires.declarations_known.table)) c.declared_body-body.ensures (simp (to_z-of_z _ _ c.ranges.low, to_z-of_z _ _ c.ranges.high) at c.ends_fit.ensures)) c.if-ends_fit.false
+returns c = other_named (ends_fit (limit c.args.low c.args.high)) c.args.rows.now c.args.name.now c.find-search.result _ c.in-Some.is c.find-search.ensures c.requires.declarations_known.accepted.names c.ends_fit.result (variable_there (ends_fit (limit c.args.low c.args.high)) c.args.rows.now c.declarations.result _ c.declarations.ensures c.declared_body-body.result c.ends_fit.result (omega (arith, found_there (ends_fit (limit c.args.low c.args.high)) c.args.rows.now c.args.name.now c.find-search.result _ c.in-Some.is c.find-search.ensures, pairs c.args.rows.now declaration_section c.declarations.result c.declarations.ensures)) c.declared_body-body.ensures (simp (to_z-of_z _ _ c.ranges.low, to_z-of_z _ _ c.ranges.high) at c.ends_fit.ensures)) c.if-ends_fit.false
