@@ -13,6 +13,7 @@ use crate::tables::{Procedure, Table, Tables, tables_of};
 use lingua::sizes::{ROW_BYTES, VARIABLE_TABLE};
 use std::marker::Model;
 
+#[derive(Drop)]
 pub struct Rows<'a> {
     bytes: &'a [u8],
     tables: Tables,
