@@ -83,7 +83,8 @@ pub fn type_at(rows: &[u8], i: usize) -> Decoded<TypeRow>
     }
 }
 
-// Row i, an expression's.
+// Row i, an expression's. It is drawn into its callers, which then build no pair: else a step takes up to twice the instructions.
+#[inline(always)]
 pub fn expression_at(rows: &[u8], i: usize) -> Decoded<ExpressionRow>
     requires { 10 * i + 10 ≤ length rows.now }
     ensures { ExpressionSays rows.now i result }
