@@ -7,7 +7,7 @@ use native.Mathlib.Omega.{arith}
 use lib.Dec.{eqb}
 use lib.ListN.{length, take}
 use borrow.Author.Tests.{eq-eqb, ne_eqb, lt-ltb, le-ltb}
-use Rattle.lingua.specs.Numbers.{most_limits, declaration_section, type_section, limit_section}
+use Rattle.lingua.specs.Numbers.{most_limits, type_section, limit_section}
 use Rattle.std.specs.Prelude.{Result, Ok, Err}
 use Rattle.lingua.specs.declared.errors.Refusal.{Refusal}
 use Rattle.lingua.specs.Faults.{refusal_number, refusal_of}
@@ -23,7 +23,7 @@ use Rattle.safety.specs.Accepted.{AcceptedRows, accepted_rows}
 use Rattle.pair.proofs.Returns.{none_of_either, header_there}
 use Rattle.pair.specs.Taken.{RowsTaken, TakenIs}
 use Rattle.pair.specs.declared.file.Taken.{Taken}
-use Rattle.decoder.specs.Tables.{IsTable}
+use Rattle.decoder.specs.Tables.{AreTables}
 use Rattle.rules.specs.Types.{BodiesBelow}
 use Rattle.profile.specs.Find.{LimitsRead, LimitsOwned, owned_as}
 use Rattle.pair.specs.declared.Pair.{Pair}
@@ -156,17 +156,17 @@ module _ (p l : Taken) (prof lims areas others bodies front : List ℕ) (hp : Ta
   pub rows_accepted : AcceptedRows (take p.length areas)
   rows_accepted = subst (λ (rows : List ℕ). AcceptedRows rows) (sym tp.rows) (accepted_file prof (none_of_either profile prof hp.refusal).1)
 
-  pub declarations_there : IsTable (take p.length areas) declaration_section p.tables.declarations
-  declarations_there = subst (λ (rows : List ℕ). IsTable rows declaration_section p.tables.declarations) (sym tp.rows) tp.tables.declarations
+  pub tables_there : AreTables (take p.length areas) p.tables
+  tables_there = subst (λ (rows : List ℕ). AreTables rows p.tables) (sym tp.rows) tp.tables
 
-  named_there : IsTable (take l.length others) limit_section l.tables.limits
-  named_there = subst (λ (rows : List ℕ). IsTable rows limit_section l.tables.limits) (sym tl.rows) tl.tables.limits
+  pub limit_tables_there : AreTables (take l.length others) l.tables
+  limit_tables_there = subst (λ (rows : List ℕ). AreTables rows l.tables) (sym tl.rows) tl.tables
 
   limits_few : pair_count (take l.length others) limit_section ≤ most_limits
   limits_few = subst (λ (rows : List ℕ). pair_count rows limit_section ≤ most_limits) (sym tl.rows) (few_limits (rows_of lims) (none_of_either limits lims hl.refusal).1)
 
-  pub limits_read : LimitsRead (take l.length others) l.tables.limits
-  limits_read = record { table = named_there; few = limits_few }
+  pub limits_read : LimitsRead (take l.length others)
+  limits_read = record { few = limits_few }
 
   pub bodies_there : BodiesBelow (take p.length areas) bodies (table_count (take p.length areas) type_section)
   bodies_there = subst (λ (rows : List ℕ). BodiesBelow rows bodies (table_count rows type_section)) (sym tp.rows) (tp.held refl)
@@ -181,16 +181,17 @@ module _ (p l : Taken) (prof lims areas others bodies front : List ℕ) (hp : Ta
     pub pair_wrong : r ≡ true → bad_limit ≡ lowest (pair_rules prof lims)
     pair_wrong e = pair_limits prof lims 0 0 hp.refusal hl.refusal none_of_two models (sym wrong_is ∙ e)
 
-    pub pair_done : (owners : List ℕ) → (r ≡ false → LimitsOwned (take p.length areas) (take l.length others) l.tables.limits owners) → r ≡ false
-        → PairIs (Ok (record { rows = p.length; limits = l.length; tables = p.tables; named = l.tables.limits; owners = owners })) prof lims areas others bodies
+    pub pair_done : (owners : List ℕ) → (r ≡ false → LimitsOwned (take p.length areas) (take l.length others) owners) → r ≡ false
+        → PairIs (Ok (record { profile = p; limits = l; owners = owners })) prof lims areas others bodies
     pair_done owners owned e =
-        let pair : Pair = record { rows = p.length; limits = l.length; tables = p.tables; named = l.tables.limits; owners = owners } in
+        let pair : Pair = record { profile = p; limits = l; owners = owners } in
         let k : TakenPair pair prof lims areas others bodies = record {
           rows = tp.rows;
           within = tp.within;
           tables = tp.tables;
           limits = tl.rows;
           within_others = tl.within;
+          limit_tables = tl.tables;
           limited = owned_as tp.rows tl.rows (owned e);
           held = tp.held refl;
         } in

@@ -22,8 +22,7 @@ use Rattle.lingua.specs.Rows.{row_count, table_count}
 use Rattle.lingua.specs.Format.{File, profile, limits, block_count, blocks_for, model_of, rows_of, file_of, file_length}
 use Rattle.lingua.specs.Refusal.{rank, place_in, lowest, file_rules, row_rules, whole_file_rules, read_refusal, write_refusal}
 use Rattle.lingua.specs.Answers.{read_meaning, write_meaning}
-use Rattle.lingua.specs.declared.ReadAnswer.TheVariants as read_answer
-use Rattle.lingua.specs.declared.WriteAnswer.TheVariants as write_answer
+use Rattle.lingua.specs.declared.errors.Refusal.TheVariants.{BadBuffer}
 use Rattle.lingua.specs.Calls.{read_unless, read_call, read_result, write_unless, write_call, write_result}
 use Rattle.laws.specs.Files.{blocks_few, file_passes, length_whole, limits_one, profile_some}
 use Rattle.blocks.specs.Blocks.{Gathered}
@@ -36,6 +35,9 @@ use Rattle.pair.specs.declared.file.Taken.{Taken}
 use Rattle.laws.specs.Accepted.{accepted_rows}
 use Rattle.laws.specs.Areas.{count_rows}
 use Rattle.laws.specs.Refusals.{lowest_skip, lowest_first, Decides, first, second, decides, all_above}
+
+pub some_refusal : (e : Refusal) → refusal_number e ≡ 0 → ⊥
+some_refusal e z = let l : 1 ≤ refusal_number e = (refusal_number_counted e).0 in omega arith
 
 -- ---- a file's own rules, then its rows'
 by_parts : (f : File) (file : List ℕ) → Decides 5 (file_rules f file) (row_rules f (rows_of file))
@@ -74,14 +76,14 @@ unfolding whole_file_rules file_rules row_rules all_of rank place_in
 above_one profile file = refl
 above_one limits file = refl
 
-read_as : (f : File) (file buffer : List ℕ) (n m : ℕ) → read_refusal f file buffer ≡ n → n ≡ suc m → read_result (read_answer.Refused n) buffer ≡ read_call f file buffer
+read_as : (f : File) (file buffer : List ℕ) (e : Refusal) (m : ℕ) → read_refusal f file buffer ≡ refusal_number e → refusal_number e ≡ suc m → read_result (Err e) buffer ≡ read_call f file buffer
 unfolding read_result read_call read_unless read_meaning
-read_as f file buffer n m e s = rw (e, s)
+read_as f file buffer e m h s = rw (h, s)
 
-pub read_short : (f : File) (file buffer : List ℕ) → (length buffer ≡ rows_length → ⊥) → read_result (read_answer.Refused 1) buffer ≡ read_call f file buffer
+pub read_short : (f : File) (file buffer : List ℕ) → (length buffer ≡ rows_length → ⊥) → read_result (Err BadBuffer) buffer ≡ read_call f file buffer
 unfolding read_refusal
 read_short f file buffer h =
-    read_as f file buffer 1 0
+    read_as f file buffer BadBuffer 0
     (lowest_first bad_buffer (not (eqb (length buffer) rows_length)) (whole_file_rules f file) (ap not (ne_eqb (length buffer) rows_length h)) (above_one f file)) refl
 
 refusal_is : (f : File) (file buffer : List ℕ) (n : ℕ) → length buffer ≡ rows_length → n ≡ lowest (whole_file_rules f file) → read_refusal f file buffer ≡ n
@@ -89,12 +91,12 @@ unfolding read_refusal
 refusal_is f file buffer n l e =
     lowest_skip bad_buffer (not (eqb (length buffer) rows_length)) (whole_file_rules f file) (ap not (eq-eqb (length buffer) rows_length l)) ∙ sym e
 
-pub read_refused : (f : File) (file buffer : List ℕ) (n : ℕ) → length buffer ≡ rows_length → n ≡ lowest (whole_file_rules f file) → (n ≡ 0 → ⊥)
-    → read_result (read_answer.Refused n) buffer ≡ read_call f file buffer
-read_refused f file buffer n l e h = read_as f file buffer n _ (refusal_is f file buffer n l e) (sym (suc-pred-eq_of_ne-zero h))
+pub read_refused : (f : File) (file buffer : List ℕ) (e : Refusal) → length buffer ≡ rows_length → refusal_number e ≡ lowest (whole_file_rules f file)
+    → read_result (Err e) buffer ≡ read_call f file buffer
+read_refused f file buffer e l h = read_as f file buffer e _ (refusal_is f file buffer (refusal_number e) l h) (sym (suc-pred-eq_of_ne-zero (some_refusal e)))
 
 pub read_done : (f : File) (file buffer out : List ℕ) (model count : ℕ) → length buffer ≡ rows_length → 0 ≡ lowest (whole_file_rules f file)
-    → out ≡ pad rows_length 0 (rows_of file) → model ≡ model_of file → count ≡ row_count (rows_of file) → read_result (read_answer.Rows model count) out ≡ read_call f file buffer
+    → out ≡ pad rows_length 0 (rows_of file) → model ≡ model_of file → count ≡ row_count (rows_of file) → read_result (Ok (record { model = model; count = count })) out ≡ read_call f file buffer
 unfolding read_result read_call read_unless read_meaning
 read_done f file buffer out model count l e p q r = rw (refusal_is f file buffer 0 l e, p, q, r)
 
@@ -104,25 +106,25 @@ unfolding row_rules all_of rank place_in
 rows_above profile rows = refl
 rows_above limits rows = refl
 
-write_as : (f : File) (model : ℕ) (rows buffer : List ℕ) (n m : ℕ) → write_refusal f rows buffer ≡ n → n ≡ suc m
-    → write_result (write_answer.Refused n) buffer ≡ write_call f model rows buffer
+write_as : (f : File) (model : ℕ) (rows buffer : List ℕ) (e : Refusal) (m : ℕ) → write_refusal f rows buffer ≡ refusal_number e → refusal_number e ≡ suc m
+    → write_result (Err e) buffer ≡ write_call f model rows buffer
 unfolding write_result write_call write_unless write_meaning
-write_as f model rows buffer n m e s = rw (e, s)
+write_as f model rows buffer e m h s = rw (h, s)
 
 -- rule 1 of the writer: rows that are no whole tens, or a buffer of another length
 one_applies : (f : File) (model : ℕ) (rows buffer : List ℕ) → (eqb (length rows % row_bytes) 0 && eqb (length buffer) (file_length f (row_count rows))) ≡ false
-    → write_result (write_answer.Refused 1) buffer ≡ write_call f model rows buffer
+    → write_result (Err BadBuffer) buffer ≡ write_call f model rows buffer
 unfolding write_refusal
-one_applies f model rows buffer e = write_as f model rows buffer 1 0 (lowest_first bad_buffer _ (row_rules f rows) (ap not e) (rows_above f rows)) refl
+one_applies f model rows buffer e = write_as f model rows buffer BadBuffer 0 (lowest_first bad_buffer _ (row_rules f rows) (ap not e) (rows_above f rows)) refl
 
 and_false_right : (t : Bool) → (t && false) ≡ false
 and_false_right true = refl
 and_false_right false = refl
 
-pub write_odd : (f : File) (model : ℕ) (rows buffer : List ℕ) → (length rows % row_bytes ≡ 0 → ⊥) → write_result (write_answer.Refused 1) buffer ≡ write_call f model rows buffer
+pub write_odd : (f : File) (model : ℕ) (rows buffer : List ℕ) → (length rows % row_bytes ≡ 0 → ⊥) → write_result (Err BadBuffer) buffer ≡ write_call f model rows buffer
 write_odd f model rows buffer h = one_applies f model rows buffer (rw (ne_eqb (length rows % row_bytes) 0 h))
 
-pub write_other : (f : File) (model : ℕ) (rows buffer : List ℕ) → (length buffer ≡ file_length f (row_count rows) → ⊥) → write_result (write_answer.Refused 1) buffer ≡ write_call f model rows buffer
+pub write_other : (f : File) (model : ℕ) (rows buffer : List ℕ) → (length buffer ≡ file_length f (row_count rows) → ⊥) → write_result (Err BadBuffer) buffer ≡ write_call f model rows buffer
 write_other f model rows buffer h = one_applies f model rows buffer (rw (ne_eqb (length buffer) (file_length f (row_count rows)) h) (and_false_right (eqb (length rows % row_bytes) 0)))
 
 module _ (f : File) (model : ℕ) (rows buffer : List ℕ) (tens : length rows % row_bytes ≡ 0) (room : length buffer ≡ file_length f (row_count rows)) where
@@ -132,10 +134,10 @@ module _ (f : File) (model : ℕ) (rows buffer : List ℕ) (tens : length rows %
       lowest_skip bad_buffer _ (row_rules f rows)
       (rw (eq-eqb (length rows % row_bytes) 0 tens, eq-eqb (length buffer) (file_length f (row_count rows)) room)) ∙ sym e
 
-  pub write_refused : (n : ℕ) → n ≡ lowest (row_rules f rows) → (n ≡ 0 → ⊥) → write_result (write_answer.Refused n) buffer ≡ write_call f model rows buffer
-  write_refused n e h = write_as f model rows buffer n _ (write_refusal_is n e) (sym (suc-pred-eq_of_ne-zero h))
+  pub write_refused : (e : Refusal) → refusal_number e ≡ lowest (row_rules f rows) → write_result (Err e) buffer ≡ write_call f model rows buffer
+  write_refused e h = write_as f model rows buffer e _ (write_refusal_is (refusal_number e) h) (sym (suc-pred-eq_of_ne-zero (some_refusal e)))
 
-  pub write_done : (out : List ℕ) → 0 ≡ lowest (row_rules f rows) → out ≡ file_of f model rows → write_result write_answer.Written out ≡ write_call f model rows buffer
+  pub write_done : (out : List ℕ) → 0 ≡ lowest (row_rules f rows) → out ≡ file_of f model rows → write_result (Ok tt) out ≡ write_call f model rows buffer
   unfolding write_result write_call write_unless write_meaning
   write_done out e p = rw (write_refusal_is 0 e, p)
 
@@ -143,9 +145,6 @@ module _ (f : File) (model : ℕ) (rows buffer : List ℕ) (tens : length rows %
 -- what the exit of a `?` returns
 pub passed_on : {A : Type 0} {e : Refusal} (r : Result A Refusal) → IsErrAnd r (λ d. d ≡ e) → r ≡ Err e
 passed_on r h = let p = err_from_is_err_and r h in rw p.2 at p.1
-
-pub some_refusal : (e : Refusal) → refusal_number e ≡ 0 → ⊥
-some_refusal e z = let l : 1 ≤ refusal_number e = (refusal_number_counted e).0 in omega arith
 
 pub taken_by_file : (f : File) (file areas bodies : List ℕ) {e : Refusal} → refusal_number e ≡ lowest (file_rules f file) → TakenIs (Err e) f file areas bodies
 taken_by_file f file areas bodies {e} h = record { refusal = by_file f file (refusal_number e) h (some_refusal e); taken = λ t q. cc }

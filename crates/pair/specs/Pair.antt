@@ -22,12 +22,13 @@ pub record Room (areas others bodies : List ℕ) : Type 0 where
 
 -- where no rule applies: both files' rows at the front of their areas, their tables, whose each limit is, and the type rows' bodies
 pub record TakenPair (t : Pair) (prof lims areas others bodies : List ℕ) : Type 0 where
-  pub rows : take t.rows areas ≡ rows_of prof
-  pub within : t.rows ≤ length areas
-  pub tables : AreTables (rows_of prof) t.tables
-  pub limits : take t.limits others ≡ rows_of lims
-  pub within_others : t.limits ≤ length others
-  pub limited : LimitsOwned (rows_of prof) (rows_of lims) t.named t.owners
+  pub rows : take t.profile.length areas ≡ rows_of prof
+  pub within : t.profile.length ≤ length areas
+  pub tables : AreTables (rows_of prof) t.profile.tables
+  pub limits : take t.limits.length others ≡ rows_of lims
+  pub within_others : t.limits.length ≤ length others
+  pub limit_tables : AreTables (rows_of lims) t.limits.tables
+  pub limited : LimitsOwned (rows_of prof) (rows_of lims) t.owners
   pub held : BodiesBelow (rows_of prof) bodies (table_count (rows_of prof) type_section)
 
 pub record PairIs (r : Result Pair Refusal) (prof lims areas others bodies : List ℕ) : Type 0 where

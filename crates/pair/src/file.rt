@@ -6,12 +6,13 @@ ghost use Rattle.pair.specs.Taken.{room_for, TakenIs};
 
 use blocks::rows::gather_rows;
 use blocks::rules::file_refusal;
-use decoder::tables::{Tables, tables_of};
+use decoder::rows::Rows;
+use decoder::tables::Tables;
 use lingua::FileKind;
 use lingua::errors::Refusal;
 use rules::refusal::rows_refusal;
 
-// A file's rows are so many bytes, in these tables.
+// A file's rows are so many bytes, in these tables. Who has the area has the rows: `Rows::with` them again.
 #[derive(Clone, Copy)]
 pub struct Taken {
     pub length: usize,
@@ -32,10 +33,10 @@ pub fn take(
 {
     file_refusal(kind, file)?;
     let n = gather_rows(file, &mut *areas);
-    let tables = tables_of(&areas[..n]);
-    rows_refusal(kind, &areas[..n], tables, bodies)?;
+    let rows = Rows::of(&areas[..n]);
+    rows_refusal(kind, &rows, bodies)?;
     Ok(Taken {
         length: n,
-        tables: tables,
+        tables: rows.tables(),
     })
 }

@@ -9,7 +9,7 @@ ghost use Rattle.pair.specs.Pair.{Room, PairIs, BothTaken};
 
 use crate::file::{Taken, take};
 use blocks::words::word16_at;
-use decoder::tables::{Table, Tables};
+use decoder::rows::Rows;
 use lingua::FileKind;
 use lingua::errors::Refusal;
 use lingua::sizes::MOST_LIMITS;
@@ -17,14 +17,11 @@ use profile::agreement::limit_wrong;
 
 pub mod file; // file.rt: one file
 
-// Both files' rows are so many bytes, the profile's in these tables, the limits in this one, and each limit is that of the variable of this
-// number.
+// Both files, and of each limit the number of the variable whose it is.
 #[derive(Clone, Copy)]
 pub struct Pair {
-    pub rows: usize,
-    pub limits: usize,
-    pub tables: Tables,
-    pub named: Table,
+    pub profile: Taken,
+    pub limits: Taken,
     pub owners: [u8; MOST_LIMITS],
 }
 
@@ -43,7 +40,7 @@ fn rank(refusal: Refusal) -> u8
     }
 }
 
-// The earlier of two refusals.
+// The earlier of two refusals. The order is that of document 01 over two files, not the enum's own, and is asked only here: it is no `Ord`.
 fn earlier(a: Refusal, b: Refusal) -> Refusal
     ensures { refusal_number result ≡ lesser (refusal_number a) (refusal_number b) }
 {
@@ -86,23 +83,15 @@ pub fn take_pair(
     if word16_at(profile, 6) != word16_at(limits, 6) {
         return Err(Refusal::ModelsDiffer);
     }
-    let named = l.tables.limits;
+    let rows = Rows::with(&areas[..p.length], p.tables);
+    let limit_rows = Rows::with(&others[..l.length], l.tables);
     let mut owners = [0u8; MOST_LIMITS];
-    if limit_wrong(
-        &areas[..p.length],
-        p.tables.declarations,
-        bodies,
-        &others[..l.length],
-        named,
-        &mut owners,
-    ) {
+    if limit_wrong(&rows, bodies, &limit_rows, &mut owners) {
         return Err(Refusal::BadLimit);
     }
     Ok(Pair {
-        rows: p.length,
-        limits: l.length,
-        tables: p.tables,
-        named: named,
+        profile: p,
+        limits: l,
         owners: owners,
     })
 }
