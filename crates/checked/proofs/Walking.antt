@@ -1,8 +1,10 @@
 -- The walk of an all_list yoke over the elements of the current value. Assumes nothing.
-use mathlib.Core.Path.{◌≡◌, sym, ap, ◌∙◌, subst}
+use mathlib.Core.Path.{◌≡◌, refl, sym, ap, ◌∙◌, subst}
 use mathlib.Core.List.{List, [], ◌∷◌, ◌++◌, map, map-map}
 use mathlib.Core.Option.{Option, some}
-use Prim.Native.Nat.{ℕ, ◌+◌, ◌-◌, ◌*◌, ◌<◌}
+use Prim.Native.Nat.{ℕ, ◌+◌, ◌-◌, ◌*◌, ◌≤◌, ◌<◌}
+use native.Mathlib.Omega.{arith}
+use Rattle.lingua.specs.Numbers.{body_cells}
 use lib.ListN.{length, take, drop, get_or}
 use lib.IntN.{ℤ}
 use Rattle.std.specs.Prelude.{Result}
@@ -17,7 +19,7 @@ use Rattle.laws.specs.Outcomes.{is_list}
 use Rattle.body.specs.Encode.{Holds, Held}
 use Rattle.body.proofs.Tags as tags
 use Rattle.cells.specs.Stack.{Lies}
-use Rattle.cells.proofs.Walking.{Walked, some_cell, walks, element_at, element_lies, gathered_more, gathered_all}
+use Rattle.cells.proofs.Walking.{Walked, counted, some_cell, walks, turn_room, element_at, element_lies, gathered_more, gathered_all}
 use Rattle.checked_row.specs.declared.tally.Tally.{Tally}
 use Rattle.checked_row.specs.Meaning.{Current, HasCurrent, Sees}
 
@@ -50,6 +52,10 @@ module _ {current : List ℤ} {body inner : List ℕ} (h : HasCurrent current bo
   list_walks width m =
       let l = current_list h.is e in
       walks l.lies width (m l.element (taken l.element l.holds)) l.holds.few_cells
+
+  -- element i lies within the list, in the first 64 cells
+  pub list_turn : (width : ℕ) → ((b : Body) → Holds inner b → width ≡ size b) → (i : ℕ) → i < counted current → (1 + i * width + width ≤ body_cells) × (1 + i * width + width ≤ length current)
+  list_turn width m i l = let k = list_walks width m in let t = turn_room i _ _ width refl l k.few in (omega (arith, t, k.room), omega (arith, t, k.long))
 
 -- ---- one element
 pub element_current : {current : List ℤ} {inner : List ℕ} {b : Body} {x : Value} → Lies current 0 (list_of b) x → Holds inner b → (i at w : ℕ) → w ≡ size b → at ≡ 1 + i * w → i < count_values (as_items x)

@@ -1,94 +1,72 @@
 // Yokes, and expressions outside yokes.
 ghost use Rattle.std.specs.Prelude.{List, ◌+◌, ◌*◌, ◌<◌, ◌≤◌, length};
-ghost use Rattle.lingua.specs.Numbers.{body_cells};
+ghost use Rattle.lingua.specs.Numbers.{body_cells, expression_section};
+ghost use Rattle.lingua.specs.Rows.{table_count};
 ghost use Rattle.lingua.specs.Value.{Composite};
 ghost use Rattle.lingua.specs.Store.{Variable, contents};
 ghost use Rattle.lingua.specs.Trees.{expression_tree, yoke_tree};
 ghost use Rattle.lingua.specs.Evaluation.{eval as meaning, eval_yoke, eval_test, no_current};
 ghost use Rattle.run.specs.Reached.{Tells};
+ghost use Rattle.run.specs.Lending.{lent_in};
 ghost use Rattle.checked_row.specs.Meaning.{World, HasWorld, Current, Ready, Gives};
 
 use crate::eval::eval;
 use body::make::simple;
 use body::walk::BOOLEAN;
-use checked_row::answer::{Evaluated, boolean, truth_of};
-use decoder::tables::Table;
+use checked_row::answer::{CurrentValue, Evaluated, boolean, truth_of};
+use decoder::rows::Rows;
 use lingua::errors::Error;
-use lingua::sizes::BODY_BYTES;
+use run::memory::Memory;
 
 // What yoke y gives on a value: 0 is the yoke that is always true, another is the expression of row y - 1.
 pub fn eval_yoke(
-    rows: &[u8],
-    t: Table,
-    variables: &[u8],
-    cells: &[i64],
-    states: &[u16],
+    rows: &Rows,
+    memory: &Memory,
     y: usize,
-    current: &[i64],
-    body: [u8; BODY_BYTES],
+    current: &CurrentValue,
     stack: &mut [i64],
 ) -> Result<Evaluated, Error>
-    requires ready { Ready rows.now t variables.now cells.now states.now current.now body }
-    requires y_le_count { y ≤ t.count }
+    requires ready { Ready rows.now (lent_in memory.now) current.now.cells.now current.now.body }
+    requires y_le_count { y ≤ table_count rows.now expression_section }
     requires y_in_bounds { body_cells * (y + 1) ≤ length stack.old }
-    ensures { (vs : List Variable) (x : Composite) → World rows.now t variables.now cells.now states.now vs → Current current.now body x
+    ensures { (vs : List Variable) (x : Composite) → World rows.now (lent_in memory.now) vs → Current current.now.cells.now current.now.body x
         → Gives result stack.new (eval_yoke (yoke_tree rows.now y) (contents vs) x) }
 {
     if y == 0 {
         return Ok(boolean(true, stack));
     }
-    eval(
-        y - 1,
-        rows,
-        t,
-        variables,
-        cells,
-        states,
-        current,
-        body,
-        stack,
-    )
+    eval(y - 1, rows, memory, current, stack)
 }
 
 // Outside yokes there is no current value, and a Boolean stands for it.
 pub fn eval_plain(
-    rows: &[u8],
-    t: Table,
-    variables: &[u8],
-    cells: &[i64],
-    states: &[u16],
+    rows: &Rows,
+    memory: &Memory,
     row: usize,
     stack: &mut [i64],
 ) -> Result<Evaluated, Error>
-    requires has_world { HasWorld rows.now t variables.now cells.now states.now }
-    requires row_lt_count { row < t.count }
+    requires has_world { HasWorld rows.now (lent_in memory.now) }
+    requires row_lt_count { row < table_count rows.now expression_section }
     requires row_in_bounds { body_cells * (row + 2) ≤ length stack.old }
-    ensures { (vs : List Variable) → World rows.now t variables.now cells.now states.now vs
+    ensures { (vs : List Variable) → World rows.now (lent_in memory.now) vs
         → Gives result stack.new (meaning (expression_tree rows.now row) (contents vs) no_current) }
 {
-    let current = [0i64; 1];
-    let body = simple(BOOLEAN);
-    eval(
-        row, rows, t, variables, cells, states, &current, body, stack,
-    )
+    let cells = [0i64; 1];
+    let none = CurrentValue {
+        cells: &cells,
+        body: simple(BOOLEAN),
+    };
+    eval(row, rows, memory, &none, stack)
 }
 
 // A test's value.
-pub fn eval_test(
-    rows: &[u8],
-    t: Table,
-    variables: &[u8],
-    cells: &[i64],
-    states: &[u16],
-    row: usize,
-    stack: &mut [i64],
-) -> Result<bool, Error>
-    requires has_world { HasWorld rows.now t variables.now cells.now states.now }
-    requires row_lt_count { row < t.count }
+pub fn eval_test(rows: &Rows, memory: &Memory, row: usize, stack: &mut [i64]) -> Result<bool, Error>
+    requires has_world { HasWorld rows.now (lent_in memory.now) }
+    requires row_lt_count { row < table_count rows.now expression_section }
     requires row_in_bounds { body_cells * (row + 2) ≤ length stack.old }
-    ensures { (vs : List Variable) → World rows.now t variables.now cells.now states.now vs
+    ensures { (vs : List Variable) → World rows.now (lent_in memory.now) vs
         → Tells result (eval_test (expression_tree rows.now row) (contents vs)) }
 {
-    let x = eval_plain(rows, t, variables, cells, states, row, &mut *stack);
+    let x = eval_plain(rows, memory, row, &mut *stack);
     truth_of(x, Error::BooleanExpected, stack)
 }

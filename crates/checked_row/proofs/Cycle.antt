@@ -23,18 +23,15 @@ use Rattle.decoder.specs.declared.decode.ExpressionRow.TheVariants as code
 use Rattle.decoder.specs.Decoded.{connective}
 use Rattle.profile.specs.Row.{RowSays}
 use Rattle.profile.specs.Facts.{RowFacts, row_facts, row_tree, row_tree_lem, settled_by_lem}
-use Rattle.decoder.specs.declared.tables.Table.{Table}
+use Rattle.run.specs.Reached.{Lent}
 use Rattle.checked_row.specs.declared.answer.Evaluated.{Evaluated}
 use Rattle.checked_row.specs.Meaning.{World, Gives}
 use Rattle.checked_row.proofs.Giving.{gives_as, told_boolean}
 
 -- ---- what a row says
-module _ {rows : List ℕ} {t : Table} {variables : List ℕ} {cells : List ℤ} {states : List ℕ} {vs : List Variable} {row : ℕ} (w : World rows t variables cells states vs) (l : row < t.count) where
-  pub in_table : row < table_count rows expression_section
-  in_table = omega (arith, w.table.count)
-
+module _ {rows : List ℕ} {m : Lent} {vs : List Variable} {row : ℕ} (w : World rows m vs) (l : row < table_count rows expression_section) where
   pub facts : {d : CodeRow} → RowSays rows row d → RowFacts rows row d
-  facts {d} s = row_facts rows w.accepted row in_table d s
+  facts {d} s = row_facts rows w.accepted row l d s
 
   -- a variable's number is below 16, whosever the variable is
   pub few_named : {n : ℕ} → RowSays rows row (code.Variable n) → n < most_variables

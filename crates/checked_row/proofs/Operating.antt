@@ -52,7 +52,7 @@ unary_no_body o e half a =
     ap (λ (q : Outcome Composite). q >>= apply_unary o) a.is
     ∙ ap (λ (q : Outcome Body). q >>= λ d. unary_value o a.value.value >>= λ v. ok (composite d v)) (half a.value.body a.holds)
 
-module _ (o : Unary) (x : Evaluated) (t : Typed) (s : List ℤ) (half : (b : Body) → Holds x.body b → Half (Ok t) (unary_body o b) (λ d. unary_second o b)) where
+module _ {o : Unary} {x : Evaluated} {t : Typed} {s : List ℤ} (half : (b : Body) → Holds x.body b → Half (Ok t) (unary_body o b) (λ d. unary_second o b)) where
   unary_halved : {p : Outcome Composite} → Answers x s p → Halved o x t s p
   unary_halved a =
       let d = half a.value.body a.holds in
@@ -75,7 +75,7 @@ module _ (o : Unary) (x : Evaluated) (t : Typed) (s : List ℤ) (half : (b : Bod
       ∙ ap (λ (q : Outcome Body). q >>= λ d. unary_value o u.answers.value.value >>= λ v. ok (composite d v)) u.operand.half
 
   -- the values' half
-  module _ (n : ℕ) (after : List ℤ) (leaves : (b d : Body) (v : Value) → Operand o s x.cells t.cells t.offset b d v → Leaves n after d (unary_value o v)) where
+  module _ {n : ℕ} {after : List ℤ} (leaves : (b d : Body) (v : Value) → Operand o s x.cells t.cells t.offset b d v → Leaves n after d (unary_value o v)) where
     pub unary_no_value : {p : Outcome Composite} (e : Error) → n ≡ error_number e → Answers x s p → (p >>= apply_unary o) ≡ fail (error_number e)
     unary_no_value e z a =
         let u = unary_halved a in
@@ -115,7 +115,7 @@ binary_no_body o e half a b =
     both o a b
     ∙ ap (λ (r : Outcome Body). r >>= λ d. binary_value o a.value.value b.value.value >>= λ v. ok (composite d v)) (half a.value.body b.value.body a.holds b.holds)
 
-module _ (o : Binary) (x y : Evaluated) (t : Typed) (s : List ℤ) (half : (b c : Body) → Holds x.body b → Holds y.body c → Half (Ok t) (binary_body o b c) (λ d. binary_second o b c d)) where
+module _ {o : Binary} {x y : Evaluated} {t : Typed} {s : List ℤ} (half : (b c : Body) → Holds x.body b → Holds y.body c → Half (Ok t) (binary_body o b c) (λ d. binary_second o b c d)) where
   both_halved : {p q : Outcome Composite} → Answers x s p → Answers y (drop body_cells s) q → BothHalved o x y t s p q
   both_halved a b =
       let d = half a.value.body b.value.body a.holds b.holds in
@@ -139,7 +139,7 @@ module _ (o : Binary) (x y : Evaluated) (t : Typed) (s : List ℤ) (half : (b c 
       both o u.first u.second
       ∙ ap (λ (r : Outcome Body). r >>= λ d. binary_value o u.first.value.value u.second.value.value >>= λ v. ok (composite d v)) u.operands.half
 
-  module _ (n : ℕ) (after : List ℤ) (leaves : (b c d : Body) (v w : Value) → Operands o s x.cells y.cells t.offset b c d v w → Leaves n after d (binary_value o v w)) where
+  module _ {n : ℕ} {after : List ℤ} (leaves : (b c d : Body) (v w : Value) → Operands o s x.cells y.cells t.offset b c d v w → Leaves n after d (binary_value o v w)) where
     pub binary_no_value : {p q : Outcome Composite} (e : Error) → n ≡ error_number e → Answers x s p → Answers y (drop body_cells s) q → (p >>= λ u. q >>= λ v. apply_binary o u v) ≡ fail (error_number e)
     binary_no_value e z a b =
         let u = both_halved a b in

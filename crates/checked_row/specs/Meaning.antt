@@ -4,15 +4,15 @@ use Rattle.std.proofs.Math.Option.{some}
 use Rattle.lingua.specs.Numbers.{body_cells, body_nodes, expression_section, most_variables, body_bytes}
 use Rattle.lingua.specs.declared.errors.Error.{Error}
 use Rattle.lingua.specs.Faults.{error_number}
+use Rattle.lingua.specs.Rows.{table_count}
 use Rattle.lingua.specs.Outcome.{ok, fail, Result as Outcome, all_answers}
 use Rattle.lingua.specs.Body.{Body, size, nodes, is_boolean}
 use Rattle.lingua.specs.Value.{Composite, all_of, as_truth, pad}
 use Rattle.lingua.specs.Store.{Variable, variable_at, present_body, cells_in, states_in, bodies_in}
 use Rattle.safety.specs.Accepted.{AcceptedRows}
 use Rattle.safety.specs.Constants.{Fitting}
-use Rattle.decoder.specs.Tables.{IsTable}
-use Rattle.decoder.specs.declared.tables.Table.{Table}
 use Rattle.body.specs.Encode.{Holds}
+use Rattle.run.specs.Reached.{Lent}
 use Rattle.cells.specs.Stack.{Lies, first_place}
 use Rattle.checked_row.specs.declared.answer.Evaluated.{Evaluated}
 use Rattle.checked_row.specs.declared.tally.Tally.{Tally}
@@ -38,16 +38,15 @@ pub record HasStored (variables : List ℕ) (cells : List ℤ) (states : List �
   pub stored : Stored variables cells states store
   pub there : n < most_variables
 
--- accepted rows with their table, and a store of some scope's variables: the profile's or those of a call that is open
-pub record World (rows : List ℕ) (t : Table) (variables : List ℕ) (cells : List ℤ) (states : List ℕ) (vs : List Variable) : Type 0 where
+-- accepted rows, and a store of some scope's variables: the profile's or those of a call that is open
+pub record World (rows : List ℕ) (l : Lent) (vs : List Variable) : Type 0 where
   pub accepted : AcceptedRows rows
-  pub table : IsTable rows expression_section t
-  pub stored : Stored variables cells states vs
+  pub stored : Stored l.bodies l.cells l.states vs
 
 -- some such store
-pub record HasWorld (rows : List ℕ) (t : Table) (variables : List ℕ) (cells : List ℤ) (states : List ℕ) : Type 0 where
+pub record HasWorld (rows : List ℕ) (l : Lent) : Type 0 where
   pub store : List Variable
-  pub world : World rows t variables cells states store
+  pub world : World rows l store
 
 -- the current value
 pub record Current (current : List ℤ) (body : List ℕ) (x : Composite) : Type 0 where
@@ -59,15 +58,15 @@ pub record HasCurrent (current : List ℤ) (body : List ℕ) : Type 0 where
   pub is : Current current body value
 
 -- what evaluation asks
-pub record Ready (rows : List ℕ) (t : Table) (variables : List ℕ) (cells : List ℤ) (states : List ℕ) (current : List ℤ) (body : List ℕ) : Type 0 where
+pub record Ready (rows : List ℕ) (l : Lent) (current : List ℤ) (body : List ℕ) : Type 0 where
   pub store : List Variable
-  pub world : World rows t variables cells states store
+  pub world : World rows l store
   pub has : HasCurrent current body
 
 -- what the evaluation of a row asks: the row is in the table, and its own value and those of all rows below find room
-pub record Asked (row : ℕ) (rows : List ℕ) (t : Table) (variables : List ℕ) (cells : List ℤ) (states : List ℕ) (current : List ℤ) (body : List ℕ) (stack : List ℤ) : Type 0 where
-  pub ready : Ready rows t variables cells states current body
-  pub here : row < t.count
+pub record Asked (row : ℕ) (rows : List ℕ) (l : Lent) (current : List ℤ) (body : List ℕ) (stack : List ℤ) : Type 0 where
+  pub ready : Ready rows l current body
+  pub here : row < table_count rows expression_section
   pub room : body_cells * (row + 2) ≤ length stack
 
 -- ---- what evaluation gives

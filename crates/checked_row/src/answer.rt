@@ -20,6 +20,13 @@ pub struct Evaluated {
     pub cells: usize,
 }
 
+// The current value of a yoke: its cells where they lie, and its body.
+#[derive(Clone, Copy)]
+pub struct CurrentValue<'a> {
+    pub cells: &'a [i64],
+    pub body: [u8; BODY_BYTES],
+}
+
 // A simple value, which lies on the stack, by its tag.
 pub fn simple_value(tag: u8) -> Evaluated
     ensures { result ≡ simple_evaluated tag }

@@ -1,79 +1,64 @@
 // Expressions without operands: a constant, a variable, the current value. Each puts its cells at the stack's front.
-ghost use Rattle.std.specs.Prelude.{◌≡◌, List, ◌+◌, ◌*◌, ◌<◌, ◌≤◌, length, take, drop, Ok};
-ghost use Rattle.lingua.specs.Numbers.{expression_section, body_cells, body_bytes};
+ghost use Rattle.std.specs.Prelude.{List, ◌<◌, ◌≤◌, length, Ok};
+ghost use Rattle.lingua.specs.Numbers.{expression_section, body_cells};
+ghost use Rattle.lingua.specs.Rows.{table_count};
 ghost use Rattle.lingua.specs.Errors.{not_filled};
 ghost use Rattle.lingua.specs.Outcome.{ok, or_fail};
 ghost use Rattle.lingua.specs.Value.{Composite};
 ghost use Rattle.lingua.specs.Store.{Variable, contents};
-ghost use Rattle.decoder.specs.Tables.{IsTable};
 ghost use Rattle.profile.specs.Row.{constant_of};
 ghost use Rattle.profile.specs.Constants.{ConstantRow};
 ghost use Rattle.checked_row.specs.Meaning.{Stored, HasStored, Current, HasCurrent, Gives};
 
-use crate::answer::Evaluated;
+use crate::answer::{CurrentValue, Evaluated};
+use body::flat;
 use body::walk::measure_body;
-use decoder::tables::Table;
+use decoder::rows::Rows;
 use lingua::errors::Error;
-use lingua::sizes::{BODY_BYTES, BODY_CELLS};
+use lingua::sizes::BODY_CELLS;
 use profile::constants::{constant_body, constant_cell};
 use run::copies::copy;
+use run::memory::Memory;
 use run::words::is_filled;
 
-// The 96 bytes of a variable's present body.
-pub fn present(variables: &[u8], n: usize) -> [u8; BODY_BYTES]
-    requires { body_bytes * n + body_bytes ≤ length variables.now }
-    ensures { result ≡ take body_bytes (drop (body_bytes * n) variables.now) }
-{
-    let mut out = [0u8; BODY_BYTES];
-    let at = BODY_BYTES * n;
-    out.copy_from_slice(&variables[at..at + BODY_BYTES]);
-    out
-}
-
 // A constant takes one cell.
-pub fn constant(rows: &[u8], t: Table, r: usize, stack: &mut [i64]) -> Evaluated
-    requires table { IsTable rows.now expression_section t }
-    requires r_lt_count { r < t.count }
+pub fn constant(rows: &Rows, r: usize, stack: &mut [i64]) -> Evaluated
+    requires r_lt_count { r < table_count rows.now expression_section }
     requires constant_row { ConstantRow rows.now r × (0 < length stack.old) }
     ensures { Gives (Ok result) stack.new (ok (constant_of rows.now r)) }
 {
-    let body = constant_body(rows, t, r);
-    stack[0] = constant_cell(rows, t, r);
+    let body = constant_body(rows, r);
+    stack[0] = constant_cell(rows, r);
     Evaluated { body, cells: 1 }
 }
 
 // The value of variable n, which has its present body. A variable behind the store's is not filled.
-pub fn fetch(
-    variables: &[u8],
-    cells: &[i64],
-    states: &[u16],
-    n: usize,
-    stack: &mut [i64],
-) -> Result<Evaluated, Error>
-    requires has_stored { HasStored variables.now cells.now states.now n }
+pub fn fetch(memory: &Memory, n: usize, stack: &mut [i64]) -> Result<Evaluated, Error>
+    requires has_stored { HasStored memory.now.bodies.now memory.now.cells.now memory.now.states.now n }
     requires body_cells_in_bounds { body_cells ≤ length stack.old }
-    ensures { (vs : List Variable) → Stored variables.now cells.now states.now vs
+    ensures { (vs : List Variable) → Stored memory.now.bodies.now memory.now.cells.now memory.now.states.now vs
         → Gives result stack.new (or_fail (contents vs n) not_filled) }
 {
-    if !is_filled(states, n) {
+    if !is_filled(memory.states, n) {
         return Err(Error::NotFilled);
     }
-    let body = present(variables, n);
+    let body = flat::taken(memory.bodies, n);
     let m = measure_body(body);
-    copy(cells, BODY_CELLS * n, m.cells, stack);
+    copy(memory.cells, BODY_CELLS * n, m.cells, stack);
     Ok(Evaluated {
         body,
         cells: m.cells,
     })
 }
 
-pub fn copied(current: &[i64], body: [u8; BODY_BYTES], stack: &mut [i64]) -> Evaluated
-    requires has_current { HasCurrent current.now body }
+pub fn copied(current: &CurrentValue, stack: &mut [i64]) -> Evaluated
+    requires has_current { HasCurrent current.now.cells.now current.now.body }
     requires body_cells_in_bounds { body_cells ≤ length stack.old }
-    ensures { (x : Composite) → Current current.now body x → Gives (Ok result) stack.new (ok x) }
+    ensures { (x : Composite) → Current current.now.cells.now current.now.body x → Gives (Ok result) stack.new (ok x) }
 {
+    let body = current.body;
     let m = measure_body(body);
-    copy(current, 0, m.cells, stack);
+    copy(current.cells, 0, m.cells, stack);
     Evaluated {
         body,
         cells: m.cells,

@@ -10,18 +10,21 @@ ghost use Rattle.lingua.specs.Trees.{expression_tree};
 ghost use Rattle.lingua.specs.Operations.{binary_meaning};
 ghost use Rattle.lingua.specs.Evaluation.{eval as meaning, apply_binary};
 ghost use Rattle.body.specs.Encode.{Holds};
+ghost use Rattle.run.specs.Lending.{lent_in};
 ghost use Rattle.checked_row.specs.Meaning.{World, Current, Asked, Gives, Given, simple_evaluated, IsSimple, SimpleGives, QuickGives};
 
+use crate::answer::CurrentValue;
 use body::make::simple;
 use body::walk::WORD;
 use body_half::operation::simple_binary;
 use decoder::decode::ExpressionRow;
-use decoder::tables::Table;
+use decoder::rows::Rows;
 use lingua::errors::Error;
 use lingua::operations::BinaryOperation;
 use lingua::sizes::{BODY_BYTES, BODY_CELLS};
 use profile::constants::{constant_body, constant_cell};
 use profile::row::expression_row;
+use run::memory::Memory;
 use run::words::is_filled;
 
 // The tag of a simple body by its first byte, none of any other.
@@ -37,38 +40,34 @@ fn simple_tag(first: u8) -> Option<u8>
 // The tag of a leaf's simple body, its cell at the stack's front; none of any other row.
 fn leaf(
     row: usize,
-    rows: &[u8],
-    t: Table,
-    variables: &[u8],
-    cells: &[i64],
-    states: &[u16],
-    current: &[i64],
-    body: [u8; BODY_BYTES],
+    rows: &Rows,
+    memory: &Memory,
+    current: &CurrentValue,
     stack: &mut [i64],
 ) -> Option<u8>
-    requires { Asked row rows.now t variables.now cells.now states.now current.now body stack.old }
-    ensures { (vs : List Variable) (x : Composite) → World rows.now t variables.now cells.now states.now vs → Current current.now body x
+    requires { Asked row rows.now (lent_in memory.now) current.now.cells.now current.now.body stack.old }
+    ensures { (vs : List Variable) (x : Composite) → World rows.now (lent_in memory.now) vs → Current current.now.cells.now current.now.body x
         → SimpleGives result stack.new (meaning (expression_tree rows.now row) (contents vs) x) }
 {
-    let says = expression_row(rows, t, row);
+    let says = expression_row(rows, row);
     match says {
         ExpressionRow::Constant(_) => {
-            let own = constant_body(rows, t, row);
+            let own = constant_body(rows, row);
             let tag = simple_tag(own[0])?;
-            stack[0] = constant_cell(rows, t, row);
+            stack[0] = constant_cell(rows, row);
             Some(tag)
         }
         ExpressionRow::Variable(n) => {
-            if !is_filled(states, n) {
+            if !is_filled(memory.states, n) {
                 return None;
             }
-            let tag = simple_tag(variables[BODY_BYTES * n])?;
-            stack[0] = cells[BODY_CELLS * n];
+            let tag = simple_tag(memory.bodies[BODY_BYTES * n])?;
+            stack[0] = memory.cells[BODY_CELLS * n];
             Some(tag)
         }
         ExpressionRow::Current => {
-            let tag = simple_tag(body[0])?;
-            stack[0] = current[0];
+            let tag = simple_tag(current.body[0])?;
+            stack[0] = current.cells[0];
             Some(tag)
         }
         _ => None,
@@ -94,41 +93,17 @@ pub fn pair(
     o: BinaryOperation,
     a: usize,
     b: usize,
-    rows: &[u8],
-    t: Table,
-    variables: &[u8],
-    cells: &[i64],
-    states: &[u16],
-    current: &[i64],
-    body: [u8; BODY_BYTES],
+    rows: &Rows,
+    memory: &Memory,
+    current: &CurrentValue,
     stack: &mut [i64],
 ) -> Option<Result<u8, Error>>
-    requires asked { Asked a rows.now t variables.now cells.now states.now current.now body stack.old }
-    requires asked_2 { Asked b rows.now t variables.now cells.now states.now current.now body (drop body_cells stack.old) }
-    ensures { (vs : List Variable) (x : Composite) → World rows.now t variables.now cells.now states.now vs → Current current.now body x
+    requires asked { Asked a rows.now (lent_in memory.now) current.now.cells.now current.now.body stack.old }
+    requires asked_2 { Asked b rows.now (lent_in memory.now) current.now.cells.now current.now.body (drop body_cells stack.old) }
+    ensures { (vs : List Variable) (x : Composite) → World rows.now (lent_in memory.now) vs → Current current.now.cells.now current.now.body x
         → QuickGives result stack.new (bind (meaning (expression_tree rows.now a) (contents vs) x) (λ u. bind (meaning (expression_tree rows.now b) (contents vs) x) (λ v. apply_binary (binary_meaning o) u v))) }
 {
-    let p = leaf(
-        a,
-        rows,
-        t,
-        variables,
-        cells,
-        states,
-        current,
-        body,
-        &mut *stack,
-    )?;
-    let q = leaf(
-        b,
-        rows,
-        t,
-        variables,
-        cells,
-        states,
-        current,
-        body,
-        &mut stack[BODY_CELLS..],
-    )?;
+    let p = leaf(a, rows, memory, current, &mut *stack)?;
+    let q = leaf(b, rows, memory, current, &mut stack[BODY_CELLS..])?;
     apply(o, p, q, stack)
 }

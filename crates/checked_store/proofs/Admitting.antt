@@ -6,11 +6,12 @@ use Prim.Native.Nat.{ℕ, ◌*◌, ◌≤◌, ◌<◌}
 use native.Mathlib.Omega.{arith}
 use lib.IntN.{ℤ, pos}
 use lib.ListN.{length, take, drop, get_or}
-use Rattle.lingua.specs.Numbers.{body_bytes}
+use Rattle.lingua.specs.Numbers.{body_bytes, expression_section}
 use Rattle.lingua.specs.Errors.{no_coherence, yoke_expected, yoke_not_satisfied}
 use Rattle.std.specs.Prelude.{Result, Ok, Err}
 use Rattle.lingua.specs.declared.errors.Error.{Error}
 use Rattle.lingua.specs.Faults.{error_number}
+use Rattle.lingua.specs.Rows.{table_count}
 use Rattle.lingua.specs.Outcome.{fail, ok, Result as Outcome, require, ◌>>=◌, ◌>>◌}
 use Rattle.lingua.specs.Body.{Body, boolean, number, word, hundredths, list_of, record_of, size, is_number, is_hundredths, is_quantity, is_boolean, coherent}
 use Rattle.lingua.specs.Value.{Value, Fits, fit_truth, fit_whole, fit_hundredths, fit_text, fit_items, fit_fields, as_whole, as_truth, Composite}
@@ -19,9 +20,8 @@ use Rattle.lingua.specs.Evaluation.{truth_or, eval_yoke}
 use Rattle.lingua.specs.Store.{Variable, variable_at, present_body, contents, within, admitted, yoke_at}
 use Rattle.lingua.specs.Trees.{yoke_tree}
 use Rattle.laws.specs.Outcomes.{false_is_true}
-use Rattle.decoder.specs.declared.tables.Table.{Table}
 use Rattle.profile.specs.Yokes.{always_is}
-use Rattle.body.specs.Encode.{Holds, Held}
+use Rattle.body.specs.Encode.{Holds}
 use Rattle.body.proofs.Tags as tags
 use Rattle.cells.proofs.Operands.{lies_long}
 use Rattle.cells.proofs.Singles.{quantity_cell}
@@ -76,9 +76,9 @@ pub other_whole : {value : List ℤ} {body : List ℕ} {x : Composite} → Curre
 other_whole h e = none_whole h.lies.fit e
 
 -- ---- the current yoke
-module _ {rows : List ℕ} {t : Table} {limits cells : List ℤ} {states bodies : List ℕ} {vs : List Variable} (h : Running rows t limits (lent cells states bodies) vs) (n : ℕ) (lt : n < length vs) where
-  pub yoke_there : {k : ℕ} → k ≡ yoke_at states n → k ≤ t.count
-  yoke_there e = omega (arith, e, Parts.yoke_there (memory_of h.world.stored) n lt (h.yokes n lt), h.world.table.count)
+module _ {rows : List ℕ} {limits cells : List ℤ} {states bodies : List ℕ} {vs : List Variable} (h : Running rows limits (lent cells states bodies) vs) (n : ℕ) (lt : n < length vs) where
+  pub yoke_there : {k : ℕ} → k ≡ yoke_at states n → k ≤ table_count rows expression_section
+  yoke_there e = omega (arith, e, Parts.yoke_there (memory_of h.world.stored) n lt (h.yokes n lt))
 
   pub own_yoke : {k : ℕ} → k ≡ yoke_at states n → (x : Composite) → eval_yoke (yoke_tree rows k) (contents vs) x ≡ eval_yoke (variable_at vs n).yoke (contents vs) x
   own_yoke e x = ap (λ (y : Yoke). eval_yoke y (contents vs) x) (ap (yoke_tree rows) e ∙ Parts.own_yoke (memory_of h.world.stored) n lt (h.yokes n lt))
@@ -87,10 +87,7 @@ module _ {rows : List ℕ} {t : Table} {limits cells : List ℤ} {states bodies 
 pub held_own : {bodies : List ℕ} {limits : List ℤ} {n : ℕ} {v : Variable} → Bounds bodies limits n v → {body : List ℕ} → body ≡ take body_bytes (drop (body_bytes * n) bodies) → Holds body (present_body v)
 held_own {v = v} b e = subst (λ (l : List ℕ). Holds l (present_body v)) (sym e) b.own
 
-pub held_there : {body there : List ℕ} → body ≡ there → Held there → Held body
-held_there e h = subst Held (sym e) h
-
-pub no_yoke : {rows : List ℕ} {t : Table} {limits cells : List ℤ} {states bodies : List ℕ} {vs : List Variable} → Running rows t limits (lent cells states bodies) vs → (n : ℕ) → n < length vs → {k : ℕ} → k ≡ yoke_at states n → k ≡ 0 → (variable_at vs n).yoke ≡ always
+pub no_yoke : {rows : List ℕ} {limits cells : List ℤ} {states bodies : List ℕ} {vs : List Variable} → Running rows limits (lent cells states bodies) vs → (n : ℕ) → n < length vs → {k : ℕ} → k ≡ yoke_at states n → k ≡ 0 → (variable_at vs n).yoke ≡ always
 no_yoke {rows} h n lt {k} e z = sym (Parts.own_yoke (memory_of h.world.stored) n lt (h.yokes n lt)) ∙ ap (yoke_tree rows) (sym e) ∙ always_is rows k z
 
 module _ (vs : List Variable) (v : Variable) (x : Composite) (free : v.yoke ≡ always) (b : Bool) (same : b ≡ coherent (present_body v) x.body) where

@@ -13,7 +13,6 @@ use Rattle.lingua.specs.Outcome.{ok, fail, Result as Outcome, ◌>>=◌, ◌>>�
 use Rattle.lingua.specs.Value.{Composite}
 use Rattle.lingua.specs.Store.{Variable, variable_at, with_content, admitted, assigned}
 use Rattle.safety.specs.Stored.{admitted_shows}
-use Rattle.decoder.specs.declared.tables.Table.{Table}
 use Rattle.checked_row.specs.declared.answer.Evaluated.{Evaluated}
 use Rattle.run.specs.Reached.{Lent, lent}
 use Rattle.run.specs.Memory.{Admits}
@@ -45,15 +44,15 @@ module _ {x : Evaluated} {s : List ℤ} {o : Outcome Composite} (vs : List Varia
   pub not_admitted : (e ≡ 0 → ⊥) → (o >>= assigned vs n) ≡ fail e
   not_admitted f = assigned_is ∙ ap (λ (p : Outcome (Unit {0})). p >> ok (set vs n (with_content (variable_at vs n) a.value))) (admits.error f)
 
-  pub stores : {rows : List ℕ} {t : Table} {limits : List ℤ} {l after : Lent} → Running rows t limits l vs → n < length vs → e ≡ 0
+  pub stores : {rows : List ℕ} {limits : List ℤ} {l after : Lent} → Running rows limits l vs → n < length vs → e ≡ 0
       → (value : List ℤ) → Current value x.body a.value → StoresValue l after n value x.cells x.body
-      → Assigns 0 rows t limits l after (o >>= assigned vs n)
-  stores {rows} {t} {limits} w lt z value cur kept =
+      → Assigns 0 rows limits l after (o >>= assigned vs n)
+  stores {rows} {limits} w lt z value cur kept =
       let g = admits.answer z in
       stores_as (set vs n (with_content (variable_at vs n) a.value))
       (assigned_is ∙ ap (λ (p : Outcome (Unit {0})). p >> ok (set vs n (with_content (variable_at vs n) a.value))) g)
-      (kept.running rows t limits vs a.value w lt cur a.cells (admitted_shows vs (variable_at vs n) a.value g).is_coherent)
+      (kept.running rows limits vs a.value w lt cur a.cells (admitted_shows vs (variable_at vs n) a.value g).is_coherent)
 
 -- what the code keeps of a variable of the store
-pub bounds_of : {rows : List ℕ} {t : Table} {limits cells : List ℤ} {states bodies : List ℕ} {vs : List Variable} → Running rows t limits (lent cells states bodies) vs → (n : ℕ) → n < length vs → Bounds bodies limits n (variable_at vs n)
+pub bounds_of : {rows : List ℕ} {limits cells : List ℤ} {states bodies : List ℕ} {vs : List Variable} → Running rows limits (lent cells states bodies) vs → (n : ℕ) → n < length vs → Bounds bodies limits n (variable_at vs n)
 bounds_of w n lt = record { own = present_held w.world.stored n lt _ refl; limited = w.limited n lt }

@@ -11,7 +11,6 @@ use Rattle.lingua.specs.Expression.{Yoke}
 use Rattle.lingua.specs.Store.{Variable, variable_at, present_body, with_content, with_yoke, cells_in, states_in, bodies_in}
 use Rattle.safety.specs.Constants.{Fitting}
 use Rattle.safety.specs.Stored.{replaced}
-use Rattle.decoder.specs.declared.tables.Table.{Table}
 use Rattle.profile.specs.Yokes.{YokeOf}
 use Rattle.run.specs.Reached.{Lent}
 use Rattle.run.proofs.Storing.{limits_kept, yokes_kept}
@@ -24,17 +23,16 @@ pub record HoldsStore (l : Lent) (vs : List Variable) : Type 0 where
   pub states_are : l.states ≡ states_in vs
   pub bodies_are : l.bodies ≡ bodies_in vs
 
-module _ {rows : List ℕ} {t : Table} {limits : List ℤ} {l : Lent} {vs : List Variable} (h : Running rows t limits l vs) (n : ℕ) (lt : n < length vs) where
+module _ {rows : List ℕ} {limits : List ℤ} {l : Lent} {vs : List Variable} (h : Running rows limits l vs) (n : ℕ) (lt : n < length vs) where
   -- another variable n with the same limit
   replaced_running : (v : Variable) → v.limit ≡ (variable_at vs n).limit → Holdable (present_body v) → ((x : Composite) → v.content ≡ some x → Fitting x) → YokeOf rows v.yoke
-      → (after : Lent) → HoldsStore after (set vs n v) → Running rows t limits after (set vs n v)
+      → (after : Lent) → HoldsStore after (set vs n v) → Running rows limits after (set vs n v)
   replaced_running v e b f y after m =
       let s = h.world.stored in
       let len : length (set vs n v) ≡ length vs = length-set vs n v in
       record {
         world = record {
           accepted = h.world.accepted;
-          table = h.world.table;
           stored = record {
             cells_are = m.cells_are;
             states_are = m.states_are;
@@ -50,11 +48,11 @@ module _ {rows : List ℕ} {t : Table} {limits : List ℤ} {l : Lent} {vs : List
       }
 
   pub content_running : (x : Composite) → Fitting x → Holdable x.body → (after : Lent) → HoldsStore after (set vs n (with_content (variable_at vs n) x))
-      → Running rows t limits after (set vs n (with_content (variable_at vs n) x))
+      → Running rows limits after (set vs n (with_content (variable_at vs n) x))
   content_running x f b after m =
       replaced_running (with_content (variable_at vs n) x) refl b (λ y q. let e : x ≡ y = cc in subst Fitting e f) (h.yokes n lt) after m
 
   pub yoke_running : (y : Yoke) → YokeOf rows y → (after : Lent) → HoldsStore after (set vs n (with_yoke (variable_at vs n) y))
-      → Running rows t limits after (set vs n (with_yoke (variable_at vs n) y))
+      → Running rows limits after (set vs n (with_yoke (variable_at vs n) y))
   yoke_running y o after m =
       replaced_running (with_yoke (variable_at vs n) y) refl (h.world.stored.holdable n lt) (h.world.stored.fits n) o after m

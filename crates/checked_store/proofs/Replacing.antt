@@ -18,7 +18,6 @@ use Rattle.laws.specs.Lengths.{length_cells}
 use Rattle.laws.specs.Lists.{length_pad, paste_at}
 use Rattle.laws.specs.Stores.{variable_cells, cells_set, cells_long}
 use Rattle.laws.specs.Presents.{bodies_set, bodies_unchanged}
-use Rattle.decoder.specs.declared.tables.Table.{Table}
 use Rattle.run.specs.Reached.{Lent, lent}
 use Rattle.run.proofs.Parts.{contents_small}
 use Rattle.run.proofs.Storing.{cells_stored, states_stored}
@@ -44,7 +43,7 @@ zeros_behind before part behind value a w la lp small long =
     ∙ ap (λ (l : List ℤ). before ++ l) (sym (append_assoc front zeros behind))
 
 -- ---- the store
-module _ {rows : List ℕ} {t : Table} {limits : List ℤ} {l : Lent} {vs : List Variable} (h : Running rows t limits l vs) (n : ℕ) (lt : n < length vs)
+module _ {rows : List ℕ} {limits : List ℤ} {l : Lent} {vs : List Variable} (h : Running rows limits l vs) (n : ℕ) (lt : n < length vs)
     {value : List ℤ} {body : List ℕ} {x : Composite} (cur : Current value body x) {w : ℕ} (width : w ≡ size x.body) where
   abbrev stored : List Variable
   stored = set vs n (with_content (variable_at vs n) x)
@@ -89,17 +88,17 @@ module _ {rows : List ℕ} {t : Table} {limits : List ℤ} {l : Lent} {vs : List
       ∙ sym (bodies_set vs n lt (all_compact h.world.stored) (with_content (variable_at vs n) x) cur.holds.few_nodes)
 
   module _ (cells : List ℤ) (states bodies : List ℕ) (states_are : states ≡ fill_at l.states n) where
-    stores : cells ≡ cells_in stored → bodies ≡ bodies_in stored → Running rows t limits (lent cells states bodies) stored
+    stores : cells ≡ cells_in stored → bodies ≡ bodies_in stored → Running rows limits (lent cells states bodies) stored
     stores c b =
         content_running h n lt x cur.lies.fit (record { few_cells = cur.holds.few_cells; few_nodes = cur.holds.few_nodes }) (lent cells states bodies)
         (record { cells_are = c; states_are = states_are ∙ states_stored vs n lt x h.world.stored.states_are; bodies_are = b })
 
     pub record_stored : w ≤ length value → (put : List ℤ) → put ≡ put_cells → cells ≡ paste put (body_cells * n + w) (replicate (body_cells - w) (pos 0)) (body_cells - w)
-        → bodies ≡ paste l.bodies (body_bytes * n) body body_bytes → Running rows t limits (lent cells states bodies) stored
+        → bodies ≡ paste l.bodies (body_bytes * n) body body_bytes → Running rows limits (lent cells states bodies) stored
     record_stored long put p c b =
         stores (c ∙ ap (λ (k : List ℤ). paste k (body_cells * n + w) (replicate (body_cells - w) (pos 0)) (body_cells - w)) p ∙ cells_replaced long) (b ∙ bodies_replaced)
 
-    pub other_stored : attributes_of x.body ≡ none → coherent (present_body (variable_at vs n)) x.body ≡ true → cells ≡ put_cells → bodies ≡ l.bodies → Running rows t limits (lent cells states bodies) stored
+    pub other_stored : attributes_of x.body ≡ none → coherent (present_body (variable_at vs n)) x.body ≡ true → cells ≡ put_cells → bodies ≡ l.bodies → Running rows limits (lent cells states bodies) stored
     other_stored none_of same c b =
         let e : x.body ≡ present_body (variable_at vs n) = sym (coherent_other (present_body (variable_at vs n)) x.body none_of same) in
         stores (c ∙ cells_stored (memory_of h.world.stored) n lt x cur.lies.fit e value w width value_is)

@@ -8,7 +8,6 @@ use Rattle.lingua.specs.Value.{Composite}
 use Rattle.lingua.specs.Store.{Variable, variable_at, present_body, with_content, flag_place}
 use Rattle.profile.specs.Variables.{LimitAt}
 use Rattle.profile.specs.Yokes.{YokeOf}
-use Rattle.decoder.specs.declared.tables.Table.{Table}
 use Rattle.body.specs.Encode.{Holds, Held}
 use Rattle.run.specs.Reached.{Lent, Settles}
 use Rattle.checked_row.specs.declared.answer.Evaluated.{Evaluated}
@@ -16,16 +15,16 @@ use Rattle.checked_row.specs.Meaning.{World, Current, HasCurrent, Given}
 
 -- ---- what assignments ask
 -- a store of a run, with the limits of its variables
-pub record Running (rows : List ℕ) (t : Table) (limits : List ℤ) (l : Lent) (vs : List Variable) : Type 0 where
-  pub world : World rows t l.bodies l.cells l.states vs
+pub record Running (rows : List ℕ) (limits : List ℤ) (l : Lent) (vs : List Variable) : Type 0 where
+  pub world : World rows l vs
   pub room : limit_cells * length vs ≤ length limits
   pub limited : (n : ℕ) → n < length vs → LimitAt limits (limit_cells * n) (variable_at vs n).limit
   pub yokes : (n : ℕ) → n < length vs → YokeOf rows (variable_at vs n).yoke
 
 -- some such store, with a variable n
-pub record HasRunning (rows : List ℕ) (t : Table) (limits : List ℤ) (l : Lent) (n : ℕ) : Type 0 where
+pub record HasRunning (rows : List ℕ) (limits : List ℤ) (l : Lent) (n : ℕ) : Type 0 where
   pub store : List Variable
-  pub running : Running rows t limits l store
+  pub running : Running rows limits l store
   pub there : n < length store
 
 -- a variable's present body and its limit, where the code keeps those of variable n
@@ -41,23 +40,23 @@ pub record HasBounds (bodies : List ℕ) (limits : List ℤ) (n : ℕ) (value : 
   pub has : HasCurrent value body
 
 -- some such store, and some value for variable n
-pub record Checkable (rows : List ℕ) (t : Table) (limits : List ℤ) (l : Lent) (n : ℕ) (value : List ℤ) (body : List ℕ) : Type 0 where
+pub record Checkable (rows : List ℕ) (limits : List ℤ) (l : Lent) (n : ℕ) (value : List ℤ) (body : List ℕ) : Type 0 where
   pub store : List Variable
-  pub running : Running rows t limits l store
+  pub running : Running rows limits l store
   pub there : n < length store
   pub has : HasCurrent value body
 
 -- ---- what an assignment gives
 -- a store of a run, and an evaluated value for its variable n
-pub record Assignable (rows : List ℕ) (t : Table) (limits : List ℤ) (l : Lent) (n : ℕ) (x : Result Evaluated Error) (stack : List ℤ) : Type 0 where
+pub record Assignable (rows : List ℕ) (limits : List ℤ) (l : Lent) (n : ℕ) (x : Result Evaluated Error) (stack : List ℤ) : Type 0 where
   pub store : List Variable
-  pub running : Running rows t limits l store
+  pub running : Running rows limits l store
   pub there : n < length store
   pub given : Given x stack
 
 -- the new store in the memory, or the error and the memory as it was
-abbrev pub Assigns : ℕ → List ℕ → Table → List ℤ → Lent → Lent → Outcome (List Variable) → Type 0
-Assigns r rows t limits l after p = Settles r (Running rows t limits) l after p
+abbrev pub Assigns : ℕ → List ℕ → List ℤ → Lent → Lent → Outcome (List Variable) → Type 0
+Assigns r rows limits l after p = Settles r (Running rows limits) l after p
 
 -- ---- what a store asks and gives
 -- room in the memory for variable n's value, which is as long as it says
@@ -70,5 +69,5 @@ pub record Storable (l : Lent) (n : ℕ) (value : List ℤ) (width : ℕ) : Type
 
 -- the store with a coherent value in variable n, whatever else is asked of a run's store
 pub record StoresValue (l after : Lent) (n : ℕ) (value : List ℤ) (width : ℕ) (body : List ℕ) : Type 0 where
-  pub running : (rows : List ℕ) (t : Table) (limits : List ℤ) (vs : List Variable) (x : Composite) → Running rows t limits l vs → n < length vs → Current value body x → width ≡ size x.body
-      → coherent (present_body (variable_at vs n)) x.body ≡ true → Running rows t limits after (set vs n (with_content (variable_at vs n) x))
+  pub running : (rows : List ℕ) (limits : List ℤ) (vs : List Variable) (x : Composite) → Running rows limits l vs → n < length vs → Current value body x → width ≡ size x.body
+      → coherent (present_body (variable_at vs n)) x.body ≡ true → Running rows limits after (set vs n (with_content (variable_at vs n) x))

@@ -1,60 +1,63 @@
 // A new value's checks, in order: its yoke's error, whether its body is coherent with the variable's present one, the yoke's body, the yoke and
 // the limits.
 ghost use Rattle.std.specs.Prelude.{◌≡◌, List, ◌+◌, ◌*◌, ◌<◌, ◌≤◌, length};
-ghost use Rattle.lingua.specs.Numbers.{body_cells};
+ghost use Rattle.lingua.specs.Numbers.{body_cells, expression_section};
+ghost use Rattle.lingua.specs.Rows.{table_count};
 ghost use Rattle.lingua.specs.Value.{Composite, as_whole};
 ghost use Rattle.lingua.specs.Expression.{always};
 ghost use Rattle.lingua.specs.Faults.{number_of};
-ghost use Rattle.lingua.specs.Store.{Variable, variable_at, admitted as checks};
-ghost use Rattle.run.specs.Reached.{lent};
+ghost use Rattle.lingua.specs.Store.{Variable, variable_at, yoke_place, yoke_at, admitted as checks};
+ghost use Rattle.run.specs.Lending.{lent_in};
 ghost use Rattle.run.specs.Memory.{Admits};
 ghost use Rattle.checked_row.specs.Meaning.{Current, HasCurrent};
 ghost use Rattle.checked_store.specs.Meaning.{Bounds, HasBounds, Running, Checkable};
 
 use body::coherence::coherent;
+use body::flat;
 use body::walk::{HUNDREDTHS, NUMBER};
 use checked::yoke::eval_yoke;
-use checked_row::answer::truth_of;
-use checked_row::leaves::present;
-use decoder::tables::Table;
+use checked_row::answer::{CurrentValue, truth_of};
+use decoder::rows::Rows;
 use lingua::errors::Error;
-use lingua::sizes::BODY_BYTES;
 use run::limits::in_limits;
+use run::memory::Memory;
 use run::words::yoke_of;
 
 // The cell of a number or of a count; for a value of another body 0 stands.
-fn whole(body: [u8; BODY_BYTES], value: &[i64]) -> i64
-    requires { HasCurrent value.now body }
-    ensures { (x : Composite) → Current value.now body x → result ≡ as_whole x.value }
+fn whole(value: &CurrentValue) -> i64
+    requires { HasCurrent value.now.cells.now value.now.body }
+    ensures { (x : Composite) → Current value.now.cells.now value.now.body x → result ≡ as_whole x.value }
 {
-    let tag = body[0];
+    let tag = value.body[0];
     if tag == NUMBER {
-        return value[0];
+        return value.cells[0];
     }
     if tag == HUNDREDTHS {
-        return value[0];
+        return value.cells[0];
     }
     0
 }
 
+// Variable n's yoke.
+pub fn yoke_in(memory: &Memory, n: usize) -> usize
+    requires { yoke_place n < length memory.now.states.now }
+    ensures { result ≡ yoke_at memory.now.states.now n }
+{
+    yoke_of(memory.states, n)
+}
+
 // Whether variable n, whose yoke is always true, may take a value of a body.
-pub fn unyoked(
-    bodies: &[u8],
-    kept: &[i64],
-    n: usize,
-    value: &[i64],
-    body: [u8; BODY_BYTES],
-) -> Result<(), Error>
-    requires { HasBounds bodies.now kept.now n value.now body }
-    ensures { (vs : List Variable) (v : Variable) (x : Composite) → Bounds bodies.now kept.now n v → v.yoke ≡ always → Current value.now body x
+pub fn unyoked(memory: &Memory, limits: &[i64], n: usize, value: &CurrentValue) -> Result<(), Error>
+    requires { HasBounds memory.now.bodies.now limits.now n value.now.cells.now value.now.body }
+    ensures { (vs : List Variable) (v : Variable) (x : Composite) → Bounds memory.now.bodies.now limits.now n v → v.yoke ≡ always → Current value.now.cells.now value.now.body x
         → Admits (number_of result) (checks vs v x) }
 {
-    let own = present(bodies, n);
-    if !coherent(own, body) {
+    let own = flat::taken(memory.bodies, n);
+    if !coherent(own, value.body) {
         return Err(Error::NoCoherence);
     }
-    let z = whole(body, value);
-    if !in_limits(kept, n, z) {
+    let z = whole(value);
+    if !in_limits(limits, n, z) {
         return Err(Error::YokeNotSatisfied);
     }
     Ok(())
@@ -62,44 +65,30 @@ pub fn unyoked(
 
 // Whether variable n may take a value of a body, which lies outside the stack: its yoke is evaluated there.
 pub fn admitted(
-    rows: &[u8],
-    t: Table,
-    bodies: &[u8],
-    kept: &[i64],
-    cells: &[i64],
-    states: &[u16],
+    rows: &Rows,
+    limits: &[i64],
+    memory: &Memory,
     n: usize,
-    value: &[i64],
-    body: [u8; BODY_BYTES],
+    value: &CurrentValue,
     stack: &mut [i64],
 ) -> Result<(), Error>
-    requires checkable { Checkable rows.now t kept.now (lent cells.now states.now bodies.now) n value.now body }
-    requires count_in_bounds { body_cells * (t.count + 1) ≤ length stack.old }
-    ensures { (vs : List Variable) (x : Composite) → Running rows.now t kept.now (lent cells.now states.now bodies.now) vs → n < length vs → Current value.now body x
+    requires checkable { Checkable rows.now limits.now (lent_in memory.now) n value.now.cells.now value.now.body }
+    requires count_in_bounds { body_cells * (table_count rows.now expression_section + 1) ≤ length stack.old }
+    ensures { (vs : List Variable) (x : Composite) → Running rows.now limits.now (lent_in memory.now) vs → n < length vs → Current value.now.cells.now value.now.body x
         → Admits (number_of result) (checks vs (variable_at vs n) x) }
 {
-    let yoke = yoke_of(states, n);
-    let given = eval_yoke(
-        rows,
-        t,
-        bodies,
-        cells,
-        states,
-        yoke,
-        value,
-        body,
-        &mut *stack,
-    );
+    let yoke = yoke_in(memory, n);
+    let given = eval_yoke(rows, memory, yoke, value, &mut *stack);
     given?;
-    let own = present(bodies, n);
-    if !coherent(own, body) {
+    let own = flat::taken(memory.bodies, n);
+    if !coherent(own, value.body) {
         return Err(Error::NoCoherence);
     }
     if !truth_of(given, Error::YokeExpected, stack)? {
         return Err(Error::YokeNotSatisfied);
     }
-    let z = whole(body, value);
-    if !in_limits(kept, n, z) {
+    let z = whole(value);
+    if !in_limits(limits, n, z) {
         return Err(Error::YokeNotSatisfied);
     }
     Ok(())

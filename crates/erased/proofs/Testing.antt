@@ -17,7 +17,6 @@ use Rattle.safety.specs.Derivation.{Derived, DerivedRow}
 use Rattle.lingua.specs.Erased.{test_erased}
 use Rattle.safety.specs.ErasedSteps.{test_erased_lem}
 use Rattle.safety.specs.Layout.{HoldsIn}
-use Rattle.decoder.specs.declared.tables.Table.{Table}
 use Rattle.cells.specs.Stack.{Leaves}
 use Rattle.std.specs.Prelude as std
 use Rattle.lingua.specs.declared.errors.Error.{Error}
@@ -38,14 +37,14 @@ tested {layout} {vars} procs (loop r f i) e q d = subst (λ (g : Expression). De
 tested procs (handle r n i) e q d = absurd q
 tested procs (call r k vs rs) e q d = absurd q
 
-module _ {p : Profile} {a : ℕ} {rows : List ℕ} {t : Table} {layout : List ℕ} {limits cells : List ℤ} {states : List ℕ} {vs : List Variable} (w : Running p a rows t layout limits (lent cells states []) vs) where
+module _ {p : Profile} {a : ℕ} {rows : List ℕ} {layout : List ℕ} {limits cells : List ℤ} {states : List ℕ} {vs : List Variable} (w : Running p a rows layout limits (lent cells states []) vs) where
   test_passed : {e : ℕ} → TestRow rows a e → Passed layout (scope_declarations p a) (expression_tree rows e) no_current_body boolean
   test_passed {e} r = tested (λ k. scope_bodies p (suc k)) (instruction_tree rows r.at) (expression_tree rows e) r.is (row_passed w r.at r.there r.scope)
 
-  pub test_ready : {e : ℕ} → TestRow rows a e → ReadyPlain rows t layout cells states (expression_tree rows e)
+  pub test_ready : {e : ℕ} → TestRow rows a e → ReadyPlain rows layout cells states (expression_tree rows e)
   test_ready r = record { declarations = scope_declarations p a; store = vs; world = w.world; result = boolean; passed = test_passed r }
 
-  pub test_told : {e : ℕ} → TestRow rows a e → {m : ℕ} {s : List ℤ} (r : std.Result Bool Error) → EvaluatesPlain rows t layout cells states (expression_tree rows e) m s → ((o : Result Value) → Leaves m s boolean o → Tells r (truth_in o)) → Tells r (eval_test (expression_tree rows e) (contents vs))
+  pub test_told : {e : ℕ} → TestRow rows a e → {m : ℕ} {s : List ℤ} (r : std.Result Bool Error) → EvaluatesPlain rows layout cells states (expression_tree rows e) m s → ((o : Result Value) → Leaves m s boolean o → Tells r (truth_in o)) → Tells r (eval_test (expression_tree rows e) (contents vs))
   unfolding test_erased
   test_told {e} row r h f =
       subst (λ (o : Result Bool). Tells r o) (sym (test_erased_lem (HoldsIn layout) (scope_declarations p a) vs w.kept w.world.fit (expression_tree rows e) (test_passed row)))

@@ -15,7 +15,6 @@ use Rattle.lingua.specs.Run.{Declaration}
 use Rattle.lingua.specs.Store.{Variable, contents}
 use Rattle.laws.specs.Outcomes.{is_list}
 use Rattle.lingua.specs.Erased.{values_of, eval_erased}
-use Rattle.decoder.specs.declared.tables.Table.{Table}
 use Rattle.cells.specs.Stack.{Lies, Leaves}
 use Rattle.cells.proofs.Elements.{list_size}
 use Rattle.cells.proofs.Operands.{leaves_as}
@@ -28,20 +27,20 @@ use Rattle.erased_row.proofs.Leaving.{leaves_from}
 use Rattle.erased_row.proofs.Passing.{all_passed}
 
 -- ---- a list, with the size of its elements and the inner yoke that the type check passed on them
-pub record Listed (rows : List ℕ) (t : Table) (layout : List ℕ) (cells : List ℤ) (states : List ℕ) (now : List ℤ) (e : Expression) (width : ℕ) (ds : List Declaration) (vs : List Variable) (c : Body) (x : Value) : Type 0 where
-  pub world : World rows t layout cells states ds vs
+pub record Listed (rows : List ℕ) (layout : List ℕ) (cells : List ℤ) (states : List ℕ) (now : List ℤ) (e : Expression) (width : ℕ) (ds : List Declaration) (vs : List Variable) (c : Body) (x : Value) : Type 0 where
+  pub world : World rows layout cells states ds vs
   pub lies : Lies now 0 (list_of c) x
   pub small : size (list_of c) ≤ body_cells
   pub width_is : width ≡ size c
   pub passed : Passed layout ds e c boolean
 
-pub record SomeListed (rows : List ℕ) (t : Table) (layout : List ℕ) (cells : List ℤ) (states : List ℕ) (now : List ℤ) (e : Expression) (width : ℕ) (ds : List Declaration) (vs : List Variable) (x : Value) (b : Body) : Type 0 where
+pub record SomeListed (rows : List ℕ) (layout : List ℕ) (cells : List ℤ) (states : List ℕ) (now : List ℤ) (e : Expression) (width : ℕ) (ds : List Declaration) (vs : List Variable) (x : Value) (b : Body) : Type 0 where
   pub element : Body
-  pub listed : Listed rows t layout cells states now e width ds vs element x
+  pub listed : Listed rows layout cells states now e width ds vs element x
   pub is : boolean ≡ b
 
-module _ {rows : List ℕ} {t : Table} {layout : List ℕ} {cells : List ℤ} {states : List ℕ} {now : List ℤ} {row : ℕ} {e : Expression} (width : ℕ) (q : width ≡ get_or layout (2 * row + 1) 0) where
-  pub listed : {ds : List Declaration} {vs : List Variable} {cur b : Body} {x : Value} → World rows t layout cells states ds vs → Current now cur x → Passed layout ds (all_list row e) cur b → SomeListed rows t layout cells states now e width ds vs x b
+module _ {rows : List ℕ} {layout : List ℕ} {cells : List ℤ} {states : List ℕ} {now : List ℤ} {row : ℕ} {e : Expression} (width : ℕ) (q : width ≡ get_or layout (2 * row + 1) 0) where
+  pub listed : {ds : List Declaration} {vs : List Variable} {cur b : Body} {x : Value} → World rows layout cells states ds vs → Current now cur x → Passed layout ds (all_list row e) cur b → SomeListed rows layout cells states now e width ds vs x b
   listed {cur = cur} {x = x} w h d =
       let u = all_passed d in
       let l : cur ≡ list_of u.element = is_list cur u.element u.list in
@@ -57,14 +56,14 @@ module _ {rows : List ℕ} {t : Table} {layout : List ℕ} {cells : List ℤ} {s
         is = u.is;
       }
 
-  pub ready_listed : (r : Ready rows t layout cells states now (all_list row e)) → SomeListed rows t layout cells states now e width r.declarations r.store r.value r.result
+  pub ready_listed : (r : Ready rows layout cells states now (all_list row e)) → SomeListed rows layout cells states now e width r.declarations r.store r.value r.result
   ready_listed r = listed r.world r.is r.passed
 
 -- what the inner yoke gives on the first i elements
 abbrev pub first_results : Expression → List Variable → Value → ℕ → List (Result Value)
 first_results e vs x i = map (λ v. eval_erased e (values_of (contents vs)) v) (take i (value_list (as_items x)))
 
-module _ {rows : List ℕ} {t : Table} {layout : List ℕ} {cells : List ℤ} {states : List ℕ} {now : List ℤ} {e : Expression} {width : ℕ} {ds : List Declaration} {vs : List Variable} {c : Body} {x : Value} (h : Listed rows t layout cells states now e width ds vs c x) where
+module _ {rows : List ℕ} {layout : List ℕ} {cells : List ℤ} {states : List ℕ} {now : List ℤ} {e : Expression} {width : ℕ} {ds : List Declaration} {vs : List Variable} {c : Body} {x : Value} (h : Listed rows layout cells states now e width ds vs c x) where
   pub list_cell : 0 < length now
   list_cell = some_cell h.lies
 
@@ -78,11 +77,11 @@ module _ {rows : List ℕ} {t : Table} {layout : List ℕ} {cells : List ℤ} {s
     element_current : Current (take (at + width - at) (drop at now)) c (element_at x i)
     element_current = record { lies = element_lies h.lies i at width h.width_is p more; small = omega (arith, list_size c, h.small) }
 
-    pub element_ready : Ready rows t layout cells states (take (at + width - at) (drop at now)) e
+    pub element_ready : Ready rows layout cells states (take (at + width - at) (drop at now)) e
     element_ready = record { declarations = ds; store = vs; world = h.world; body = c; value = element_at x i; is = element_current; result = boolean; passed = h.passed }
 
     -- one result more
-    pub sees_more : {n : ℕ} {s : List ℤ} (r : std.Result Bool Error) → Evaluates rows t layout cells states (take (at + width - at) (drop at now)) e n s
+    pub sees_more : {n : ℕ} {s : List ℤ} (r : std.Result Bool Error) → Evaluates rows layout cells states (take (at + width - at) (drop at now)) e n s
         → ((o : Result Value) → Leaves n s boolean o → Tells r (all_told (first_results e vs x i ++ (o ∷ [])))) → Tells r (all_told (first_results e vs x (i + 1)))
     sees_more r k f =
         subst (λ (rs : List (Result Value)). Tells r (all_told rs))
@@ -101,9 +100,9 @@ all_is : (row : ℕ) (e : Expression) (vs : List Variable) (x : Value) → (all_
 unfolding eval_erased all_told
 all_is row e vs x = concluded (all_answers (map (λ v. eval_erased e (values_of (contents vs)) v) (value_list (as_items x))))
 
-pub all_evaluates : {rows : List ℕ} {t : Table} {layout : List ℕ} {cells : List ℤ} {states : List ℕ} {now : List ℤ} (row : ℕ) (e : Expression) (width : ℕ) → width ≡ get_or layout (2 * row + 1) 0 → {n : ℕ} {s : List ℤ} (r : std.Result Bool Error) (i : ℕ) → i ≡ counted now
-    → ((ds : List Declaration) (vs : List Variable) (c : Body) (x : Value) → Listed rows t layout cells states now e width ds vs c x → Tells r (all_told (first_results e vs x i)))
-    → ((rs : List (Result Value)) → Tells r (all_told rs) → Leaves n s boolean (all_told rs >>= λ b. ok (truth b))) → Evaluates rows t layout cells states now (all_list row e) n s
+pub all_evaluates : {rows : List ℕ} {layout : List ℕ} {cells : List ℤ} {states : List ℕ} {now : List ℤ} (row : ℕ) (e : Expression) (width : ℕ) → width ≡ get_or layout (2 * row + 1) 0 → {n : ℕ} {s : List ℤ} (r : std.Result Bool Error) (i : ℕ) → i ≡ counted now
+    → ((ds : List Declaration) (vs : List Variable) (c : Body) (x : Value) → Listed rows layout cells states now e width ds vs c x → Tells r (all_told (first_results e vs x i)))
+    → ((rs : List (Result Value)) → Tells r (all_told rs) → Leaves n s boolean (all_told rs >>= λ b. ok (truth b))) → Evaluates rows layout cells states now (all_list row e) n s
 all_evaluates row e width q r i z g f = record {
   leaves = λ ds vs cur b x w h d.
       let k = listed width q w h d in

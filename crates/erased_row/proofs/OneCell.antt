@@ -19,7 +19,6 @@ use Rattle.lingua.specs.Expression.{Expression}
 use Rattle.lingua.specs.Store.{Variable, contents, filled_at}
 use Rattle.lingua.specs.Typing.{Bodies}
 use Rattle.lingua.specs.Erased.{values_of}
-use Rattle.decoder.specs.declared.tables.Table.{Table}
 use Rattle.cells.specs.Stack.{Leaves}
 use Rattle.run.specs.Memory.{Memory}
 use Rattle.run.proofs.Parts.{cells_room}
@@ -27,11 +26,11 @@ use Rattle.erased_row.specs.Meaning.{Current, Evaluates, EvaluatesUnless}
 use Rattle.erased_row.proofs.Storing.{current_room, leaves_current, filled_there, leaves_filled}
 
 -- ---- answered, or left to the evaluation
-module _ {rows : List ℕ} {t : Table} {layout : List ℕ} {cells : List ℤ} {states : List ℕ} {now : List ℤ} {e : Expression} {s : List ℤ} where
-  pub at_once : {a : std.Result (Unit {0}) Error} → Evaluates rows t layout cells states now e (number_of a) s → EvaluatesUnless rows t layout cells states now e (std.Some a) s
-  at_once {a} h = record { evaluates = λ b q. let k : a ≡ b = cc in subst (λ (r : std.Result (Unit {0}) Error). Evaluates rows t layout cells states now e (number_of r) s) k h }
+module _ {rows : List ℕ} {layout : List ℕ} {cells : List ℤ} {states : List ℕ} {now : List ℤ} {e : Expression} {s : List ℤ} where
+  pub at_once : {a : std.Result (Unit {0}) Error} → Evaluates rows layout cells states now e (number_of a) s → EvaluatesUnless rows layout cells states now e (std.Some a) s
+  at_once {a} h = record { evaluates = λ b q. let k : a ≡ b = cc in subst (λ (r : std.Result (Unit {0}) Error). Evaluates rows layout cells states now e (number_of r) s) k h }
 
-  pub left_over : EvaluatesUnless rows t layout cells states now e std.None s
+  pub left_over : EvaluatesUnless rows layout cells states now e std.None s
   left_over = record { evaluates = λ b q. let k : ⊥ = cc in absurd k }
 
 -- ---- the cell

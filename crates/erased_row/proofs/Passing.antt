@@ -24,7 +24,6 @@ use Rattle.safety.specs.Derivation.{Derived, DerivedRow, of_constant, of_variabl
 use Rattle.safety.specs.Layout.{HoldsIn}
 use Rattle.safety.specs.Sizes.{Small, derived_size, tree_small}
 use Rattle.safety.specs.Named.{number_of}
-use Rattle.decoder.specs.declared.tables.Table.{Table}
 use Rattle.run.specs.Reached.{Lent}
 use Rattle.erased_row.specs.Meaning.{World, Current, Passed, Running}
 
@@ -105,22 +104,19 @@ pub record Sizes (layout : List ℕ) (a : ℕ) (c : Body) : Type 0 where
   pub at : get_or layout (2 * a) 0 ≡ size c
   pub small : size c ≤ body_cells
 
-module _ {rows : List ℕ} {t : Table} {layout : List ℕ} {cells : List ℤ} {states : List ℕ} {ds : List Declaration} {vs : List Variable} (w : World rows t layout cells states ds vs) where
-  pub table_of : {a : ℕ} → a < t.count → a < table_count rows expression_section
-  table_of l = omega (arith, l, w.table.count)
-
+module _ {rows : List ℕ} {layout : List ℕ} {cells : List ℤ} {states : List ℕ} {ds : List Declaration} {vs : List Variable} (w : World rows layout cells states ds vs) where
   -- each row has its two numbers
-  pub layout_room : {a : ℕ} → a < t.count → 2 * a + 1 < length layout
-  layout_room l = omega (arith, (counts rows w.accepted.counts).expressions.most, w.table.count, w.long, l)
+  pub layout_room : {a : ℕ} → a < table_count rows expression_section → 2 * a + 1 < length layout
+  layout_room l = omega (arith, (counts rows w.accepted.counts).expressions.most, w.long, l)
 
-  pub sizes : {current : List ℤ} {cur c : Body} {x : Value} (a : ℕ) → a < t.count → Current current cur x → Passed layout ds (expression_tree rows a) cur c → Sizes layout a c
+  pub sizes : {current : List ℤ} {cur c : Body} {x : Value} (a : ℕ) → a < table_count rows expression_section → Current current cur x → Passed layout ds (expression_tree rows a) cur c → Sizes layout a c
   unfolding Small
   sizes a l h d = record {
     at = ap (λ (k : ℕ). get_or layout (2 * k) 0) (sym (tree_row rows a)) ∙ size_of d;
-    small = derived_size w.small d (tree_small rows w.accepted a (table_of l)) h.small;
+    small = derived_size w.small d (tree_small rows w.accepted a l) h.small;
   }
 
 -- ---- an instruction row of the store's own scope
-pub row_passed : {p : Profile} {a : ℕ} {rows : List ℕ} {t : Table} {layout : List ℕ} {limits : List ℤ} {l : Lent} {vs : List Variable} → Running p a rows t layout limits l vs → (r : ℕ) → r < table_count rows instruction_section → instruction_scope rows r ≡ a
+pub row_passed : {p : Profile} {a : ℕ} {rows : List ℕ} {layout : List ℕ} {limits : List ℤ} {l : Lent} {vs : List Variable} → Running p a rows layout limits l vs → (r : ℕ) → r < table_count rows instruction_section → instruction_scope rows r ≡ a
     → DerivedRow (HoldsIn layout) (λ k. scope_bodies p (suc k)) (scope_bodies p a) (instruction_tree rows r)
 row_passed {p} {rows = rows} {layout = layout} w r l q = subst (λ (b : ℕ). DerivedRow (HoldsIn layout) (λ k. scope_bodies p (suc k)) (scope_bodies p b) (instruction_tree rows r)) q (w.passed_rows r l)

@@ -1,11 +1,11 @@
 -- What the code of the erased run holds and gives: bare numbers, the layout table, and no body. The bodies stand in the premises alone, as the
 -- type check found them. Assumes nothing: these are definitions.
-use Rattle.std.specs.Prelude.{◌≡◌, Bool, true, List, ℕ, suc, ◌+◌, ◌*◌, ◌≤◌, ◌<◌, ℤ, length, drop, get_or}
+use Rattle.std.specs.Prelude.{◌≡◌, Bool, true, List, [], ℕ, suc, ◌+◌, ◌*◌, ◌≤◌, ◌<◌, ℤ, length, drop, get_or}
 use Rattle.std.specs.Prelude as std
 use Rattle.std.proofs.Math.Option.{some}
 use Rattle.lingua.specs.declared.errors.Error.{Error}
 use Rattle.lingua.specs.Faults.{number_of}
-use Rattle.lingua.specs.Numbers.{body_cells, expression_section, instruction_section, scope_table, layout_length, most_variables, limit_cells, declaration_section}
+use Rattle.lingua.specs.Numbers.{body_cells, instruction_section, scope_table, layout_length, most_variables, limit_cells, declaration_section}
 use Rattle.lingua.specs.Outcome.{ok, Result, ◌>>=◌, all_answers}
 use Rattle.lingua.specs.Body.{Body, boolean, is_quantity, size}
 use Rattle.lingua.specs.Value.{Value, as_truth, all_of}
@@ -28,17 +28,19 @@ use Rattle.safety.specs.TypeSound.{VariablesFit}
 use Rattle.lingua.specs.Erased.{values_of, eval_erased, yoke_erased}
 use Rattle.profile.specs.Variables.{LimitAt}
 use Rattle.profile.specs.Yokes.{YokeOf}
-use Rattle.decoder.specs.Tables.{IsTable}
-use Rattle.decoder.specs.declared.tables.Table.{Table}
 use Rattle.cells.specs.Stack.{Lies, Leaves, first_place}
 use Rattle.run.specs.Memory.{Memory}
-use Rattle.run.specs.Reached.{Lent}
+use Rattle.run.specs.Reached.{Lent, lent}
+use Rattle.run.specs.declared.memory.Memory.{Memory as MemoryLent}
 
--- accepted rows with their table, a layout table, and the caller's memory, which holds a store of at most 16 variables, each of its declared
+-- what lent memory holds for the erased run, which does without bodies
+abbrev pub bare_in : MemoryLent → Lent
+bare_in m = lent m.cells.now m.states.now []
+
+-- accepted rows, a layout table, and the caller's memory, which holds a store of at most 16 variables, each of its declared
 -- body where it is filled. Whose variables they are is not asked: one that is behind them is not filled
-pub record World (rows : List ℕ) (t : Table) (layout : List ℕ) (cells : List ℤ) (states : List ℕ) (ds : List Declaration) (vs : List Variable) : Type 0 where
+pub record World (rows : List ℕ) (layout : List ℕ) (cells : List ℤ) (states : List ℕ) (ds : List Declaration) (vs : List Variable) : Type 0 where
   pub accepted : AcceptedRows rows
-  pub table : IsTable rows expression_section t
   pub long : length layout ≡ layout_length
   pub cells_are : cells ≡ cells_in vs
   pub states_are : states ≡ states_in vs
@@ -60,10 +62,10 @@ abbrev pub PassedYoke : List ℕ → List Declaration → Yoke → Body → Type
 PassedYoke layout ds y cur = DerivedYoke (HoldsIn layout) (bodies_of ds) y cur
 
 -- what evaluation of a tree asks: some such store, current value and bodies
-pub record Ready (rows : List ℕ) (t : Table) (layout : List ℕ) (cells : List ℤ) (states : List ℕ) (current : List ℤ) (e : Expression) : Type 0 where
+pub record Ready (rows : List ℕ) (layout : List ℕ) (cells : List ℤ) (states : List ℕ) (current : List ℤ) (e : Expression) : Type 0 where
   pub declarations : List Declaration
   pub store : List Variable
-  pub world : World rows t layout cells states declarations store
+  pub world : World rows layout cells states declarations store
   pub body : Body
   pub value : Value
   pub is : Current current body value
@@ -71,42 +73,42 @@ pub record Ready (rows : List ℕ) (t : Table) (layout : List ℕ) (cells : List
   pub passed : Passed layout declarations e body result
 
 -- what evaluation of a yoke asks
-pub record ReadyYoke (rows : List ℕ) (t : Table) (layout : List ℕ) (cells : List ℤ) (states : List ℕ) (current : List ℤ) (y : Yoke) : Type 0 where
+pub record ReadyYoke (rows : List ℕ) (layout : List ℕ) (cells : List ℤ) (states : List ℕ) (current : List ℤ) (y : Yoke) : Type 0 where
   pub declarations : List Declaration
   pub store : List Variable
-  pub world : World rows t layout cells states declarations store
+  pub world : World rows layout cells states declarations store
   pub body : Body
   pub value : Value
   pub is : Current current body value
   pub passed : PassedYoke layout declarations y body
 
 -- what evaluation outside yokes asks, where a Boolean stands for the current value
-pub record ReadyPlain (rows : List ℕ) (t : Table) (layout : List ℕ) (cells : List ℤ) (states : List ℕ) (e : Expression) : Type 0 where
+pub record ReadyPlain (rows : List ℕ) (layout : List ℕ) (cells : List ℤ) (states : List ℕ) (e : Expression) : Type 0 where
   pub declarations : List Declaration
   pub store : List Variable
-  pub world : World rows t layout cells states declarations store
+  pub world : World rows layout cells states declarations store
   pub result : Body
   pub passed : Passed layout declarations e no_current_body result
 
 -- ---- what evaluation gives
 -- what the values' half of the tree gives, for every store, current value and bodies with which the type check passed it
-pub record Evaluates (rows : List ℕ) (t : Table) (layout : List ℕ) (cells : List ℤ) (states : List ℕ) (current : List ℤ) (e : Expression) (r : ℕ) (stack : List ℤ) : Type 0 where
-  pub leaves : (ds : List Declaration) (vs : List Variable) (cur b : Body) (x : Value) → World rows t layout cells states ds vs → Current current cur x → Passed layout ds e cur b
+pub record Evaluates (rows : List ℕ) (layout : List ℕ) (cells : List ℤ) (states : List ℕ) (current : List ℤ) (e : Expression) (r : ℕ) (stack : List ℤ) : Type 0 where
+  pub leaves : (ds : List Declaration) (vs : List Variable) (cur b : Body) (x : Value) → World rows layout cells states ds vs → Current current cur x → Passed layout ds e cur b
       → Leaves r stack b (eval_erased e (values_of (contents vs)) x)
 
 -- the same of a yoke
-pub record EvaluatesYoke (rows : List ℕ) (t : Table) (layout : List ℕ) (cells : List ℤ) (states : List ℕ) (current : List ℤ) (y : Yoke) (r : ℕ) (stack : List ℤ) : Type 0 where
-  pub leaves : (ds : List Declaration) (vs : List Variable) (cur : Body) (x : Value) → World rows t layout cells states ds vs → Current current cur x → PassedYoke layout ds y cur
+pub record EvaluatesYoke (rows : List ℕ) (layout : List ℕ) (cells : List ℤ) (states : List ℕ) (current : List ℤ) (y : Yoke) (r : ℕ) (stack : List ℤ) : Type 0 where
+  pub leaves : (ds : List Declaration) (vs : List Variable) (cur : Body) (x : Value) → World rows layout cells states ds vs → Current current cur x → PassedYoke layout ds y cur
       → Leaves r stack boolean (yoke_erased y (values_of (contents vs)) x)
 
 -- the same outside yokes
-pub record EvaluatesPlain (rows : List ℕ) (t : Table) (layout : List ℕ) (cells : List ℤ) (states : List ℕ) (e : Expression) (r : ℕ) (stack : List ℤ) : Type 0 where
-  pub leaves : (ds : List Declaration) (vs : List Variable) (b : Body) → World rows t layout cells states ds vs → Passed layout ds e no_current_body b
+pub record EvaluatesPlain (rows : List ℕ) (layout : List ℕ) (cells : List ℤ) (states : List ℕ) (e : Expression) (r : ℕ) (stack : List ℤ) : Type 0 where
+  pub leaves : (ds : List Declaration) (vs : List Variable) (b : Body) → World rows layout cells states ds vs → Passed layout ds e no_current_body b
       → Leaves r stack b (eval_erased e (values_of (contents vs)) no_current.value)
 
 -- what evaluation gives, where a result is told at all
-pub record EvaluatesUnless (rows : List ℕ) (t : Table) (layout : List ℕ) (cells : List ℤ) (states : List ℕ) (current : List ℤ) (e : Expression) (r : std.Option (std.Result (Unit {0}) Error)) (stack : List ℤ) : Type 0 where
-  pub evaluates : (a : std.Result (Unit {0}) Error) → r ≡ std.Some a → Evaluates rows t layout cells states current e (number_of a) stack
+pub record EvaluatesUnless (rows : List ℕ) (layout : List ℕ) (cells : List ℤ) (states : List ℕ) (current : List ℤ) (e : Expression) (r : std.Option (std.Result (Unit {0}) Error)) (stack : List ℤ) : Type 0 where
+  pub evaluates : (a : std.Result (Unit {0}) Error) → r ≡ std.Some a → Evaluates rows layout cells states current e (number_of a) stack
 
 -- the first error of an all-list yoke's results, or whether all are true
 unfoldable pub all_told : List (Result Value) → Result Bool
@@ -170,8 +172,8 @@ pub record HasBinary (layout : List ℕ) (o : Binary) (row a b first second : �
 -- a store of a run, of the variables of one scope of a profile: 0 is the profile's own, 1 + k that of procedure k. What the type check found of
 -- its current yokes and of every instruction row, each by its own scope, and its limits, which number and hundredths variables alone have. With the world's
 -- bodies, this makes a state of a passed profile's run. The lent bodies are asked nothing: the erased run has none.
-pub record Running (p : Profile) (a : ℕ) (rows : List ℕ) (t : Table) (layout : List ℕ) (limits : List ℤ) (l : Lent) (vs : List Variable) : Type 0 where
-  pub world : World rows t layout l.cells l.states (scope_declarations p a) vs
+pub record Running (p : Profile) (a : ℕ) (rows : List ℕ) (layout : List ℕ) (limits : List ℤ) (l : Lent) (vs : List Variable) : Type 0 where
+  pub world : World rows layout l.cells l.states (scope_declarations p a) vs
   pub count : length vs ≡ pair_count rows (scope_table a)
   pub kept : StoreKept (scope_store p a) vs
   pub passed_yokes : YokesDerived (HoldsIn layout) (scope_bodies p a) vs
@@ -184,17 +186,17 @@ pub record Running (p : Profile) (a : ℕ) (rows : List ℕ) (t : Table) (layout
   pub yokes : (n : ℕ) → n < length vs → YokeOf rows (variable_at vs n).yoke
 
 -- some such store, of a scope with a property
-pub record HasRunning (rows : List ℕ) (t : Table) (layout : List ℕ) (limits : List ℤ) (l : Lent) (P : ℕ → Type 0) : Type 0 where
+pub record HasRunning (rows : List ℕ) (layout : List ℕ) (limits : List ℤ) (l : Lent) (P : ℕ → Type 0) : Type 0 where
   pub profile : Profile
   pub scope : ℕ
   pub store : List Variable
-  pub running : Running profile scope rows t layout limits l store
+  pub running : Running profile scope rows layout limits l store
   pub of_scope : P scope
 
 -- some limits, and such a store
-pub record HasStore (rows : List ℕ) (t : Table) (layout : List ℕ) (l : Lent) (P : ℕ → Type 0) : Type 0 where
+pub record HasStore (rows : List ℕ) (layout : List ℕ) (l : Lent) (P : ℕ → Type 0) : Type 0 where
   pub limits : List ℤ
-  pub has : HasRunning rows t layout limits l P
+  pub has : HasRunning rows layout limits l P
 
 -- ---- what an instruction row says, for whichever row of scope a it is
 -- a test of expression row e

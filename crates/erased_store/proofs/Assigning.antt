@@ -9,7 +9,8 @@ use native.Mathlib.Omega.{arith}
 use lib.IntN.{ℤ, pos}
 use lib.ListN.{length, take, drop, get_or, set}
 use lib.Seq.{paste}
-use Rattle.lingua.specs.Numbers.{body_cells}
+use Rattle.lingua.specs.Numbers.{body_cells, expression_section}
+use Rattle.lingua.specs.Rows.{table_count}
 use Rattle.lingua.specs.Errors.{yoke_not_satisfied}
 use Rattle.lingua.specs.Outcome.{ok, fail, Result, require, ◌>>=◌, ◌>>◌}
 use Rattle.lingua.specs.Value.{Value, as_truth, as_whole, Composite}
@@ -25,7 +26,6 @@ use Rattle.safety.specs.Layout.{HoldsIn}
 use Rattle.safety.specs.Programs.{YokesDerived}
 use Rattle.profile.specs.Variables.{LimitAt}
 use Rattle.profile.specs.Yokes.{always_is}
-use Rattle.decoder.specs.declared.tables.Table.{Table}
 use Rattle.cells.proofs.Operands.{lies_as}
 use Rattle.cells.proofs.Singles.{quantity_cell}
 use Rattle.run.specs.Reached.{lent, Settles}
@@ -49,7 +49,7 @@ limit_behind (ok v) b = by (as_truth v)
     by true = refl
     by false = refl
 
-module _ {p : Profile} {a : ℕ} {rows : List ℕ} {t : Table} {layout : List ℕ} {limits cells : List ℤ} {states : List ℕ} {vs : List Variable} (w : Running p a rows t layout limits (lent cells states []) vs) (n : ℕ) where
+module _ {p : Profile} {a : ℕ} {rows : List ℕ} {layout : List ℕ} {limits cells : List ℤ} {states : List ℕ} {vs : List Variable} (w : Running p a rows layout limits (lent cells states []) vs) (n : ℕ) where
   module _ (x : Composite) (b : x.body ≡ scope_bodies p a n) where
     limit : Bool
     limit = within (variable_at vs n).limit (as_whole x.value)
@@ -93,11 +93,11 @@ module _ {p : Profile} {a : ℕ} {rows : List ℕ} {t : Table} {layout : List �
     limit_is c told = told (variable_at vs n).limit (w.limited n lt) ∙ first_cell (variable_at vs n).limit refl
 
     module _ (s : Satisfies vs n x) (c : Bool) (told : Asked c) where
-      pub outside : c ≡ false → Settles yoke_not_satisfied (Running p a rows t layout limits) (lent cells states []) (lent cells states []) (assigned vs n x)
+      pub outside : c ≡ false → Settles yoke_not_satisfied (Running p a rows layout limits) (lent cells states []) (lent cells states []) (assigned vs n x)
       outside e = keeps yoke_not_satisfied (λ z. omega arith) (limit_fails x f.declared_body_lem s (sym (limit_is c told) ∙ e))
 
       pub inside : c ≡ true → (after : List ℤ) (words : List ℕ) → after ≡ take (body_cells * n) cells ++ (paste (take body_cells (drop (body_cells * n) cells)) 0 value width ++ drop (body_cells * n + body_cells) cells) → words ≡ fill_at states n
-          → Settles 0 (Running p a rows t layout limits) (lent cells states []) (lent after words []) (assigned vs n x)
+          → Settles 0 (Running p a rows layout limits) (lent cells states []) (lent after words []) (assigned vs n x)
       inside e after words p q =
           let ok-is = limit_passes x f.declared_body_lem s (sym (limit_is c told) ∙ e) in
           stores_as (set vs n (with_content (variable_at vs n) x)) ok-is
@@ -106,9 +106,9 @@ module _ {p : Profile} {a : ℕ} {rows : List ℕ} {t : Table} {layout : List �
           (q ∙ states_stored vs n lt x w.world.states_are))
 
 -- ---- the yoke
-module _ {p : Profile} {a : ℕ} {rows : List ℕ} {t : Table} {layout : List ℕ} {limits cells : List ℤ} {states : List ℕ} {vs : List Variable} (w : Running p a rows t layout limits (lent cells states []) vs) (n : ℕ) (lt : n < length vs) where
-  pub yoke_there : {k : ℕ} → k ≡ yoke_at states n → k ≤ t.count
-  yoke_there e = omega (arith, e, Parts.yoke_there (memory_of w.world) n lt (w.yokes n lt), w.world.table.count)
+module _ {p : Profile} {a : ℕ} {rows : List ℕ} {layout : List ℕ} {limits cells : List ℤ} {states : List ℕ} {vs : List Variable} (w : Running p a rows layout limits (lent cells states []) vs) (n : ℕ) (lt : n < length vs) where
+  pub yoke_there : {k : ℕ} → k ≡ yoke_at states n → k ≤ table_count rows expression_section
+  yoke_there e = omega (arith, e, Parts.yoke_there (memory_of w.world) n lt (w.yokes n lt))
 
   own_yoke : {k : ℕ} → k ≡ yoke_at states n → yoke_tree rows k ≡ (variable_at vs n).yoke
   own_yoke e = ap (yoke_tree rows) e ∙ Parts.own_yoke (memory_of w.world) n lt (w.yokes n lt)
@@ -127,10 +127,10 @@ module _ {p : Profile} {a : ℕ} {rows : List ℕ} {t : Table} {layout : List �
     unfolding YokesDerived
     own_passed e = subst (λ (y : Yoke). DerivedYoke (HoldsIn layout) (scope_bodies p a) y (scope_bodies p a n)) (sym (own_yoke e)) (w.passed_yokes n)
 
-    pub value_ready : {k : ℕ} → k ≡ yoke_at states n → ReadyYoke rows t layout cells states value (yoke_tree rows k)
+    pub value_ready : {k : ℕ} → k ≡ yoke_at states n → ReadyYoke rows layout cells states value (yoke_tree rows k)
     value_ready e = record { declarations = scope_declarations p a; store = vs; world = w.world; body = scope_bodies p a n; value = x.value; is = value_current; passed = own_passed e }
 
-    pub own_admits : {k : ℕ} → k ≡ yoke_at states n → {r : ℕ} → AdmitsValue rows t layout cells states value (yoke_tree rows k) r → Admits r (yoke_holds_erased (variable_at vs n).yoke (values_of (contents vs)) (some x.value))
+    pub own_admits : {k : ℕ} → k ≡ yoke_at states n → {r : ℕ} → AdmitsValue rows layout cells states value (yoke_tree rows k) r → Admits r (yoke_holds_erased (variable_at vs n).yoke (values_of (contents vs)) (some x.value))
     own_admits e {r} h =
         subst (λ (y : Yoke). Admits r (yoke_holds_erased y (values_of (contents vs)) (some x.value))) (own_yoke e)
         (h.admits (scope_declarations p a) vs (scope_bodies p a n) x.value w.world value_current (own_passed e))

@@ -14,7 +14,6 @@ use Rattle.lingua.specs.Value.{Composite}
 use Rattle.lingua.specs.Store.{Variable, assigned, copied, filled_at}
 use Rattle.lingua.specs.Run.{Profile}
 use Rattle.lingua.specs.Typing.{scope_bodies}
-use Rattle.decoder.specs.declared.tables.Table.{Table}
 use Rattle.run.specs.Reached.{lent}
 use Rattle.run.proofs.Parts.{unfilled_is, filled_is}
 use Rattle.erased_row.specs.Meaning.{Running}
@@ -22,7 +21,7 @@ use Rattle.erased_row.proofs.Cycle.{memory_of}
 use Rattle.erased_store.specs.Meaning.{ValueFor}
 use Rattle.erased_store.proofs.Values.{part_value}
 
-module _ {p : Profile} {a : ℕ} {rows : List ℕ} {t : Table} {layout : List ℕ} {limits cells : List ℤ} {states bodies : List ℕ} {vs : List Variable} (w : Running p a rows t layout limits (lent cells states bodies) vs) (n : ℕ) (lt : n < length vs) where
+module _ {p : Profile} {a : ℕ} {rows : List ℕ} {layout : List ℕ} {limits cells : List ℤ} {states bodies : List ℕ} {vs : List Variable} (w : Running p a rows layout limits (lent cells states bodies) vs) (n : ℕ) (lt : n < length vs) where
   pub not_copied : filled_at states n ≡ false → (ws : List Variable) (m : ℕ) → copied assigned vs n ws m ≡ fail not_filled
   unfolding copied
   not_copied e ws m = ap (λ (c : Option Composite). or_fail c not_filled >>= λ x. assigned ws m x) (unfilled_is (memory_of w.world) n lt e)

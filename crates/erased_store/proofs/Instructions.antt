@@ -7,13 +7,13 @@ use Prim.Native.Nat.{ℕ, suc, ◌*◌, ◌≤◌, ◌<◌}
 use native.Mathlib.Omega.{arith}
 use lib.IntN.{ℤ}
 use lib.ListN.{length, get_or, set}
-use Rattle.lingua.specs.Numbers.{declaration_section, scope_table}
+use Rattle.lingua.specs.Numbers.{declaration_section, expression_section, scope_table}
 use Rattle.lingua.specs.Outcome.{ok, Result, ◌>>=◌, ◌>>◌}
 use Rattle.lingua.specs.Body.{is_hundredths, is_quantity, size}
 use Rattle.lingua.specs.Value.{Value, in_range_of, quantity_body, Composite, composite}
 use Rattle.lingua.specs.Expression.{Instruction}
 use Rattle.lingua.specs.Evaluation.{eval, no_current}
-use Rattle.lingua.specs.Rows.{pair_count}
+use Rattle.lingua.specs.Rows.{pair_count, table_count}
 use Rattle.lingua.specs.Refusal.{is_quantity_variable}
 use Rattle.lingua.specs.Store.{Variable, variable_at, present_body, contents, reading_value, with_yoke, assigned, yoke_changed, set_yoke_at}
 use Rattle.lingua.specs.Trees.{body_or, declared_body, expression_tree, yoke_tree}
@@ -27,7 +27,6 @@ use Rattle.safety.specs.Erasure.{with_body, eval_erased_lem}
 use Rattle.safety.specs.ErasedSteps.{changed_erased_lem}
 use Rattle.safety.specs.Invariant.{WellMade}
 use Rattle.safety.specs.Layout.{HoldsIn}
-use Rattle.decoder.specs.declared.tables.Table.{Table}
 use Rattle.cells.specs.Stack.{Leaves}
 use Rattle.cells.proofs.Singles.{put_quantity}
 use Rattle.run.specs.Reached.{Lent, lent, Settles}
@@ -50,7 +49,7 @@ unfolding size
 quantity_size true = refl
 quantity_size false = refl
 
-module _ {p : Profile} {a : ℕ} {rows : List ℕ} {t : Table} {layout : List ℕ} {limits cells : List ℤ} {states : List ℕ} {vs : List Variable} (w : Running p a rows t layout limits (lent cells states []) vs) where
+module _ {p : Profile} {a : ℕ} {rows : List ℕ} {layout : List ℕ} {limits cells : List ℤ} {states : List ℕ} {vs : List Variable} (w : Running p a rows layout limits (lent cells states []) vs) where
   assign_passed : {n e : ℕ} → AssignRow rows a n e → Passed layout (scope_declarations p a) (expression_tree rows e) no_current_body (scope_bodies p a n)
   unfolding DerivedRow
   assign_passed r = subst (λ (i : Instruction). DerivedRow (HoldsIn layout) (λ k. scope_bodies p (suc k)) (scope_bodies p a) i) r.is (row_passed w r.at r.there r.scope)
@@ -74,21 +73,21 @@ module _ {p : Profile} {a : ℕ} {rows : List ℕ} {t : Table} {layout : List �
   own_there {n} own l = omega (arith, w.count, subst (λ (c : ℕ). n < pair_count rows (scope_table c)) (sym own) l)
 
   -- ---- what evaluation asks
-  pub assign_ready : {n e : ℕ} → AssignRow rows a n e → ReadyPlain rows t layout cells states (expression_tree rows e)
+  pub assign_ready : {n e : ℕ} → AssignRow rows a n e → ReadyPlain rows layout cells states (expression_tree rows e)
   assign_ready {n} r = record { declarations = scope_declarations p a; store = vs; world = w.world; result = scope_bodies p a n; passed = assign_passed r }
 
-  pub change_ready : {n y : ℕ} → YokeRow rows a n y → n < length vs → HasChange rows t layout cells states n (yoke_tree rows y)
+  pub change_ready : {n y : ℕ} → YokeRow rows a n y → n < length vs → HasChange rows layout cells states n (yoke_tree rows y)
   change_ready r lt = record { declarations = scope_declarations p a; store = vs; world = w.world; there = lt; passed = yoke_passed r }
 
   -- ---- an assignment
-  module _ {n e : ℕ} (row : AssignRow rows a n e) {r : ℕ} {s : List ℤ} (h : EvaluatesPlain rows t layout cells states (expression_tree rows e) r s) where
+  module _ {n e : ℕ} (row : AssignRow rows a n e) {r : ℕ} {s : List ℤ} (h : EvaluatesPlain rows layout cells states (expression_tree rows e) r s) where
     leaves : Leaves r s (scope_bodies p a n) (eval_erased (expression_tree rows e) (values_of (contents vs)) no_current.value)
     leaves = h.leaves (scope_declarations p a) vs (scope_bodies p a n) w.world (assign_passed row)
 
     evaluated : eval (expression_tree rows e) (contents vs) no_current ≡ with_body (scope_bodies p a n) (eval_erased (expression_tree rows e) (values_of (contents vs)) no_current.value)
     evaluated = eval_erased_lem (scope_bodies p a) (contents vs) w.world.fit (expression_tree rows e) no_current (assign_passed row)
 
-    pub not_assigned : (r ≡ 0 → ⊥) → Settles r (Running p a rows t layout limits) (lent cells states []) (lent cells states []) (eval (expression_tree rows e) (contents vs) no_current >>= assigned vs n)
+    pub not_assigned : (r ≡ 0 → ⊥) → Settles r (Running p a rows layout limits) (lent cells states []) (lent cells states []) (eval (expression_tree rows e) (contents vs) no_current >>= assigned vs n)
     not_assigned f = keeps r f (ap (λ (o : Result Composite). o >>= assigned vs n) (evaluated ∙ ap (λ (o : Result Value). with_body (scope_bodies p a n) o) (leaves.error f)))
 
     module _ (z : r ≡ 0) where
@@ -100,30 +99,30 @@ module _ {p : Profile} {a : ℕ} {rows : List ℕ} {t : Table} {layout : List �
       unfolding given
       given_assigned = sym (ap (λ (o : Result Composite). o >>= assigned vs n) (evaluated ∙ ap (λ (o : Result Value). with_body (scope_bodies p a n) o) (leaves.answer z).is))
 
-      pub given_value : e < t.count → (width : ℕ) → width ≡ get_or layout (2 * e) 0 → ValueFor (scope_bodies p a n) width s given
+      pub given_value : e < table_count rows expression_section → (width : ℕ) → width ≡ get_or layout (2 * e) 0 → ValueFor (scope_bodies p a n) width s given
       unfolding given
       given_value l width q = value_exact refl (leaves.answer z).lies (q ∙ (sizes w.world e l none_current (assign_passed row)).at) (w.world.small n)
 
       -- what its store settles, the assignment settles
-      pub assigned_settles : {error : ℕ} {after : Lent} → Settles error (Running p a rows t layout limits) (lent cells states []) after (assigned vs n given) → Settles error (Running p a rows t layout limits) (lent cells states []) after (eval (expression_tree rows e) (contents vs) no_current >>= assigned vs n)
+      pub assigned_settles : {error : ℕ} {after : Lent} → Settles error (Running p a rows layout limits) (lent cells states []) after (assigned vs n given) → Settles error (Running p a rows layout limits) (lent cells states []) after (eval (expression_tree rows e) (contents vs) no_current >>= assigned vs n)
       assigned_settles k = settles_as given_assigned k
 
   -- ---- a yoke change
-  module _ {n y : ℕ} (row : YokeRow rows a n y) (lt : n < length vs) {r : ℕ} (h : AdmitsYoke rows t layout cells states n (yoke_tree rows y) r) where
+  module _ {n y : ℕ} (row : YokeRow rows a n y) (lt : n < length vs) {r : ℕ} (h : AdmitsYoke rows layout cells states n (yoke_tree rows y) r) where
     admits : Admits r (yoke_holds_erased (yoke_tree rows y) (values_of (contents vs)) (values_of (contents vs) n))
     admits = h.admits (scope_declarations p a) vs w.world lt (yoke_passed row)
 
     change_is : yoke_changed vs n (yoke_tree rows y) ≡ (yoke_holds_erased (yoke_tree rows y) (values_of (contents vs)) (values_of (contents vs) n) >> ok (set vs n (with_yoke (variable_at vs n) (yoke_tree rows y))))
     change_is = changed_erased_lem (HoldsIn layout) (scope_declarations p a) vs w.kept w.world.fit n (yoke_tree rows y) (yoke_passed row)
 
-    pub not_changed : (r ≡ 0 → ⊥) → Settles r (Running p a rows t layout limits) (lent cells states []) (lent cells states []) (yoke_changed vs n (yoke_tree rows y))
+    pub not_changed : (r ≡ 0 → ⊥) → Settles r (Running p a rows layout limits) (lent cells states []) (lent cells states []) (yoke_changed vs n (yoke_tree rows y))
     not_changed f = keeps r f (change_is ∙ ap (λ (p : Result (Unit {0})). p >> ok (set vs n (with_yoke (variable_at vs n) (yoke_tree rows y)))) (admits.error f))
 
-    pub changed : r ≡ 0 → y ≤ t.count → (words : List ℕ) → words ≡ set_yoke_at states n y → Settles 0 (Running p a rows t layout limits) (lent cells states []) (lent cells words []) (yoke_changed vs n (yoke_tree rows y))
+    pub changed : r ≡ 0 → y ≤ table_count rows expression_section → (words : List ℕ) → words ≡ set_yoke_at states n y → Settles 0 (Running p a rows layout limits) (lent cells states []) (lent cells words []) (yoke_changed vs n (yoke_tree rows y))
     changed z l words q =
         let taken = change_is ∙ ap (λ (p : Result (Unit {0})). p >> ok (set vs n (with_yoke (variable_at vs n) (yoke_tree rows y)))) (admits.answer z) in
         stores_as (set vs n (with_yoke (variable_at vs n) (yoke_tree rows y))) taken
-        (yoke_running w n lt (yoke_tree rows y) (record { number = y; there = omega (arith, l, w.world.table.count); is = refl }) (yoke_closed row) (yoke_passed row) taken
+        (yoke_running w n lt (yoke_tree rows y) (record { number = y; there = l; is = refl }) (yoke_closed row) (yoke_passed row) taken
         words (cells_kept vs n (yoke_tree rows y) w.world.cells_are) (q ∙ words_changed rows vs n lt y w.world.states_are))
 
   -- ---- a reading of one of the profile's own variables: the number lies on the stack

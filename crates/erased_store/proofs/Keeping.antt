@@ -21,22 +21,20 @@ use Rattle.safety.specs.Programs.{YokesDerived, assigned_fit, changed_fit, assig
 use Rattle.safety.specs.Stored.{StoreKept, replaced, assigned_kept, changed_kept}
 use Rattle.safety.specs.TypeSound.{VariablesFit}
 use Rattle.profile.specs.Yokes.{YokeOf}
-use Rattle.decoder.specs.declared.tables.Table.{Table}
 use Rattle.run.specs.Reached.{lent}
 use Rattle.run.proofs.Storing.{limits_kept, yokes_kept}
 use Rattle.erased_row.specs.Meaning.{Running}
 use mathlib.Core.Bool.{true}
 
-module _ {p : Profile} {a : ℕ} {rows : List ℕ} {t : Table} {layout : List ℕ} {limits cells : List ℤ} {states : List ℕ} {vs : List Variable} (h : Running p a rows t layout limits (lent cells states []) vs) (n : ℕ) (lt : n < length vs) where
+module _ {p : Profile} {a : ℕ} {rows : List ℕ} {layout : List ℕ} {limits cells : List ℤ} {states : List ℕ} {vs : List Variable} (h : Running p a rows layout limits (lent cells states []) vs) (n : ℕ) (lt : n < length vs) where
   -- another variable n with the same limit, and every filled variable of its declared body
   replaced_running : (v : Variable) → v.limit ≡ (variable_at vs n).limit → YokeOf rows v.yoke → StoreKept (scope_store p a) (set vs n v) → YokesDerived (HoldsIn layout) (scope_bodies p a) (set vs n v) → VariablesFit (scope_bodies p a) (contents (set vs n v))
-      → (cells' : List ℤ) (states' : List ℕ) → cells' ≡ cells_in (set vs n v) → states' ≡ states_in (set vs n v) → Running p a rows t layout limits (lent cells' states' []) (set vs n v)
+      → (cells' : List ℤ) (states' : List ℕ) → cells' ≡ cells_in (set vs n v) → states' ≡ states_in (set vs n v) → Running p a rows layout limits (lent cells' states' []) (set vs n v)
   replaced_running v l y k d f cells' states' ce se =
       let len : length (set vs n v) ≡ length vs = length-set vs n v in
       record {
         world = record {
           accepted = h.world.accepted;
-          table = h.world.table;
           long = h.world.long;
           cells_are = ce;
           states_are = se;
@@ -60,7 +58,7 @@ module _ {p : Profile} {a : ℕ} {rows : List ℕ} {t : Table} {layout : List �
 
   -- a value of the declared body that was assigned
   pub content_running : (x : Composite) → x.body ≡ scope_bodies p a n → Fitting x → assigned vs n x ≡ ok (set vs n (with_content (variable_at vs n) x)) → (cells' : List ℤ) (states' : List ℕ)
-      → cells' ≡ cells_in (set vs n (with_content (variable_at vs n) x)) → states' ≡ states_in (set vs n (with_content (variable_at vs n) x)) → Running p a rows t layout limits (lent cells' states' []) (set vs n (with_content (variable_at vs n) x))
+      → cells' ≡ cells_in (set vs n (with_content (variable_at vs n) x)) → states' ≡ states_in (set vs n (with_content (variable_at vs n) x)) → Running p a rows layout limits (lent cells' states' []) (set vs n (with_content (variable_at vs n) x))
   content_running x b f e cells' states' ce se =
       let ws = set vs n (with_content (variable_at vs n) x) in
       replaced_running (with_content (variable_at vs n) x) refl (h.yokes n lt)
@@ -68,7 +66,7 @@ module _ {p : Profile} {a : ℕ} {rows : List ℕ} {t : Table} {layout : List �
 
   -- a yoke that took effect
   pub yoke_running : (y : Yoke) → YokeOf rows y → ClosedYoke y → DerivedYoke (HoldsIn layout) (scope_bodies p a) y (scope_bodies p a n) → yoke_changed vs n y ≡ ok (set vs n (with_yoke (variable_at vs n) y))
-      → (states' : List ℕ) → cells ≡ cells_in (set vs n (with_yoke (variable_at vs n) y)) → states' ≡ states_in (set vs n (with_yoke (variable_at vs n) y)) → Running p a rows t layout limits (lent cells states' []) (set vs n (with_yoke (variable_at vs n) y))
+      → (states' : List ℕ) → cells ≡ cells_in (set vs n (with_yoke (variable_at vs n) y)) → states' ≡ states_in (set vs n (with_yoke (variable_at vs n) y)) → Running p a rows layout limits (lent cells states' []) (set vs n (with_yoke (variable_at vs n) y))
   yoke_running y o c d e states' ce se =
       let ws = set vs n (with_yoke (variable_at vs n) y) in
       replaced_running (with_yoke (variable_at vs n) y) refl o

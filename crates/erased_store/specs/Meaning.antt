@@ -13,7 +13,6 @@ use Rattle.lingua.specs.Run.{Declaration, Profile}
 use Rattle.lingua.specs.Typing.{bodies_of, scope_bodies}
 use Rattle.lingua.specs.Trees.{expression_tree, yoke_tree, instruction_tree, instruction_scope}
 use Rattle.lingua.specs.Erased.{values_of, yoke_holds_erased}
-use Rattle.decoder.specs.declared.tables.Table.{Table}
 use Rattle.run.specs.Memory.{Admits}
 use Rattle.run.specs.Reached.{Lent, lent}
 use Rattle.erased_row.specs.Meaning.{World, Current, PassedYoke, Running}
@@ -45,11 +44,11 @@ pub record ValueFor (b : Body) (width : ℕ) (value : List ℤ) (x : Composite) 
   pub narrow : width ≤ body_cells
 
 -- some store of a run with a variable n, and some such value
-pub record Storable (rows : List ℕ) (t : Table) (layout : List ℕ) (limits : List ℤ) (l : Lent) (n width : ℕ) (value : List ℤ) : Type 0 where
+pub record Storable (rows : List ℕ) (layout : List ℕ) (limits : List ℤ) (l : Lent) (n width : ℕ) (value : List ℤ) : Type 0 where
   pub profile : Profile
   pub scope : ℕ
   pub store : List Variable
-  pub running : Running profile scope rows t layout limits l store
+  pub running : Running profile scope rows layout limits l store
   pub there : n < length store
   pub composite : Composite
   pub is : ValueFor (scope_bodies profile scope n) width value composite
@@ -67,35 +66,35 @@ pub record Satisfies (vs : List Variable) (n : ℕ) (x : Composite) : Type 0 whe
   pub holds : yoke_holds_erased (variable_at vs n).yoke (values_of (contents vs)) (some x.value) ≡ ok tt
 
 -- whether a value satisfies a yoke, for every store, value and body with which the type check passed it
-pub record AdmitsValue (rows : List ℕ) (t : Table) (layout : List ℕ) (cells : List ℤ) (states : List ℕ) (value : List ℤ) (y : Yoke) (r : ℕ) : Type 0 where
-  pub admits : (ds : List Declaration) (vs : List Variable) (cur : Body) (x : Value) → World rows t layout cells states ds vs → Current value cur x → PassedYoke layout ds y cur
+pub record AdmitsValue (rows : List ℕ) (layout : List ℕ) (cells : List ℤ) (states : List ℕ) (value : List ℤ) (y : Yoke) (r : ℕ) : Type 0 where
+  pub admits : (ds : List Declaration) (vs : List Variable) (cur : Body) (x : Value) → World rows layout cells states ds vs → Current value cur x → PassedYoke layout ds y cur
       → Admits r (yoke_holds_erased y (values_of (contents vs)) (some x))
 
 -- a new yoke that the type check passed, on variable n's declared body
-pub record HasChange (rows : List ℕ) (t : Table) (layout : List ℕ) (cells : List ℤ) (states : List ℕ) (n : ℕ) (y : Yoke) : Type 0 where
+pub record HasChange (rows : List ℕ) (layout : List ℕ) (cells : List ℤ) (states : List ℕ) (n : ℕ) (y : Yoke) : Type 0 where
   pub declarations : List Declaration
   pub store : List Variable
-  pub world : World rows t layout cells states declarations store
+  pub world : World rows layout cells states declarations store
   pub there : n < length store
   pub passed : PassedYoke layout declarations y (bodies_of declarations n)
 
 -- whether variable n takes the yoke, for every store with which the type check passed it
-pub record AdmitsYoke (rows : List ℕ) (t : Table) (layout : List ℕ) (cells : List ℤ) (states : List ℕ) (n : ℕ) (y : Yoke) (r : ℕ) : Type 0 where
-  pub admits : (ds : List Declaration) (vs : List Variable) → World rows t layout cells states ds vs → n < length vs → PassedYoke layout ds y (bodies_of ds n)
+pub record AdmitsYoke (rows : List ℕ) (layout : List ℕ) (cells : List ℤ) (states : List ℕ) (n : ℕ) (y : Yoke) (r : ℕ) : Type 0 where
+  pub admits : (ds : List Declaration) (vs : List Variable) → World rows layout cells states ds vs → n < length vs → PassedYoke layout ds y (bodies_of ds n)
       → Admits r (yoke_holds_erased y (values_of (contents vs)) (values_of (contents vs) n))
 
 -- ---- copies
 -- some two stores of a run, with a variable n of the one and a variable m of the other that have one body. The other's limits are asked alone
-pub record HasCopy (rows : List ℕ) (t : Table) (layout : List ℕ) (cells : List ℤ) (states : List ℕ) (n : ℕ) (limits : List ℤ) (l : Lent) (m : ℕ) : Type 0 where
+pub record HasCopy (rows : List ℕ) (layout : List ℕ) (cells : List ℤ) (states : List ℕ) (n : ℕ) (limits : List ℤ) (l : Lent) (m : ℕ) : Type 0 where
   pub profile : Profile
   pub from : ℕ
   pub to : ℕ
   pub their_limits : List ℤ
   pub their_bodies : List ℕ
   pub given : List Variable
-  pub giving : Running profile from rows t layout their_limits (lent cells states their_bodies) given
+  pub giving : Running profile from rows layout their_limits (lent cells states their_bodies) given
   pub there : n < length given
   pub store : List Variable
-  pub running : Running profile to rows t layout limits l store
+  pub running : Running profile to rows layout limits l store
   pub taking : m < length store
   pub same : scope_bodies profile from n ≡ scope_bodies profile to m

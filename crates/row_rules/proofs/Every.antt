@@ -27,22 +27,6 @@ module _ (a b c : Bool) where
   pub third_3 : a ≡ true → b ≡ true → not c ≡ not (a && b && c)
   third_3 p q = rw (p, q)
 
-module _ (a b c d e : Bool) where
-  pub fifth_1 : a ≡ false → true ≡ not (a && b && c && d && e)
-  fifth_1 p = rw p
-
-  pub fifth_2 : a ≡ true → b ≡ false → true ≡ not (a && b && c && d && e)
-  fifth_2 p q = rw (p, q)
-
-  pub fifth_3 : a ≡ true → b ≡ true → c ≡ false → true ≡ not (a && b && c && d && e)
-  fifth_3 p q r = rw (p, q, r)
-
-  pub fifth_4 : a ≡ true → b ≡ true → c ≡ true → d ≡ false → true ≡ not (a && b && c && d && e)
-  fifth_4 p q r s = rw (p, q, r, s)
-
-  pub fifth_5 : a ≡ true → b ≡ true → c ≡ true → d ≡ true → not e ≡ not (a && b && c && d && e)
-  fifth_5 p q r s = rw (p, q, r, s)
-
 pub and_left : (a b : Bool) → (a && b) ≡ true → a ≡ true
 and_left true b e = refl
 and_left false b e = e

@@ -14,15 +14,14 @@ use denote.Ref.{Bor}
 use Rattle.std.specs.Prelude.{Option, Some, None, map, is_some, IfSome, option_copied}
 use Rattle.row_rules.specs.Form.{meant}
 use borrow.Author.Tests.{ne_eqb, ltb-true, ltb-false, le-ltb, lt-ltb, le-leb, lt-leb}
-use Rattle.lingua.specs.Numbers.{scope_table}
+use Rattle.lingua.specs.Numbers.{limit_section, scope_table}
 use Rattle.lingua.specs.Rows.{numbered, used_of, type_kinds, expression_kinds, instruction_kinds, section_at, kind_at, bytes_at, row_in, table_count, pair_count, name_row}
-use Rattle.lingua.specs.Format.{File, profile, limits, every_below}
+use Rattle.lingua.specs.Format.{File, limits, every_below}
 use Rattle.lingua.specs.Compute.{same_text}
 use Rattle.lingua.specs.Trees.{name_at}
 use Rattle.lingua.specs.Rules.{is_name, is_new, names_fit, section_belongs, used_bytes, bytes_fit, row_fits, paired, between, count_wrong}
-use Rattle.decoder.specs.Tables.{IsTable, AreTables}
+use Rattle.decoder.specs.Tables.{IsTable}
 use Rattle.decoder.specs.declared.tables.Table.{Table}
-use Rattle.decoder.specs.declared.tables.Tables.{Tables}
 use Rattle.decoder.proofs.Counting.{order}
 
 -- ---- a table by its own section
@@ -34,13 +33,9 @@ unfolding paired row_in
 pairs_from rows s t h = rw (h.start, h.count)
 
 -- ---- counts
-pub counts_profile : (rows : List ℕ) (t : Tables) → AreTables rows t → count_wrong profile rows ≡ not (between 1 16 (t.declarations.count / 2) && between 1 32 t.types.count && between 0 512 t.expressions.count && between 1 256 t.instructions.count && between 0 8 t.procedures.count)
+pub counts_limits : (rows : List ℕ) (t : Table) → IsTable rows limit_section t → ltb 16 (t.count / 2) ≡ count_wrong limits rows
 unfolding count_wrong pair_count
-counts_profile rows t h = rw (h.declarations.count, h.types.count, h.expressions.count, h.instructions.count, h.procedures)
-
-pub counts_limits : (rows : List ℕ) (t : Tables) → AreTables rows t → ltb 16 (t.limits.count / 2) ≡ count_wrong limits rows
-unfolding count_wrong pair_count
-counts_limits rows t h = rw h.limits.count (above (table_count rows 5 / 2))
+counts_limits rows t h = rw h.count (above (table_count rows 5 / 2))
   where
     above : (n : ℕ) → ltb 16 n ≡ not (between 0 16 n)
     above n = ⊎_elim (λ l. rw (le-ltb 16 n (omega arith), leb-zero n, le-leb n 16 (omega arith))) (⊎_elim (λ e. rw (le-ltb 16 n (omega arith), leb-zero n, le-leb n 16 (omega arith))) (λ l. rw (lt-ltb 16 n l, leb-zero n, lt-leb n 16 l))) (order n 16)
@@ -57,11 +52,6 @@ names_from rows t h = rw (h.start, h.count)
 -- the names of a scope, from its table's number
 pub scope_names : (rows : List ℕ) (s : ℕ) (t : Table) (b : Bool) → IsTable rows (scope_table s) t → b ≡ names_fit rows t.section → b ≡ names_fit rows (scope_table s)
 scope_names rows s t b h e = e ∙ ap (names_fit rows) h.section
-
--- ---- a row of a section
-pub row_at : (rows : List ℕ) (s : ℕ) (t : Table) (r : ℕ) → IsTable rows s t → row_in rows s r ≡ t.start + r
-unfolding row_in
-row_at rows s t r h = rw h.start
 
 -- ---- used bytes
 out_map : (used : List ℕ) (k : ℕ) → length used ≤ k → get_or (map some used) k none ≡ none

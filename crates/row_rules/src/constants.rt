@@ -9,16 +9,13 @@ ghost use Rattle.lingua.specs.Value.{all_of};
 ghost use Rattle.lingua.specs.Rows.{table_count, type_row, expression_row, instruction_row};
 ghost use Rattle.lingua.specs.Format.{profile, every_below};
 ghost use Rattle.lingua.specs.Rules.{constant_fits, row_constant_fits, attributes_fit, type_attributes, expression_attributes, handled_errors, constant_wrong};
-ghost use Rattle.decoder.specs.Tables.{IsTable, AreTables};
 ghost use Rattle.decoder.specs.Decoded.{constant_meaning, expression_meaning};
 ghost use Rattle.row_rules.specs.Range.{about};
 
 use decoder::decode::{ExpressionRow, Simple, expression_at};
 use decoder::fields::{bytes_at, padded, wide_at};
-use decoder::mentions::{
-    all_within, attributes, expression_in, handled, instruction_in, type_attributes, type_in,
-};
-use decoder::tables::{Table, Tables};
+use decoder::mentions::{all_within, attributes, handled, type_attributes};
+use decoder::rows::Rows;
 use lingua::FileKind;
 use lingua::errors::ERROR_NUMBERS;
 use lingua::sizes::{ATTRIBUTE_NUMBERS, HIGHEST_CHARACTER, LOWEST_CHARACTER};
@@ -60,85 +57,73 @@ fn row_constant_fits(row: ExpressionRow, rows: &[u8], i: usize) -> bool
     }
 }
 
-fn constant_fits_at(rows: &[u8], t: Table, r: usize) -> bool
-    requires table { IsTable rows.now expression_section t }
-    requires r_lt_count { r < t.count }
+// Decoded here, since what rows.expression_row(r) promises of a row says nothing of a constant's bytes.
+fn constant_fits_at(rows: &Rows, r: usize) -> bool
+    requires { r < table_count rows.now expression_section }
     ensures { result ≡ row_constant_fits (expression_row rows.now r) }
 {
+    let bytes = rows.bytes();
+    let t = rows.expressions();
     let i = t.start + r;
-    match expression_at(rows, i) {
-        Some((_, row)) => row_constant_fits(row, rows, i),
+    match expression_at(bytes, i) {
+        Some((_, row)) => row_constant_fits(row, bytes, i),
         None => true,
     }
 }
 
-fn type_fits(rows: &[u8], t: Table, r: usize) -> bool
-    requires table { IsTable rows.now type_section t }
-    requires r_lt_count { r < t.count }
+fn type_fits(rows: &Rows, r: usize) -> bool
+    requires { r < table_count rows.now type_section }
     ensures { result ≡ attributes_fit (type_attributes (type_row rows.now r)) }
 {
-    all_within(type_attributes(type_in(rows, t, r)), 0, ATTRIBUTE_NUMBERS)
+    all_within(type_attributes(rows.type_row(r)), 0, ATTRIBUTE_NUMBERS)
 }
 
-fn types_fit(rows: &[u8], t: Table) -> bool
-    requires { IsTable rows.now type_section t }
+fn types_fit(rows: &Rows) -> bool
     ensures { result ≡ every_below (table_count rows.now type_section) (λ r. attributes_fit (type_attributes (type_row rows.now r))) }
 {
-    (0..t.count).all(|r| type_fits(rows, t, r))
+    let types = rows.types();
+    (0..types.count).all(|r| type_fits(rows, r))
 }
 
-fn attributes_fit_at(rows: &[u8], t: Table, r: usize) -> bool
-    requires table { IsTable rows.now expression_section t }
-    requires r_lt_count { r < t.count }
+fn attributes_fit_at(rows: &Rows, r: usize) -> bool
+    requires { r < table_count rows.now expression_section }
     ensures { result ≡ attributes_fit (expression_attributes (expression_row rows.now r)) }
 {
-    all_within(attributes(expression_in(rows, t, r)), 0, ATTRIBUTE_NUMBERS)
+    all_within(attributes(rows.expression_row(r)), 0, ATTRIBUTE_NUMBERS)
 }
 
-fn expressions_fit(rows: &[u8], t: Table) -> bool
-    requires { IsTable rows.now expression_section t }
+fn expressions_fit(rows: &Rows) -> bool
     ensures { result ≡ every_below (table_count rows.now expression_section) (λ r. row_constant_fits (expression_row rows.now r) && attributes_fit (expression_attributes (expression_row rows.now r))) }
 {
-    (0..t.count).all(|r| constant_fits_at(rows, t, r) && attributes_fit_at(rows, t, r))
+    let expressions = rows.expressions();
+    (0..expressions.count).all(|r| constant_fits_at(rows, r) && attributes_fit_at(rows, r))
 }
 
-fn handler_fits(rows: &[u8], t: Table, r: usize) -> bool
-    requires table { IsTable rows.now instruction_section t }
-    requires r_lt_count { r < t.count }
+fn handler_fits(rows: &Rows, r: usize) -> bool
+    requires { r < table_count rows.now instruction_section }
     ensures { result ≡ all_of is_error (handled_errors (instruction_row rows.now r)) }
 {
-    all_within(handled(instruction_in(rows, t, r)), 1, ERROR_NUMBERS)
+    all_within(handled(rows.instruction_row(r)), 1, ERROR_NUMBERS)
 }
 
-fn handlers_fit(rows: &[u8], t: Table) -> bool
-    requires { IsTable rows.now instruction_section t }
+fn handlers_fit(rows: &Rows) -> bool
     ensures { result ≡ every_below (table_count rows.now instruction_section) (λ r. all_of is_error (handled_errors (instruction_row rows.now r))) }
 {
-    (0..t.count).all(|r| handler_fits(rows, t, r))
+    let instructions = rows.instructions();
+    (0..instructions.count).all(|r| handler_fits(rows, r))
 }
 
-fn profile_constant_wrong(rows: &[u8], t: Tables) -> bool
-    requires { AreTables rows.now t }
+fn profile_constant_wrong(rows: &Rows) -> bool
     ensures { result ≡ constant_wrong profile rows.now }
 {
-    let types = t.types;
-    if !types_fit(rows, types) {
-        return true;
-    }
-    let expressions = t.expressions;
-    if !expressions_fit(rows, expressions) {
-        return true;
-    }
-    let instructions = t.instructions;
-    !handlers_fit(rows, instructions)
+    !types_fit(rows) || !expressions_fit(rows) || !handlers_fit(rows)
 }
 
-pub fn constant_wrong(file: FileKind, rows: &[u8], t: Tables) -> bool
-    requires { AreTables rows.now t }
+pub fn constant_wrong(file: FileKind, rows: &Rows) -> bool
     ensures { result ≡ constant_wrong (file_meaning file) rows.now }
 {
     match file {
-        FileKind::Profile => profile_constant_wrong(rows, t),
+        FileKind::Profile => profile_constant_wrong(rows),
         FileKind::Limits => false,
     }
 }

@@ -1,11 +1,10 @@
 // Rule 7: how many rows each section has, and how many procedures there are.
-ghost use Rattle.std.specs.Prelude.{◌≡◌, List, ℕ};
+ghost use Rattle.std.specs.Prelude.{◌≡◌};
 ghost use Rattle.lingua.specs.Answers.{file_meaning};
 ghost use Rattle.lingua.specs.Format.{profile};
 ghost use Rattle.lingua.specs.Rules.{between, count_wrong};
-ghost use Rattle.decoder.specs.Tables.{AreTables};
 
-use decoder::tables::Tables;
+use decoder::rows::Rows;
 use lingua::FileKind;
 use lingua::sizes::{
     MOST_EXPRESSIONS, MOST_INSTRUCTIONS, MOST_LIMITS, MOST_PROCEDURES, MOST_TYPES, MOST_VARIABLES,
@@ -19,29 +18,26 @@ pub fn in_between(low: usize, high: usize, n: usize) -> bool
 }
 
 // Declarations and limits are counted in pairs.
-pub fn count_wrong(file: FileKind, t: Tables) -> bool
-    ensures { (rows : List ℕ) → AreTables rows t → result ≡ count_wrong (file_meaning file) rows }
+pub fn count_wrong(file: FileKind, rows: &Rows) -> bool
+    ensures { result ≡ count_wrong (file_meaning file) rows.now }
 {
     match file {
-        FileKind::Profile => profile_count_wrong(t),
-        FileKind::Limits => MOST_LIMITS < t.limits.count / 2,
+        FileKind::Profile => profile_count_wrong(rows),
+        FileKind::Limits => MOST_LIMITS < rows.limits().count / 2,
     }
 }
 
-fn profile_count_wrong(t: Tables) -> bool
-    ensures { (rows : List ℕ) → AreTables rows t → result ≡ count_wrong profile rows }
+fn profile_count_wrong(rows: &Rows) -> bool
+    ensures { result ≡ count_wrong profile rows.now }
 {
-    if !in_between(1, MOST_VARIABLES, t.declarations.count / 2) {
-        return true;
-    }
-    if !in_between(1, MOST_TYPES, t.types.count) {
-        return true;
-    }
-    if !in_between(0, MOST_EXPRESSIONS, t.expressions.count) {
-        return true;
-    }
-    if !in_between(1, MOST_INSTRUCTIONS, t.instructions.count) {
-        return true;
-    }
-    !in_between(0, MOST_PROCEDURES, t.procedures.count)
+    let declarations = rows.declarations();
+    let types = rows.types();
+    let expressions = rows.expressions();
+    let instructions = rows.instructions();
+    let procedures = rows.procedures();
+    !in_between(1, MOST_VARIABLES, declarations.count / 2)
+        || !in_between(1, MOST_TYPES, types.count)
+        || !in_between(0, MOST_EXPRESSIONS, expressions.count)
+        || !in_between(1, MOST_INSTRUCTIONS, instructions.count)
+        || !in_between(0, MOST_PROCEDURES, procedures)
 }

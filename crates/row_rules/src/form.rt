@@ -5,7 +5,7 @@ ghost use Rattle.lingua.specs.Answers.{file_meaning};
 ghost use Rattle.lingua.specs.Rows.{row_count, kind_at};
 ghost use Rattle.lingua.specs.Format.{every_below};
 ghost use Rattle.lingua.specs.Rules.{used_bytes, section_belongs, row_fits, ascending, paired, form_wrong};
-ghost use Rattle.decoder.specs.Tables.{IsTable, AreTables};
+ghost use Rattle.decoder.specs.Tables.{IsTable};
 ghost use Rattle.row_rules.specs.Form.{meant};
 ghost use Rattle.decoder.specs.Decoded.{uses};
 
@@ -13,7 +13,8 @@ use crate::counts::in_between;
 use crate::pairs::procedures_paired;
 use decoder::decode::{Decoded, expression_at, instruction_at, type_at};
 use decoder::fields::{bytes_at, kind_at, section_at, zero_from};
-use decoder::tables::{Table, Tables};
+use decoder::rows::Rows;
+use decoder::tables::Table;
 use lingua::FileKind;
 use lingua::sizes::{
     DECLARATION_SECTION, EXPRESSION_SECTION, INSTRUCTION_SECTION, LIMIT_SECTION, PROCEDURE_SECTION,
@@ -90,7 +91,7 @@ fn sections_ascend(rows: &[u8]) -> bool
     (0..count.saturating_sub(1)).all(|i| section_at(rows, i) <= section_at(rows, i + 1))
 }
 
-// Kinds 0 and 1 in turn, and a whole number of pairs.
+// Kinds 0 and 1 in turn, and a whole number of pairs. The table is that of the declarations, or that of the limits.
 fn is_paired(rows: &[u8], t: Table) -> bool
     requires { IsTable rows.now t.section t }
     ensures { result ≡ paired rows.now t.section }
@@ -98,23 +99,15 @@ fn is_paired(rows: &[u8], t: Table) -> bool
     (0..t.count).all(|r| kind_at(rows, t.start + r) as usize == r % 2) && t.count % 2 == 0
 }
 
-pub fn form_wrong(file: FileKind, rows: &[u8], t: Tables) -> bool
-    requires { AreTables rows.now t }
+pub fn form_wrong(file: FileKind, rows: &Rows) -> bool
     ensures { result ≡ form_wrong (file_meaning file) rows.now }
 {
-    if !rows_fit(file, rows) {
-        return true;
-    }
-    if !sections_ascend(rows) {
-        return true;
-    }
-    let declarations = t.declarations;
-    if !is_paired(rows, declarations) {
-        return true;
-    }
-    let limits = t.limits;
-    if !is_paired(rows, limits) {
-        return true;
-    }
-    !procedures_paired(rows, t)
+    let bytes = rows.bytes();
+    let declarations = rows.declarations();
+    let limits = rows.limits();
+    !rows_fit(file, bytes)
+        || !sections_ascend(bytes)
+        || !is_paired(bytes, declarations)
+        || !is_paired(bytes, limits)
+        || !procedures_paired(rows)
 }

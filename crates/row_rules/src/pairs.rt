@@ -4,9 +4,9 @@ ghost use Rattle.std.specs.Bool.{beq};
 ghost use Rattle.lingua.specs.Rows.{row_count, procedure_kind};
 ghost use Rattle.lingua.specs.Format.{every_below};
 ghost use Rattle.lingua.specs.Rules.{procedure_pairs};
-ghost use Rattle.decoder.specs.Tables.{AreTables};
 
-use decoder::tables::{Tables, is_kind};
+use decoder::rows::Rows;
+use decoder::tables::is_kind;
 use lingua::sizes::ROW_BYTES;
 
 // Row i names a variable where the row behind it says which, and only there.
@@ -25,9 +25,10 @@ fn pairs_fit(rows: &[u8]) -> bool
 }
 
 // The first procedure begins where the limits end: no row of section 6 stands before it.
-pub fn procedures_paired(rows: &[u8], t: Tables) -> bool
-    requires { AreTables rows.now t }
+pub fn procedures_paired(rows: &Rows) -> bool
     ensures { result ≡ procedure_pairs rows.now }
 {
-    t.procedures.heads[0] == t.limits.start + t.limits.count && pairs_fit(rows)
+    let bytes = rows.bytes();
+    let t = rows.tables();
+    t.procedures.heads[0] == t.limits.start + t.limits.count && pairs_fit(bytes)
 }

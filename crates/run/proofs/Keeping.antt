@@ -42,7 +42,7 @@ use Rattle.decoder.specs.Tables.{IsTable}
 use Rattle.decoder.specs.declared.tables.Table.{Table}
 use Rattle.run.specs.Begun.{scope_start, start_store, Begun}
 use Rattle.run.specs.Started.{start_states}
-use Rattle.run.specs.Kept.{BodiesKept, YokesKept, LimitsFrom, LaterKept}
+use Rattle.run.specs.Kept.{BodiesKept, YokesKept, LimitsFrom, Limited, LaterKept}
 use Rattle.run.proofs.Unfilled.{counted, start_count, start_at, start_cells}
 
 -- ---- bodies
@@ -190,16 +190,22 @@ module _ (rows limits : List ℕ) (kept : List ℤ) (l : ℕ) (inside : l < pair
     limit_kept low high e f p q =
         rw (to_z-of_z w64 low (record { sfits = p }), to_z-of_z w64 high (record { sfits = q }), e, f) limit_of_its
 
--- whose limit l is, and that there is room for it
-module _ {rows limits owners : List ℕ} {u : Table} {kept : List ℤ} {l : ℕ} (k : LaterKept rows limits u owners kept l) where
-  pub limit_there : l < pair_count limits limit_section
-  limit_there = omega (arith, k.there, pairs limits limit_section u k.known.limited.read.table)
+-- the limit before those that are kept is the next one
+pub later_kept : {rows limits owners : List ℕ} {kept : List ℤ} {t : Table} {l : ℕ} → Limited rows limits owners → IsTable limits limit_section t → 0 < l → l ≤ t.count / 2 → LimitsFrom rows limits kept l → LaterKept rows limits owners kept (l - 1)
+later_kept {rows} {limits} {kept = kept} {t} {l} known is above below h =
+    record {
+      known = known;
+      there = omega (arith, above, below, pairs limits limit_section t is);
+      later = subst (λ (n : ℕ). LimitsFrom rows limits kept n) (let e : l ≡ l - 1 + 1 = omega (arith, above) in e) h;
+    }
 
+-- whose limit l is, and that there is room for it
+module _ {rows limits owners : List ℕ} {kept : List ℤ} {l : ℕ} (k : LaterKept rows limits owners kept l) where
   pub limit_below : l < 16
-  limit_below = omega (arith, limit_there, k.known.limited.read.few)
+  limit_below = omega (arith, k.there, k.known.limited.read.few)
 
   pub owner_named : NamedAt rows (name_at limits limit_section l) (get_or owners l 0)
-  owner_named = (found_first rows (name_at limits limit_section l) (get_or owners l 0) (k.known.limited.owners_are.owned l limit_there)).0
+  owner_named = (found_first rows (name_at limits limit_section l) (get_or owners l 0) (k.known.limited.owners_are.owned l k.there)).0
 
   pub owner_room : 3 * get_or owners l 0 + 3 ≤ 48
   owner_room = omega (arith, few_variables rows k.known.accepted 0 (omega arith), owner_named.there)

@@ -8,3 +8,4 @@ pub mod Storing
 pub mod Admitting
 pub mod Settling
 pub mod Readings
+pub mod Slices

@@ -1,16 +1,17 @@
 -- What each way of ending an instruction reaches, whatever is asked of the memory: passed over, out, settled, decided. Assumes nothing.
-use Rattle.std.specs.Prelude.{◌≡◌, refl, Bool, true, false, List, [], ℕ, zero, suc, ℤ, Result, Ok, Err}
-use Rattle.std.proofs.Common.{sym, ap, ◌∙◌, subst, arith}
+use Rattle.std.specs.Prelude.{◌≡◌, refl, Bool, true, false, List, [], ℕ, ℤ, Option, None, Some, is_some, Result, Ok, Err}
+use Rattle.std.proofs.Common.{sym, ap, ◌∙◌, subst, true≢false}
 use Rattle.std.proofs.Math.Seq.{take-length}
 use Rattle.lingua.specs.declared.errors.Error.{Error}
+use Rattle.lingua.specs.declared.errors.ErrorAt.{ErrorAt}
 use Rattle.lingua.specs.Outcome.{ok, fail, Result as Outcome}
-use Rattle.lingua.specs.Faults.{error_number, told}
-use Rattle.laws.specs.Faults.{error_number_counted}
+use Rattle.lingua.specs.Faults.{error_number, number_of, told}
+use Rattle.laws.specs.Faults.{error_some}
 use Rattle.lingua.specs.Store.{Variable, call_cells, call_states, call_bodies}
 use Rattle.lingua.specs.Expression.{skip}
 use Rattle.lingua.specs.Run.{State, Progress, going, out, settled, act, decided, exec}
 use Rattle.run.specs.declared.steps.Status.{Status}
-use Rattle.run.specs.Statuses.{state_of, progress_of, onward, StepOf, recorded}
+use Rattle.run.specs.Statuses.{error_in, state_of, progress_of, onward, StepOf, recorded}
 use Rattle.run.specs.Reached.{Lent, lent, Holding, Going, onto, overlaid, Reached, Passes, Settles, Tells}
 use Rattle.run.specs.Steps.{act_passed, act_steps}
 
@@ -21,19 +22,24 @@ still_going m s os e = sym (ap (λ (b : Bool). progress_of b s os) e)
 pub now_out : (m : Status) (s : State) (os : List (List Variable)) → m.out ≡ true → out s os ≡ progress_of m.out s os
 now_out m s os e = sym (ap (λ (b : Bool). progress_of b s os) e)
 
-module _ {m r : Status} (g : Going m) (h : StepOf m r) where
-  pub clean_after : r.error ≡ 0 → r.place ≡ 0
-  clean_after e = h.place ∙ g.clean (sym h.error ∙ e)
+pub going_after : {r : Status} → r.out ≡ false → Going r
+going_after e = record { not_out = e }
 
-  pub going_after : r.out ≡ false → Going r
-  going_after e = record { not_out = e; clean = clean_after }
+-- what is recorded, by whether anything is
+pub some_recorded : (f : Option ErrorAt) → is_some f ≡ true → error_in f ≡ 0 → ⊥
+some_recorded None e = absurd (true≢false (sym e))
+some_recorded (Some f) e = error_some f.error
 
-pub passed_over : (m : Status) (vs : List Variable) (f : State → Progress) → Going m → (m.error ≡ 0 → ⊥) → act (state_of m vs) f ≡ progress_of m.out (state_of m vs) []
-passed_over m vs f g h = act_passed (state_of m vs) f h ∙ still_going m (state_of m vs) [] g.not_out
+pub none_recorded : (f : Option ErrorAt) → is_some f ≡ false → error_in f ≡ 0
+none_recorded None e = refl
+none_recorded (Some f) e = absurd (true≢false e)
 
-module _ {m r : Status} (h : StepOf m r) (e : m.error ≡ 0) (vs : List Variable) (f : State → Progress) where
+pub passed_over : (m : Status) (vs : List Variable) (f : State → Progress) → Going m → is_some m.error ≡ true → act (state_of m vs) f ≡ progress_of m.out (state_of m vs) []
+passed_over m vs f g h = act_passed (state_of m vs) f (some_recorded m.error h) ∙ still_going m (state_of m vs) [] g.not_out
+
+module _ {m r : Status} (h : StepOf m r) (e : is_some m.error ≡ false) (vs : List Variable) (f : State → Progress) where
   acted : act (state_of m vs) f ≡ onward r.out (state_of r vs) f
-  acted = act_steps (state_of m vs) f e ∙ h.is vs f
+  acted = act_steps (state_of m vs) f (none_recorded m.error e) ∙ h.is vs f
 
   pub act_out : r.out ≡ true → act (state_of m vs) f ≡ progress_of r.out (state_of r vs) []
   act_out q = acted ∙ ap (λ (b : Bool). onward b (state_of r vs) f) q ∙ now_out r (state_of r vs) [] q
@@ -42,18 +48,17 @@ module _ {m r : Status} (h : StepOf m r) (e : m.error ≡ 0) (vs : List Variable
   act_on q = acted ∙ ap (λ (b : Bool). onward b (state_of r vs) f) q
 
 -- ---- skip
-pub skip_passed : {m : Status} (row : ℕ) → Going m → (m.error ≡ 0 → ⊥) → Passes m m (skip row)
+pub skip_passed : {m : Status} (row : ℕ) → Going m → is_some m.error ≡ true → Passes m m (skip row)
 unfolding exec
-skip_passed {m} row g h = record { is = λ calls vs. passed_over m vs (λ t. going t) g h; clean = g.clean }
+skip_passed {m} row g h = record { is = λ calls vs. passed_over m vs (λ t. going t) g h }
 
 onward_going : (b : Bool) (s : State) → onward b s (λ t. going t) ≡ progress_of b s []
 onward_going true s = refl
 onward_going false s = refl
 
-pub skip_stepped : {m r : Status} (row : ℕ) → Going m → StepOf m r → m.error ≡ 0 → Passes m r (skip row)
+pub skip_stepped : {m r : Status} (row : ℕ) → StepOf m r → is_some m.error ≡ false → Passes m r (skip row)
 unfolding exec
-skip_stepped {m} {r} row g h e =
-    record { is = λ calls vs. acted h e vs (λ t. going t) ∙ onward_going r.out (state_of r vs); clean = clean_after g h }
+skip_stepped {m} {r} row h e = record { is = λ calls vs. acted h e vs (λ t. going t) ∙ onward_going r.out (state_of r vs) }
 
 -- ---- the area
 onto_none : {A : Type 0} (l : List A) → onto [] l ≡ l
@@ -74,11 +79,11 @@ area_stays {o = o} h e = h.area ∙ ap (λ (os : List (List Variable)). overlaid
 -- ---- the memory
 module _ {M : Holding} {o l : Lent} where
   -- nothing is stored, and no call is open
-  pub stays : {m : Status} {q : Progress} (vs : List Variable) → M l vs → (m.error ≡ 0 → m.place ≡ 0) → q ≡ progress_of m.out (state_of m vs) [] → Reached M o l o m q
-  stays vs w k e = record { store = vs; opens = []; is = e; running = w; clean = k; area = sym (overlaid_none o); closed = λ z. refl }
+  pub stays : {m : Status} {q : Progress} (vs : List Variable) → M l vs → q ≡ progress_of m.out (state_of m vs) [] → Reached M o l o m q
+  stays vs w e = record { store = vs; opens = []; is = e; running = w; area = sym (overlaid_none o); closed = λ z. refl }
 
   pub reaches_as : {after : Lent} {m : Status} {p q : Progress} → q ≡ p → Reached M o l after m p → Reached M o l after m q
-  reaches_as e h = record { store = h.store; opens = h.opens; is = e ∙ h.is; running = h.running; clean = h.clean; area = h.area; closed = h.closed }
+  reaches_as e h = record { store = h.store; opens = h.opens; is = e ∙ h.is; running = h.running; area = h.area; closed = h.closed }
 
 -- from an area that is the same
 pub reaches_from : {M : Holding} {o p l after : Lent} {m : Status} {q : Progress} → p ≡ o → Reached M p l after m q → Reached M o l after m q
@@ -89,18 +94,18 @@ kept M l after vs w e = subst (λ (k : Lent). M k vs) (sym e) w
 
 module _ {M : Holding} {free l after : Lent} (vs : List Variable) (w : M l vs) where
   -- a new store, or an error with its place
-  pub settles : (r s : Status) {o : Outcome (List Variable)} (error place : ℕ) → Settles error M l after o → s ≡ recorded r error place → r.out ≡ false → (r.error ≡ 0 → r.place ≡ 0)
+  pub settles : (r s : Status) {o : Outcome (List Variable)} (answer : Result (Unit {0}) Error) (place : ℕ) → Settles (number_of answer) M l after o → s ≡ recorded r answer place → r.out ≡ false
       → Reached M free after free s (going (settled (state_of r vs) place o))
-  settles r s {o} error place a e q k = subst (λ (x : Status). Reached M free after free x (going (settled (state_of r vs) place o))) (sym e) (by error a)
+  settles r s {o} answer place a e q = subst (λ (x : Status). Reached M free after free x (going (settled (state_of r vs) place o))) (sym e) (by answer a)
     where
-      by : (n : ℕ) → Settles n M l after o → Reached M free after free (recorded r n place) (going (settled (state_of r vs) place o))
-      by zero a =
+      by : (x : Result (Unit {0}) Error) → Settles (number_of x) M l after o → Reached M free after free (recorded r x place) (going (settled (state_of r vs) place o))
+      by (Ok u) a =
           let b = a.answer refl in
-          stays b.store b.running k (ap (λ (p : Outcome (List Variable)). going (settled (state_of r vs) place p)) b.is ∙ still_going r (state_of r b.store) [] q)
-      by (suc n) a =
-          let b = a.error (λ z. let f : ⊥ = omega (arith, z) in f) in
-          stays vs (kept M l after vs w b.same) (λ z. absurd (let f : ⊥ = omega (arith, z) in f))
-          (ap (λ (p : Outcome (List Variable)). going (settled (state_of r vs) place p)) b.is ∙ still_going (recorded r (suc n) place) (state_of (recorded r (suc n) place) vs) [] q)
+          stays b.store b.running (ap (λ (p : Outcome (List Variable)). going (settled (state_of r vs) place p)) b.is ∙ still_going r (state_of r b.store) [] q)
+      by (Err x) a =
+          let b = a.error (error_some x) in
+          stays vs (kept M l after vs w b.same)
+          (ap (λ (p : Outcome (List Variable)). going (settled (state_of r vs) place p)) b.is ∙ still_going (recorded r (Err x) place) (state_of (recorded r (Err x) place) vs) [] q)
 
 -- ---- a test
 tells_that : {x : Result Bool Error} {o : Outcome Bool} (b : Bool) → Tells x o → x ≡ Ok b → o ≡ ok b
@@ -113,19 +118,12 @@ module _ {x : Result Bool Error} {o : Outcome Bool} (h : Tells x o) (p : ℕ) (s
   pub decided_no : x ≡ Ok false → decided o p s f g ≡ g s
   decided_no e = ap (λ (r : Outcome Bool). decided r p s f g) (tells_that false h e)
 
-recorded_error : (r s : Status) (vs : List Variable) (error place : ℕ) → s ≡ recorded r error place → (error ≡ 0 → ⊥) → r.out ≡ false → going (settled (state_of r vs) place (fail error)) ≡ progress_of s.out (state_of s vs) []
-recorded_error r s vs zero place e z q = absurd (z refl)
-recorded_error r s vs (suc n) place e z q = still_going r _ [] q ∙ sym (ap (λ (x : Status). progress_of x.out (state_of x vs) []) e)
-
-recorded_clean : (r s : Status) (error place : ℕ) → s ≡ recorded r error place → (error ≡ 0 → ⊥) → s.error ≡ 0 → s.place ≡ 0
-recorded_clean r s zero place e z k = absurd (z refl)
-recorded_clean r s (suc n) place e z k = absurd (let f : suc n ≡ 0 = sym (ap (λ (x : Status). x.error) e) ∙ k in let b : ⊥ = omega (arith, f) in b)
+recorded_error : (r s : Status) (vs : List Variable) (error : Error) (place : ℕ) → s ≡ recorded r (Err error) place → r.out ≡ false → going (settled (state_of r vs) place (fail (error_number error))) ≡ progress_of s.out (state_of s vs) []
+recorded_error r s vs error place e q = still_going r _ [] q ∙ sym (ap (λ (x : Status). progress_of x.out (state_of x vs) []) e)
 
 module _ {M : Holding} {free l : Lent} (vs : List Variable) (w : M l vs) where
   pub test_failed : {x : Result Bool Error} {o : Outcome Bool} (r s : Status) (error : Error) (place : ℕ) (f g : State → Progress) → Tells x o → x ≡ Err error
-      → s ≡ recorded r (error_number error) place → r.out ≡ false → Reached M free l free s (decided o place (state_of r vs) f g)
+      → s ≡ recorded r (Err error) place → r.out ≡ false → Reached M free l free s (decided o place (state_of r vs) f g)
   test_failed {x} {o} r s error place f g h k e q =
-      let z : error_number error ≡ 0 → ⊥ = λ i. (let n : ⊥ = omega (arith, error_number_counted error, i) in n) in
       let failed : o ≡ fail (error_number error) = sym h ∙ ap told k in
-      stays vs w (recorded_clean r s (error_number error) place e z)
-      (ap (λ (p : Outcome Bool). decided p place (state_of r vs) f g) failed ∙ recorded_error r s vs (error_number error) place e z q)
+      stays vs w (ap (λ (p : Outcome Bool). decided p place (state_of r vs) f g) failed ∙ recorded_error r s vs error place e q)

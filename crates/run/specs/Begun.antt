@@ -6,16 +6,13 @@ use Rattle.lingua.specs.Store.{Variable, variable_at, cells_in, states_in}
 use Rattle.lingua.specs.Run.{unfilled, scope_declarations}
 use Rattle.lingua.specs.Trees.{profile_of}
 use Rattle.safety.specs.Accepted.{AcceptedRows}
-use Rattle.decoder.specs.Tables.{IsTable}
-use Rattle.decoder.specs.declared.tables.Table.{Table}
 use Rattle.profile.specs.Variables.{LimitAt}
 use Rattle.profile.specs.Find.{LimitsOwned}
 
--- what the start asks: accepted rows, the tables of both files, whose each limit is, and room for limits, cells and state words
-pub record Asked (rows : List ℕ) (t : Table) (limits : List ℕ) (u : Table) (owners : List ℕ) (kept cells : List ℤ) (states : List ℕ) : Type 0 where
+-- what the start asks: accepted rows, whose each limit is, and room for limits, cells and state words
+pub record Asked (rows limits owners : List ℕ) (kept cells : List ℤ) (states : List ℕ) : Type 0 where
   pub accepted : AcceptedRows rows
-  pub declared : IsTable rows declaration_section t
-  pub limited : LimitsOwned rows limits u owners
+  pub limited : LimitsOwned rows limits owners
   pub room : length kept ≡ limit_cells_length
   pub long_cells : length cells ≡ cells_length
   pub long_states : length states ≡ states_length

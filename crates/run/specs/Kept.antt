@@ -1,5 +1,5 @@
 -- What stands in memory once a run's start is done with the first n variables. Assumes nothing: these are definitions.
-use Rattle.std.specs.Prelude.{◌≡◌, List, ℕ, ◌+◌, ◌-◌, ◌*◌, ◌/◌, ◌≤◌, ◌<◌, ℤ, length, take}
+use Rattle.std.specs.Prelude.{◌≡◌, List, ℕ, ◌+◌, ◌-◌, ◌*◌, ◌≤◌, ◌<◌, ℤ, length, take}
 use Rattle.lingua.specs.Numbers.{declaration_section, limit_section, limit_cells_length, limit_cells, scope_table}
 use Rattle.lingua.specs.Rows.{pair_count, procedure_count}
 use Rattle.lingua.specs.Store.{states_in, bodies_in}
@@ -25,12 +25,12 @@ pub record LimitsFrom (rows limits : List ℕ) (kept : List ℤ) (l : ℕ) : Typ
   pub each : (d : ℕ) → d < pair_count rows declaration_section → LimitAt kept (limit_cells * d) (limit_from l (pair_count limits limit_section - l) limits (name_at rows declaration_section d))
 
 -- what keeping the limits asks: the variables are those of an accepted profile, and each limit has its owner among them
-pub record Limited (rows limits : List ℕ) (u : Table) (owners : List ℕ) : Type 0 where
+pub record Limited (rows limits owners : List ℕ) : Type 0 where
   pub accepted : AcceptedRows rows
-  pub limited : LimitsOwned rows limits u owners
+  pub limited : LimitsOwned rows limits owners
 
 -- and what keeping limit l asks: those of the later rows are kept
-pub record LaterKept (rows limits : List ℕ) (u : Table) (owners : List ℕ) (kept : List ℤ) (l : ℕ) : Type 0 where
-  pub known : Limited rows limits u owners
-  pub there : l < u.count / 2
+pub record LaterKept (rows limits owners : List ℕ) (kept : List ℤ) (l : ℕ) : Type 0 where
+  pub known : Limited rows limits owners
+  pub there : l < pair_count limits limit_section
   pub later : LimitsFrom rows limits kept (l + 1)

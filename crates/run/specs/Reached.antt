@@ -26,10 +26,9 @@ lent cells states bodies = record { cells = cells; states = states; bodies = bod
 abbrev pub Holding : Type 1
 Holding = Lent → List Variable → Type 0
 
--- a run that goes on; a place is recorded only with an error
+-- a run that goes on
 pub record Going (m : Status) : Type 0 where
   pub not_out : m.out ≡ false
-  pub clean : m.error ≡ no_error → m.place ≡ 0
 
 -- ---- the area for calls
 -- a list's front replaced, as far as it goes
@@ -47,14 +46,12 @@ pub record Reached (M : Holding) (o l after : Lent) (m : Status) (q : Progress) 
   pub opens : List (List Variable)
   pub is : q ≡ progress_of m.out (state_of m store) opens
   pub running : M l store
-  pub clean : m.error ≡ no_error → m.place ≡ 0
   pub area : after ≡ overlaid opens o
   pub closed : m.out ≡ false → opens ≡ []
 
 -- an instruction that leaves the store as it is, whatever calls do
 pub record Passes (m r : Status) (i : Instruction) : Type 0 where
   pub is : (calls : Calling) (vs : List Variable) → exec calls i (state_of m vs) ≡ progress_of r.out (state_of r vs) []
-  pub clean : r.error ≡ no_error → r.place ≡ 0
 
 -- ---- a store
 -- the new store is the one in memory

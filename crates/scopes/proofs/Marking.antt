@@ -22,21 +22,7 @@ use Rattle.laws.specs.Firsts.{Near, near_same, near_trans}
 use Rattle.laws.specs.Refers.{Refers, parts_of, operands_of, roots_of}
 use Rattle.laws.specs.Reached.{steps_of, used_from, step_root, step_part, step_below, step_closed, term_root, use_of, used_operand, used_closed, body_below}
 use Rattle.laws.specs.Scopes.{step_scope, step_held, step_near, use_scope, scope_at_most, use_at_most}
-use Rattle.scopes.specs.Marks.{Nearer, Within, Marked, Owned, Used, InstructionScopes, ExpressionScopes}
-
--- ---- the nearer of two
-module _ (a b : ℕ) where
-  pub nearer_none : a ≡ 0 → Nearer a b b
-  nearer_none e = record { left = record { near = λ l. absurd (let z : ⊥ = omega arith in z) }; right = near_same b; one = inr refl }
-
-  pub nearer_only : b ≡ 0 → Nearer a b a
-  nearer_only e = record { left = near_same a; right = record { near = λ l. absurd (let z : ⊥ = omega arith in z) }; one = inl refl }
-
-  pub nearer_second : (b ≡ 0 → ⊥) → b < a → Nearer a b b
-  nearer_second e l = record { left = record { near = λ k. (omega arith, omega arith) }; right = near_same b; one = inr refl }
-
-  pub nearer_first : (a ≡ 0 → ⊥) → a ≤ b → Nearer a b a
-  nearer_first e l = record { left = near_same a; right = record { near = λ k. (omega arith, omega arith) }; one = inl refl }
+use Rattle.scopes.specs.Marks.{Nearer, Within, Marked, Ready, Owned, Used, InstructionScopes, ExpressionScopes}
 
 -- ---- marks
 same_or : (x y : ℕ) → (x ≡ y) ⊎ (x ≡ y → ⊥)
@@ -168,5 +154,10 @@ owned_to {rows} {t} {n} {m} {r} {q} e f o = subst (λ (k : ℕ). Owned rows m k 
 pub used_to : {rows t : List ℕ} {n m r q : ℕ} → n ≡ m → r ≡ q → Used rows n r t → Used rows m q t
 used_to {rows} {t} {n} {m} {r} {q} e f o = subst (λ (k : ℕ). Used rows m k t) f (subst (λ (k : ℕ). Used rows k r t) e o)
 
-pub within_to : (n m : ℕ) (xs ys : List ℕ) → ys ≡ xs → m ≤ n → ((x : ℕ) → In x xs → x < m) → Within n ys
+within_to : (n m : ℕ) (xs ys : List ℕ) → ys ≡ xs → m ≤ n → ((x : ℕ) → In x xs → x < m) → Within n ys
 within_to n m xs ys e l f = record { each = λ x i. let b : x < m = f x (subst (λ (t : List ℕ). In x t) e i) in let d : x < n = omega arith in d }
+
+-- ---- the roots of a row are expression rows
+pub roots_within : {rows : List ℕ} {n : ℕ} {xs ys : List ℕ} → Ready rows → (r : ℕ) → r < table_count rows instruction_section → most_expressions ≤ n → ys ≡ xs → ((x : ℕ) → In x xs → In x (roots_of rows r)) → Within n ys
+roots_within {rows} {n} {xs} {ys} h r l m e f =
+    within_to n (table_count rows expression_section) xs ys e (omega (arith, h.sized.expressions)) (λ x i. h.refers.roots r x l (f x i))

@@ -8,8 +8,7 @@ use Rattle.lingua.specs.Trees.{instruction_scope, expression_scope}
 use Rattle.laws.specs.Firsts.{Near}
 use Rattle.laws.specs.Refers.{Refers, parts_of, operands_of, roots_of}
 use Rattle.laws.specs.Reached.{steps_of, used_from}
-use Rattle.decoder.specs.Tables.{AreTables, OldSized}
-use Rattle.decoder.specs.declared.tables.Tables.{Tables}
+use Rattle.decoder.specs.Tables.{Sized}
 
 -- the nearer of two scopes
 pub record Nearer (a b r : ℕ) : Type 0 where
@@ -29,9 +28,8 @@ pub record Marked (xs : List ℕ) (s : ℕ) (t u : List ℕ) : Type 0 where
 
 -- ---- on the way
 -- what rules 7 and 10 have shown of the rows by the time that scopes are asked
-pub record Ready (rows : List ℕ) (t : Tables) : Type 0 where
-  pub tables : AreTables rows t
-  pub sized : OldSized t
+pub record Ready (rows : List ℕ) : Type 0 where
+  pub sized : Sized rows
   pub refers : Refers rows
 
 -- the first n procedures' bodies are marked, and the rows from r on have marked their parts

@@ -1,55 +1,31 @@
--- How texts at the start of a buffer go on from one `put` to the next. Assumes nothing.
-use mathlib.Core.Path.{◌≡◌, refl, sym, ap, ◌∙◌}
-use mathlib.Core.List.{List, [], ◌∷◌, ◌++◌, append_assoc, append-nil}
-use Prim.Native.Nat.{ℕ, zero, suc, ◌+◌, ◌<◌}
-use native.Mathlib.Numerals.{add-one}
-use native.Mathlib.Omega.{arith}
-use lib.ListN.{length, take, get_or, length-take}
-use lib.Seq.{take_all, take-suc}
-use Rattle.text.specs.Appended.{Appended}
+-- How texts on a page go on from one `put` to the next. Assumes nothing.
+use Rattle.std.proofs.Common.{◌≡◌, refl, sym, ap, ◌∙◌, List, [], ◌∷◌, ◌++◌, ℕ, zero, suc, ◌-◌, ◌+◌, length, take, append_assoc, append-nil, length-append, arith}
+use Rattle.text.specs.Appended.{Sheet, Appended}
 
 -- ---- no text, and one text behind another
-pub append_none : (out : List ℕ) (at : ℕ) → Appended out at [] out at
-append_none out at =
+take_none : (n : ℕ) → take {A = ℕ} n [] ≡ []
+take_none zero = refl
+take_none (suc n) = refl
+
+pub append_none : (p : Sheet) → Appended p [] p
+append_none p = record {
+  bytes = sym (ap (λ (l : List ℕ). p.text ++ l) (take_none p.left) ∙ append-nil p.text);
+  left = omega arith;
+}
+
+take_both : (n : ℕ) (s t : List ℕ) → take n s ++ take (n - length s) t ≡ take n (s ++ t)
+take_both zero s t = ap (λ (n : ℕ). take n t) (let e : 0 - length s ≡ 0 = omega arith in e)
+take_both (suc n) [] t = ap (λ (m : ℕ). take m t) (let e : suc n - 0 ≡ suc n = omega arith in e)
+take_both (suc n) (x ∷ s) t = ap (λ (m : ℕ). x ∷ (take n s ++ take m t)) (let e : suc n - suc (length s) ≡ n - length s = omega arith in e) ∙ ap (λ (l : List ℕ). x ∷ l) (take_both n s t)
+
+pub append_both : {p q r : Sheet} {s t : List ℕ} → Appended p s q → Appended q t r → Appended p (s ++ t) r
+append_both {p} {q} {r} {s} {t} a b =
     record {
-      within = λ w. w;
       bytes =
-          sym
-          (ap (take (length out)) (append-nil (take at out))
-          ∙ take_all (length out) (take at out) (simp length-take (omega arith)));
+          b.bytes
+          ∙ ap (λ (l : List ℕ). l ++ take q.left t) a.bytes
+          ∙ ap (λ (n : ℕ). (p.text ++ take p.left s) ++ take n t) a.left
+          ∙ append_assoc p.text (take p.left s) (take (p.left - length s) t)
+          ∙ ap (λ (l : List ℕ). p.text ++ l) (take_both p.left s t);
+      left = omega (arith, a.left, b.left, length-append s t);
     }
-
-cut_again : (n : ℕ) (s t : List ℕ) → take n (take n s ++ t) ≡ take n (s ++ t)
-cut_again zero s t = refl
-cut_again (suc n) [] t = refl
-cut_again (suc n) (x ∷ s) t = ap (λ (l : List ℕ). x ∷ l) (cut_again n s t)
-
-both_bytes : (n : ℕ) (a s t : List ℕ) → take n (take n (a ++ s) ++ t) ≡ take n (a ++ (s ++ t))
-both_bytes n a s t = cut_again n (a ++ s) t ∙ ap (take n) (append_assoc a s t)
-
-pub append_both :
-    {out mid last s t : List ℕ} {at then end : ℕ} →
-    Appended out at s mid then →
-    length mid ≡ length out →
-    Appended mid then t last end →
-    Appended out at (s ++ t) last end
-append_both {out} {mid} {last} {s} {t} {at} {then} {end} p e q =
-    record {
-      within = λ w. q.within (p.within w);
-      bytes =
-          q.bytes
-          ∙ ap (λ (n : ℕ). take n (take then mid ++ t)) e
-          ∙ ap (λ (l : List ℕ). take (length out) (l ++ t)) p.bytes
-          ∙ both_bytes (length out) (take at out) s t;
-    }
-
--- ---- byte by byte
-pub append_next :
-    (out mid last bytes : List ℕ) (at then end i : ℕ) →
-    i < length bytes →
-    Appended out at (take i bytes) mid then →
-    length mid ≡ length out →
-    Appended mid then (get_or bytes i 0 ∷ []) last end →
-    Appended out at (take (i + 1) bytes) last end
-append_next out mid last bytes at then end i h p e q =
-    rw (add-one, take-suc bytes i 0 h) (append_both p e q)

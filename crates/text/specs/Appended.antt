@@ -1,7 +1,12 @@
--- What the `put` functions promise: a text behind the one that stands at the start of a buffer. Assumes nothing: these are definitions.
-use Rattle.std.specs.Prelude.{◌≡◌, List, ◌++◌, ℕ, ◌≤◌, length, take}
+-- What the `put` functions promise: a text behind the one that stands on a page. Assumes nothing: these are definitions.
+use Rattle.std.specs.Prelude.{◌≡◌, List, ◌++◌, ℕ, ◌-◌, length, take}
 
--- `before` held a text in its first `at` bytes; in the first `end` bytes of `after` stand that one and then `text`, cut at the buffer's end
-pub record Appended (before : List ℕ) (at : ℕ) (text after : List ℕ) (end : ℕ) : Type 0 where
-  pub within : at ≤ length before → end ≤ length after
-  pub bytes : take end after ≡ take (length before) (take at before ++ text)
+-- a page as its callers see it: what stands on it, and for how many more bytes there is room
+pub record Sheet : Type 0 where
+  pub text : List ℕ
+  pub left : ℕ
+
+-- on `after` stands the text of `before` and then `text`, cut where the room ends
+pub record Appended (before : Sheet) (text : List ℕ) (after : Sheet) : Type 0 where
+  pub bytes : after.text ≡ before.text ++ take before.left text
+  pub left : after.left ≡ before.left - length text

@@ -8,7 +8,7 @@ use Rattle.lingua.specs.Typing.{TypeError, Entry}
 use Rattle.lingua.specs.Answers.{Answer, answered, passed, faulted}
 use Rattle.lingua.specs.Answers as answers
 use Rattle.lingua.specs.Calls.{TypeCheckCall, type_check_verdict}
-use Rattle.typing.specs.declared.findings.TypeError.{TypeError as CodeError}
+use Rattle.lingua.specs.declared.errors.ErrorAt.{ErrorAt}
 use Rattle.typecheck.specs.Verdicts.{ConcludesPassed, ConcludesFailed}
 
 abbrev call_of : Answer answers.Verdict → List ℕ → TypeCheckCall
@@ -18,7 +18,7 @@ pub verdict_passed : (m : List ℕ) (o : Outcome TypeError (List Entry)) → Con
 unfolding type_check_verdict
 verdict_passed m o h = ap type_check_verdict h.is ∙ ap (call_of (answered passed)) (sym h.layout)
 
-pub verdict_failed : (e : CodeError) (m : List ℕ) (o : Outcome TypeError (List Entry)) → ConcludesFailed e m o → type_check_verdict o ≡ call_of (answered (faulted (error_number e.error) e.place)) m
+pub verdict_failed : (e : ErrorAt) (m : List ℕ) (o : Outcome TypeError (List Entry)) → ConcludesFailed e m o → type_check_verdict o ≡ call_of (answered (faulted (error_number e.error) e.place)) m
 unfolding type_check_verdict
 verdict_failed e m o h =
     ap type_check_verdict h.is ∙ ap (call_of (answered (faulted (error_number e.error) e.place))) (sym h.layout)

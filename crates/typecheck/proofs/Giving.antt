@@ -2,17 +2,25 @@
 use mathlib.Core.Path.{◌≡◌, refl, sym, ap, ap₂, ◌∙◌, subst}
 use mathlib.Core.Bool.{Bool, true, false, ◌&&◌}
 use mathlib.Core.List.{List, [], ◌∷◌, ◌++◌}
-use Prim.Native.Nat.{ℕ, zero, suc, ◌+◌, ◌/◌, ◌%◌, min}
+use Prim.Native.Nat.{ℕ, zero, suc, ◌+◌, ◌/◌, ◌%◌, ◌<◌, min}
 use native.Mathlib.Numerals.{add-one}
 use native.Mathlib.Omega.{arith}
 use lib.ListN.{length}
-use Rattle.lingua.specs.Numbers.{most_parameters}
+use Rattle.lingua.specs.Numbers.{most_parameters, variable_table}
 use Rattle.lingua.specs.Body.{same_body}
 use Rattle.lingua.specs.Typing.{Bodies, given_fit}
-use Rattle.lingua.specs.Rows.{value_count, reference_count, groups}
+use Rattle.lingua.specs.Rows.{pair_count, value_count, reference_count, groups}
 use Rattle.lingua.specs.Trees.{given_values, given_references}
 use Rattle.safety.specs.Every.{Every, every_more, every_left, every_right}
-use Rattle.safety.specs.Accepted.{Parameters, length_groups}
+use Rattle.safety.specs.Accepted.{Parameters, parameters_of, length_groups}
+use Rattle.decoder.specs.Tables.{IsTable, IsProcedure}
+use Rattle.decoder.specs.declared.tables.Table.{Table}
+use Rattle.decoder.specs.declared.tables.Procedure.{Procedure}
+use Rattle.profile.specs.Variables.{VariablesKnown}
+use Rattle.typing.specs.declared.walk.Scope.{Scope}
+use Rattle.typing.specs.Check.{variable_bodies, declared_bodies}
+use Rattle.typecheck.specs.Verdicts.{procedure_bodies, Given, CallAsked}
+use Rattle.typecheck.proofs.Scoping.{known_scope, known_ready, parameters_are, pairs_of}
 
 -- ---- group by group
 pub groups_more : (n r w : ℕ) → n ≡ r + 1 → groups n w ≡ w % 16 ∷ groups r (w / 16)
@@ -69,33 +77,61 @@ fit_append vars params (x ∷ xs) ys m =
     three true b c = refl
     three false b c = refl
 
-module _ (rows : List ℕ) (k b c values references : ℕ) (is : Parameters rows k) (v : values ≡ value_count rows k) (r : references ≡ reference_count rows k) where
-  pub values_are : given_values rows k b ≡ groups values b
+-- a call, its procedure's first row and the table of its variables
+module _ {s : Scope} {k b c : ℕ} {p : Procedure} {t : Table} (h : CallAsked s k b c) (first : IsProcedure s.rows.now k p) (table : IsTable s.rows.now (variable_table k) t) where
+  abbrev rows : List ℕ
+  rows = s.rows.now
+
+  is : Parameters rows k
+  is = parameters_of rows h.known.accepted k h.procedure
+
+  values_are : given_values rows k b ≡ groups p.values b
   unfolding given_values
-  values_are = ap (λ (n : ℕ). groups n b) (let e : min most_parameters (value_count rows k) ≡ values = omega (arith, is.values) in e)
+  values_are = ap (λ (n : ℕ). groups n b) (let e : min most_parameters (value_count rows k) ≡ p.values = omega (arith, is.values, first.values) in e)
 
-  pub references_are : given_references rows k c ≡ groups references c
+  references_are : given_references rows k c ≡ groups p.references c
   unfolding given_references
-  references_are = ap (λ (n : ℕ). groups n c) (let e : min most_parameters (reference_count rows k) ≡ references = omega (arith, is.references) in e)
+  references_are = ap (λ (n : ℕ). groups n c) (let e : min most_parameters (reference_count rows k) ≡ p.references = omega (arith, is.references, first.references) in e)
 
-  module _ {P : ℕ → Type 0} (h : Every P (given_values rows k b ++ given_references rows k c)) where
-    pub values_declared : Every P (groups values b)
-    values_declared = subst (Every P) values_are (every_left (given_values rows k b) (given_references rows k c) h)
+  abbrev Own : ℕ → Type 0
+  Own n = n < pair_count rows s.variables.section
 
-    pub references_declared : Every P (groups references c)
-    references_declared = subst (Every P) references_are (every_right (given_values rows k b) (given_references rows k c) h)
+  wanted : VariablesKnown rows t s.bodies.now
+  wanted = known_scope (known_ready h.known) (suc k) h.procedure table
 
-  -- the parameters' bodies, by their table and by the procedure
-  module _ (vars params wanted : Bodies) (same : params ≡ wanted) where
-    both_fit : (given_fit vars (groups values b) params 0 && given_fit vars (groups references c) params values) ≡ given_fit vars (given_values rows k b ++ given_references rows k c) wanted 0
-    both_fit =
-        ap (λ (m : ℕ). given_fit vars (groups values b) params 0 && given_fit vars (groups references c) params m) (let e : values ≡ 0 + length (groups values b) = omega (arith, length_groups values b) in e)
-        ∙ sym (fit_append vars params (groups values b) (groups references c) 0)
-        ∙ ap (λ (ps : Bodies). given_fit vars (groups values b ++ groups references c) ps 0) same
-        ∙ sym (ap₂ (λ (xs ys : List ℕ). given_fit vars (xs ++ ys) wanted 0) values_are references_are)
+  pub values_given : Given s t b p.values 0
+  values_given =
+      record {
+        known = h.known;
+        wanted = wanted;
+        declared = subst (Every Own) values_are (every_left (given_values rows k b) (given_references rows k c) h.declared);
+        within = pairs_of (0 + p.values) table (omega (arith, is.within, first.values));
+      }
 
-    pub values_unfit : (x : Bool) → x ≡ given_fit vars (groups values b) params 0 → x ≡ false → false ≡ given_fit vars (given_values rows k b ++ given_references rows k c) wanted 0
-    values_unfit x e z = ap (λ (t : Bool). t && given_fit vars (groups references c) params values) (sym z ∙ e) ∙ both_fit
+  pub references_given : Given s t c p.references p.values
+  references_given =
+      record {
+        known = h.known;
+        wanted = wanted;
+        declared = subst (Every Own) references_are (every_right (given_values rows k b) (given_references rows k c) h.declared);
+        within = pairs_of (p.values + p.references) table (omega (arith, is.within, first.values, first.references));
+      }
 
-    pub references_decide : (x y : Bool) → x ≡ given_fit vars (groups values b) params 0 → x ≡ true → y ≡ given_fit vars (groups references c) params values → y ≡ given_fit vars (given_values rows k b ++ given_references rows k c) wanted 0
-    references_decide x y e z f = f ∙ ap (λ (t : Bool). t && given_fit vars (groups references c) params values) (sym z ∙ e) ∙ both_fit
+  abbrev fits : List ℕ → ℕ → Bool
+  fits ns m = given_fit (declared_bodies s) ns (variable_bodies rows t.section) m
+
+  abbrev whole : Bool
+  whole = given_fit (declared_bodies s) (given_values rows k b ++ given_references rows k c) (procedure_bodies rows k) 0
+
+  both_fit : (fits (groups p.values b) 0 && fits (groups p.references c) p.values) ≡ whole
+  both_fit =
+      ap (λ (m : ℕ). fits (groups p.values b) 0 && fits (groups p.references c) m) (let e : p.values ≡ 0 + length (groups p.values b) = omega (arith, length_groups p.values b) in e)
+      ∙ sym (fit_append (declared_bodies s) (variable_bodies rows t.section) (groups p.values b) (groups p.references c) 0)
+      ∙ ap (λ (ps : Bodies). given_fit (declared_bodies s) (groups p.values b ++ groups p.references c) ps 0) (parameters_are rows k t h.procedure table)
+      ∙ sym (ap₂ (λ (xs ys : List ℕ). given_fit (declared_bodies s) (xs ++ ys) (procedure_bodies rows k) 0) values_are references_are)
+
+  pub values_unfit : (x : Bool) → x ≡ fits (groups p.values b) 0 → x ≡ false → false ≡ whole
+  values_unfit x e z = ap (λ (y : Bool). y && fits (groups p.references c) p.values) (sym z ∙ e) ∙ both_fit
+
+  pub references_decide : (x y : Bool) → x ≡ fits (groups p.values b) 0 → x ≡ true → y ≡ fits (groups p.references c) p.values → y ≡ whole
+  references_decide x y e z f = f ∙ ap (λ (w : Bool). w && fits (groups p.references c) p.values) (sym z ∙ e) ∙ both_fit

@@ -1,80 +1,69 @@
 -- Scopes as the type check has them: their tables, how many variables there are, and the declared bodies of these. Assumes nothing.
 use mathlib.Core.Path.{◌≡◌, refl, sym, ap, ap₂, ◌∙◌, subst, fun_ext}
 use mathlib.Core.List.{List, [], ◌∷◌, map}
-use Prim.Native.Nat.{ℕ, zero, suc, ◌+◌, ◌*◌, ◌≤◌, ◌<◌}
+use Prim.Native.Nat.{ℕ, zero, suc, ◌+◌, ◌*◌, ◌≤◌, ◌<◌, ◌/◌}
 use native.Mathlib.Numerals.{add-one}
 use native.Mathlib.Omega.{arith}
 use lib.ListN.{get_or}
-use Rattle.lingua.specs.Numbers.{most_variables, type_section, expression_section, declaration_section, declaration_place, variable_table, scope_table}
+use Rattle.lingua.specs.Numbers.{most_variables, most_procedures, expression_section, declaration_section, declaration_place, variable_table, scope_table}
 use Rattle.lingua.specs.Outcome.{Outcome}
 use Rattle.lingua.specs.Body.{Body, boolean}
 use Rattle.lingua.specs.Run.{Declaration}
 use Rattle.lingua.specs.Typing.{TypeError, Entry, check_instruction, bodies_of, scope_bodies}
 use Rattle.lingua.specs.Rows.{table_count, pair_count, procedure_count}
-use Rattle.lingua.specs.Trees.{tabulate_from, tabulate, yoke_tree, instruction_tree, instruction_scope, declaration_in, profile_of}
+use Rattle.lingua.specs.Trees.{tabulate_from, tabulate, yoke_tree, instruction_tree, declaration_in, profile_of}
 use Rattle.lingua.specs.References.{yoke_in}
 use Rattle.safety.specs.Constants.{ClosedYoke}
 use Rattle.safety.specs.Accepted.{AcceptedRows, few_variables, scope_root, scope_closed}
 use Rattle.safety.specs.ProfileScopes.{scope_declaration, scope_declarations_lem}
-use Rattle.decoder.specs.Tables.{IsTable, Described, OldSized}
+use Rattle.decoder.specs.Tables.{IsTable, AreTables, OldSized}
 use Rattle.decoder.specs.declared.tables.Table.{Table}
 use Rattle.decoder.specs.declared.tables.Tables.{Tables}
 use Rattle.scopes.specs.Marks.{InstructionScopes}
 use Rattle.rules.specs.Accepted.{counts}
-use Rattle.rules.specs.Types.{BodiesBelow}
-use Rattle.profile.specs.Variables.{scope_of, VariablesKnown}
+use Rattle.profile.specs.Variables.{scope_of, own_table, VariablesKnown}
 use Rattle.profile.specs.Yokes.{every_yoke}
 use Rattle.profile.proofs.Declaring.{pairs}
 use Rattle.typing.specs.declared.walk.Scope.{Scope}
 use Rattle.typing.specs.Check.{variable_bodies, Ready, Sees}
 use Rattle.std.specs.Prelude.{Result as CodeResult}
-use Rattle.typing.specs.declared.findings.TypeError.{TypeError as CodeError}
+use Rattle.lingua.specs.declared.errors.ErrorAt.{ErrorAt}
 use Rattle.typecheck.specs.Verdicts.{ScopeIs, procedure_bodies, Settles, declarations_check, before, scope_check, instruction_check}
 
 -- ---- tables
-module _ {rows bodies : List ℕ} {t : Tables} (ready : Ready rows t bodies) where
-  pub few_procedures_lem : t.procedures.count ≤ 8
-  few_procedures_lem = omega (arith, ready.tables.procedures, (counts rows ready.accepted.counts).procedures.most)
+pub few_procedures_lem : (rows : List ℕ) → AcceptedRows rows → procedure_count rows ≤ most_procedures
+few_procedures_lem rows accepted = (counts rows accepted.counts).procedures.most
 
-  pub described : Described t
-  described = record { rows = rows; tables = ready.tables; few = few_procedures_lem }
+pub sized : {rows bodies : List ℕ} {t : Tables} → Ready rows bodies → AreTables rows t → OldSized t
+sized {rows} ready is =
+    let c = counts rows ready.accepted.counts in
+    record {
+      declarations = omega (arith, pairs rows declaration_section _ is.declarations, c.variables.most);
+      types = omega (arith, is.types.count, c.types.most);
+      expressions = omega (arith, is.expressions.count, c.expressions.most);
+      some_instruction = omega (arith, is.instructions.count, c.instructions.least);
+      instructions = omega (arith, is.instructions.count, c.instructions.most);
+      procedures = omega (arith, is.procedures, c.procedures.most);
+    }
 
-  pub sized : OldSized t
-  sized =
-      let c = counts rows ready.accepted.counts in
-      record {
-        declarations = omega (arith, pairs rows declaration_section t.declarations ready.tables.declarations, c.variables.most);
-        types = omega (arith, ready.tables.types.count, c.types.most);
-        expressions = omega (arith, ready.tables.expressions.count, c.expressions.most);
-        some_instruction = omega (arith, ready.tables.instructions.count, c.instructions.least);
-        instructions = omega (arith, ready.tables.instructions.count, c.instructions.most);
-        procedures = few_procedures_lem;
-      }
+-- a scope by its number
+pub known_scope : {rows bodies : List ℕ} {t : Table} → Ready rows bodies → (a : ℕ) → a ≤ procedure_count rows → IsTable rows (scope_table a) t → VariablesKnown rows t bodies
+known_scope ready a h is = record { scope = scope_of a h is; accepted = ready.accepted; held = ready.types }
 
-  -- a scope by its number
-  pub known_scope : {u : Table} (a : ℕ) → a ≤ procedure_count rows → IsTable rows (scope_table a) u → VariablesKnown rows u bodies
-  known_scope a h is = record { scope = scope_of a h is; accepted = ready.accepted; held = ready.types }
+pub scope_sees : {a : ℕ} {s : Scope} → ScopeIs a s → Ready s.rows.now s.bodies.now → Sees s
+scope_sees {a} is ready = known_scope ready a is.there is.variables
 
-module _ {rows bodies : List ℕ} {a : ℕ} {s : Scope} (is : ScopeIs rows a s) (accepted : AcceptedRows rows) (held : BodiesBelow rows bodies (table_count rows type_section)) where
-  pub scope_known : VariablesKnown rows s.variables bodies
-  scope_known = record { scope = scope_of a is.there is.variables; accepted = accepted; held = held }
-
-  pub scope_sees : Sees rows s bodies
-  scope_sees =
-      record { accepted = accepted; expressions = is.expressions; variables = scope_of a is.there is.variables; types = held }
-
-pub sees_known : {rows bodies : List ℕ} {s : Scope} → Sees rows s bodies → VariablesKnown rows s.variables bodies
-sees_known h = record { scope = h.variables; accepted = h.accepted; held = h.types }
-
--- the scope that an instruction row's table of scopes has
-pub own_scope : {rows : List ℕ} {s : Scope} (scopes : List ℕ) (r : ℕ) → InstructionScopes rows scopes → ScopeIs rows (get_or scopes r 0) s → ScopeIs rows (instruction_scope rows r) s
-own_scope {rows} {s} scopes r h is = subst (λ (a : ℕ). ScopeIs rows a s) (h.each r) is
+pub known_ready : {rows bodies : List ℕ} {t : Table} → VariablesKnown rows t bodies → Ready rows bodies
+known_ready known = record { accepted = known.accepted; types = known.held }
 
 -- ---- variables
 module _ {rows bodies : List ℕ} {t : Table} (known : VariablesKnown rows t bodies) where
   pub few_known : pair_count rows t.section ≤ most_variables
   few_known =
       subst (λ (s : ℕ). pair_count rows s ≤ most_variables) (sym known.scope.table.section) (few_variables rows known.accepted known.scope.scope known.scope.there)
+
+  pub pairs_known : t.count / 2 ≡ pair_count rows t.section
+  pairs_known = pairs rows t.section t (own_table known.scope.table)
 
   -- a declared yoke is there, and reads no variable
   pub yoke_there : (d y : ℕ) → d < pair_count rows t.section → y ≡ yoke_in rows t.section d → y ≤ table_count rows expression_section
@@ -90,27 +79,31 @@ module _ {rows bodies : List ℕ} {t : Table} (known : VariablesKnown rows t bod
       (scope_closed rows known.accepted s.scope s.there d (subst (λ (k : ℕ). d < pair_count rows k) s.table.section l))
 
 -- at most 16 in each scope
-pub before_few : (rows : List ℕ) → AcceptedRows rows → (a : ℕ) → a ≤ suc (procedure_count rows) → before rows a ≤ 16 * a
+before_few : (rows : List ℕ) → AcceptedRows rows → (a : ℕ) → a ≤ suc (procedure_count rows) → before rows a ≤ 16 * a
 unfolding before
 before_few rows accepted zero l = omega arith
 before_few rows accepted (suc a) l = omega (arith, before_few rows accepted a (omega arith), few_variables rows accepted a (omega arith))
+
+pub places_few : {rows : List ℕ} → AcceptedRows rows → (a : ℕ) → a ≤ procedure_count rows → declaration_place + before rows a + pair_count rows (scope_table a) ≤ 1024
+places_few {rows} accepted a l =
+    omega (arith, few_procedures_lem rows accepted, before_few rows accepted a (omega arith), few_variables rows accepted a l)
 
 pub before_more : (rows : List ℕ) (a : ℕ) → before rows (a + 1) ≡ before rows a + pair_count rows (scope_table a)
 unfolding before
 before_more rows a = ap (before rows) (add-one a)
 
 -- ---- the same by the tables' own numbers
-pub scope_settles : {rows : List ℕ} {t : Table} {first : ℕ} (a : ℕ) (v : CodeResult (Unit {0}) CodeError) (l m : List ℕ) → IsTable rows (scope_table a) t → first ≡ declaration_place + before rows a
+pub scope_settles : {rows : List ℕ} {t : Table} {first : ℕ} (a : ℕ) (v : CodeResult (Unit {0}) ErrorAt) (l m : List ℕ) → IsTable rows (scope_table a) t → first ≡ declaration_place + before rows a
     → Settles v l m (declarations_check rows t.section first) → Settles v l m (scope_check rows a)
 unfolding scope_check
 scope_settles {rows} a v l m is e h =
     subst (λ (o : Outcome TypeError (List Entry)). Settles v l m o) (ap₂ (λ (s n : ℕ). declarations_check rows s n) is.section e) h
 
-pub row_settles : {rows : List ℕ} {s : Scope} (r : ℕ) (v : CodeResult (Unit {0}) CodeError) (l m : List ℕ) → ScopeIs rows (instruction_scope rows r) s
-    → Settles v l m (check_instruction (procedure_bodies rows) (variable_bodies rows s.variables.section) (instruction_tree rows r)) → Settles v l m (instruction_check rows r)
+pub row_settles : {rows scopes : List ℕ} {t : Table} (h : InstructionScopes rows scopes) (r : ℕ) (v : CodeResult (Unit {0}) ErrorAt) (l m : List ℕ) → IsTable rows (scope_table (get_or scopes r 0)) t
+    → Settles v l m (check_instruction (procedure_bodies rows) (variable_bodies rows t.section) (instruction_tree rows r)) → Settles v l m (instruction_check rows r)
 unfolding instruction_check
-row_settles {rows} r v l m is h =
-    subst (λ (k : ℕ). Settles v l m (check_instruction (procedure_bodies rows) (variable_bodies rows k) (instruction_tree rows r))) is.variables.section h
+row_settles {rows} h r v l m is k =
+    subst (λ (s : ℕ). Settles v l m (check_instruction (procedure_bodies rows) (variable_bodies rows s) (instruction_tree rows r))) (is.section ∙ ap scope_table (h.each r)) k
 
 -- ---- declared bodies
 pub map_tabulate : {A B : Type 0} (g : A → B) (f : ℕ → A) (i n : ℕ) → map g (tabulate_from i n f) ≡ tabulate_from i n (λ k. g (f k))

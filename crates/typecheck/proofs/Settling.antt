@@ -2,6 +2,7 @@
 use mathlib.Core.Path.{◌≡◌, refl, sym, ap, ◌∙◌, subst}
 use mathlib.Core.Bool.{Bool, true, false}
 use mathlib.Core.List.{List, [], ◌∷◌, ◌++◌, append_assoc, append-nil}
+use mathlib.Core.Option.{some}
 use Prim.Native.Nat.{ℕ, zero, suc, ◌+◌, ◌-◌, ◌≤◌, ◌<◌}
 use native.Mathlib.Numerals.{add-one}
 use native.Mathlib.Omega.{arith}
@@ -20,10 +21,10 @@ use Rattle.body.specs.Encode.{Holds}
 use Rattle.std.specs.Prelude.{Option as CodeOption, Some, None, Result as CodeResult, Ok, Err, MatchResult}
 use Rattle.std.specs.Option.{unwrap_or}
 use Rattle.std.specs.Result.{IsOkAnd}
-use Rattle.typing.specs.declared.findings.TypeError.{TypeError as CodeError}
+use Rattle.lingua.specs.declared.errors.ErrorAt.{ErrorAt}
 use Rattle.typing.specs.declared.walk.Scope.{Scope}
-use Rattle.typing.specs.Check.{error_meaning, Readable, Fails, Gives}
-use Rattle.typecheck.specs.Verdicts.{JudgesBody, Judges, SettlesPassed, in_order}
+use Rattle.typing.specs.Check.{error_meaning, Readable, Asked, Fails, Gives}
+use Rattle.typecheck.specs.Verdicts.{ExpressionAsked, JudgesBody, Judges, SettlesPassed, in_order}
 use Rattle.typing.proofs.Reading.{closed_reads}
 use Rattle.typing.proofs.Returns.{placed_append}
 
@@ -32,6 +33,11 @@ pub none_holds : (x : List ℕ) → x ≡ pad body_bytes 0 (1 ∷ []) → Holds 
 unfolding encoded bytes size nodes
 none_holds x h = record { is = h; few_cells = omega arith; few_nodes = omega arith }
 
+-- outside yokes the current value has it
+pub outside_asked : {s : Scope} {e : ℕ} {layout : List ℕ} (x : List ℕ) → ExpressionAsked s e layout → x ≡ pad body_bytes 0 (1 ∷ []) → Asked e s (Some x) layout
+outside_asked x h n =
+    record { sees = h.sees; here = h.here; reads = h.reads; held = record { body = some boolean; holds = none_holds x n }; room = h.room }
+
 -- ---- outcomes
 pub nothing_settles : (l : List ℕ) → SettlesPassed l l (ok [])
 unfolding placed
@@ -39,7 +45,7 @@ nothing_settles l = record { entries = []; is = refl; layout = refl }
 
 -- ---- what a declaration's or an instruction's expression gives
 -- what is asked of its body, where it has one
-pub judges_by : (x : CodeResult (List ℕ) (CodeOption CodeError)) (s : CodeResult Bool (CodeOption CodeError)) (o : Finding Typed) (asks : Body → Bool) (l m : List ℕ) {P : List ℕ → Bool → Type 0}
+pub judges_by : (x : CodeResult (List ℕ) (CodeOption ErrorAt)) (s : CodeResult Bool (CodeOption ErrorAt)) (o : Finding Typed) (asks : Body → Bool) (l m : List ℕ) {P : List ℕ → Bool → Type 0}
     → Gives x l m o → MatchResult x (λ y. IsOkAnd s (P y)) (λ f. s ≡ Err f) → ((y : List ℕ) (r : Bool) (b : Body) → P y r → Holds y b → r ≡ asks b) → Judges s o asks l m
 judges_by (Ok y) (Ok r) o asks l m g c k =
     record { typed = g.typed; is = g.is; told = k y r g.typed.body c g.holds; layout = g.layout }
@@ -48,7 +54,7 @@ judges_by (Err f) s o asks l m g c k = rw c g
 
 module _ (o : Finding Typed) (asks : Body → Bool) (l m : List ℕ) where
   -- the lowest row at fault is named
-  pub judged_fails : (f : CodeOption CodeError) (own : CodeError) → Fails f o → judged o asks (error_meaning own) ≡ fail (error_meaning (unwrap_or f own))
+  pub judged_fails : (f : CodeOption ErrorAt) (own : ErrorAt) → Fails f o → judged o asks (error_meaning own) ≡ fail (error_meaning (unwrap_or f own))
   unfolding judged
   judged_fails (Some e) own h = rw (h.is, sym h.lowest) refl
   judged_fails None own h = rw (h.is, sym h.lowest) refl
@@ -83,10 +89,10 @@ yoke_row rows zero n = absurd (n refl)
 yoke_row rows (suc r) n = ap (λ (k : ℕ). yoke (expression_tree rows k)) (let e : r ≡ suc r - 1 = omega arith in e)
 
 -- a yoke reads no variable
-pub yoke_reads : (rows : List ℕ) (s : Scope) (y : ℕ) → (y ≡ 0 → ⊥) → ClosedYoke (yoke_tree rows y) → Readable rows s (y - 1)
+pub yoke_reads : (s : Scope) (y : ℕ) → (y ≡ 0 → ⊥) → ClosedYoke (yoke_tree s.rows.now y) → Readable s (y - 1)
 unfolding ClosedYoke Readable
-yoke_reads rows s y n h =
-    closed_reads (pair_count rows s.variables.section) (expression_tree rows (y - 1)) (subst ClosedYoke (yoke_row rows y n) h).reads_none
+yoke_reads s y n h =
+    closed_reads (pair_count s.rows.now s.variables.section) (expression_tree s.rows.now (y - 1)) (subst ClosedYoke (yoke_row s.rows.now y n) h).reads_none
 
 -- ---- one after the other
 abbrev prefixed : List (List Entry) → Outcome TypeError (List (List Entry)) → Outcome TypeError (List (List Entry))

@@ -16,7 +16,7 @@ use Rattle.lingua.specs.Typing.{TypeError, Entry, Bodies, check_yoke, check_inst
 use Rattle.laws.specs.Scopes.{scope_at_most}
 use Rattle.safety.specs.Every.{length_tabulate}
 use Rattle.std.specs.Prelude.{Result as CodeResult, Ok, Err}
-use Rattle.typing.specs.declared.findings.TypeError.{TypeError as CodeError}
+use Rattle.lingua.specs.declared.errors.ErrorAt.{ErrorAt}
 use Rattle.typing.specs.Check.{error_meaning, variable_bodies}
 use Rattle.typecheck.specs.Verdicts.{procedure_bodies, SettlesPassed, Settles, in_order, declaration_check, declarations_check, before, scope_check, instruction_check, whole_check, ConcludesPassed}
 use Rattle.typing.proofs.Returns.{placed_append}
@@ -167,7 +167,7 @@ module _ (rows : List ℕ) {l0 l1 : List ℕ} (q : SettlesPassed l0 l1 (in_order
       rw (q.is, w.is)
       (record { entries = q.entries ++ w.entries; is = refl; layout = w.layout ∙ ap (placed w.entries) q.layout ∙ sym (placed_append q.entries w.entries l0) })
 
-  pub both_settle : (v : CodeResult (Unit {0}) CodeError) (l2 : List ℕ) → Settles v l1 l2 (in_order (table_count rows instruction_section) (instruction_check rows)) → Settles v l0 l2 (whole_check rows)
+  pub both_settle : (v : CodeResult (Unit {0}) ErrorAt) (l2 : List ℕ) → Settles v l1 l2 (in_order (table_count rows instruction_section) (instruction_check rows)) → Settles v l0 l2 (whole_check rows)
   both_settle (Ok u) l2 h = both_pass l2 h
   both_settle (Err e) l2 h = second_fails (error_meaning e) h
 

@@ -2,6 +2,7 @@
 use Rattle.std.specs.Prelude.{◌≡◌, Bool, List, [], ◌++◌, ℕ, zero, suc, ◌+◌, ◌≤◌, ◌<◌, length, replicate, Option as CodeOption, Result as CodeResult, Ok, Err}
 use Rattle.lingua.specs.Numbers.{layout_length, declaration_section, expression_section, instruction_section, declaration_place, scope_table}
 use Rattle.lingua.specs.Outcome.{Outcome, ok, fail, all_answers, ◌>>=◌}
+use Rattle.lingua.specs.declared.errors.ErrorAt.{ErrorAt}
 use Rattle.lingua.specs.Body.{Body}
 use Rattle.lingua.specs.Typing.{TypeError, Entry, Typed, Finding, Bodies, scope_bodies, check_yoke, check_instruction, joined, placed, layout_of}
 use Rattle.lingua.specs.Rows.{table_count, pair_count, procedure_count, groups}
@@ -11,19 +12,16 @@ use Rattle.safety.specs.Constants.{ClosedYoke}
 use Rattle.safety.specs.Every.{Every}
 use Rattle.decoder.specs.Tables.{IsTable}
 use Rattle.decoder.specs.declared.tables.Table.{Table}
-use Rattle.decoder.specs.declared.tables.Tables.{Tables}
 use Rattle.body.specs.Encode.{Held}
 use Rattle.profile.specs.Variables.{VariablesKnown}
-use Rattle.typing.specs.declared.findings.TypeError.{TypeError as CodeError}
 use Rattle.typing.specs.declared.walk.Scope.{Scope}
 use Rattle.typing.specs.Check.{Ready, Sees, Readable, error_meaning, Fails, variable_bodies}
 
 -- ---- whose variables
--- the tables are those of the expressions and of scope a
-pub record ScopeIs (rows : List ℕ) (a : ℕ) (s : Scope) : Type 0 where
-  pub there : a ≤ procedure_count rows
-  pub expressions : IsTable rows expression_section s.expressions
-  pub variables : IsTable rows (scope_table a) s.variables
+-- the variables are those of scope a
+pub record ScopeIs (a : ℕ) (s : Scope) : Type 0 where
+  pub there : a ≤ procedure_count s.rows.now
+  pub variables : IsTable s.rows.now (scope_table a) s.variables
 
 -- the declared bodies of procedure k's variables; limits say nothing of bodies
 unfoldable pub procedure_bodies : List ℕ → ℕ → Bodies
@@ -31,44 +29,50 @@ procedure_bodies rows k = scope_bodies (profile_of rows []) (suc k)
 
 -- ---- what is asked
 -- what the check of a yoke asks, where the current value has a body
-pub record YokeAsked (rows : List ℕ) (s : Scope) (bodies : List ℕ) (yoke : ℕ) (current layout : List ℕ) : Type 0 where
-  pub sees : Sees rows s bodies
-  pub here : yoke ≤ table_count rows expression_section
-  pub closed : ClosedYoke (yoke_tree rows yoke)
+pub record YokeAsked (s : Scope) (yoke : ℕ) (current layout : List ℕ) : Type 0 where
+  pub sees : Sees s
+  pub here : yoke ≤ table_count s.rows.now expression_section
+  pub closed : ClosedYoke (yoke_tree s.rows.now yoke)
   pub held : Held current
   pub room : length layout ≡ layout_length
 
 -- what the check of an expression outside yokes asks
-pub record ExpressionAsked (rows : List ℕ) (s : Scope) (bodies : List ℕ) (e : ℕ) (layout : List ℕ) : Type 0 where
-  pub sees : Sees rows s bodies
-  pub here : e < table_count rows expression_section
-  pub reads : Readable rows s e
+pub record ExpressionAsked (s : Scope) (e : ℕ) (layout : List ℕ) : Type 0 where
+  pub sees : Sees s
+  pub here : e < table_count s.rows.now expression_section
+  pub reads : Readable s e
   pub room : length layout ≡ layout_length
 
 -- what the check of an assignment of expression e to variable n asks, in an instruction row
-pub record Assigned (rows : List ℕ) (s : Scope) (bodies : List ℕ) (row n e : ℕ) (layout : List ℕ) : Type 0 where
-  pub value : ExpressionAsked rows s bodies e layout
+pub record Assigned (s : Scope) (row n e : ℕ) (layout : List ℕ) : Type 0 where
+  pub value : ExpressionAsked s e layout
   pub few : row < 256
-  pub declared : n < pair_count rows s.variables.section
+  pub declared : n < pair_count s.rows.now s.variables.section
 
 -- what the comparison of given variables with parameters asks, those from one on
-pub record Given (rows : List ℕ) (own parameters : Table) (bodies : List ℕ) (w n first : ℕ) : Type 0 where
-  pub known : VariablesKnown rows own bodies
-  pub wanted : VariablesKnown rows parameters bodies
-  pub declared : Every (λ i. i < pair_count rows own.section) (groups n w)
-  pub within : first + n ≤ pair_count rows parameters.section
+pub record Given (s : Scope) (parameters : Table) (w n first : ℕ) : Type 0 where
+  pub known : Sees s
+  pub wanted : VariablesKnown s.rows.now parameters s.bodies.now
+  pub declared : Every (λ i. i < pair_count s.rows.now s.variables.section) (groups n w)
+  pub within : first + n ≤ pair_count s.rows.now parameters.section
 
 -- what the check of a call asks
-pub record CallAsked (rows : List ℕ) (t : Tables) (own : Table) (bodies : List ℕ) (k b c : ℕ) : Type 0 where
-  pub ready : Ready rows t bodies
-  pub known : VariablesKnown rows own bodies
-  pub procedure : k < procedure_count rows
-  pub declared : Every (λ i. i < pair_count rows own.section) (given_values rows k b ++ given_references rows k c)
+pub record CallAsked (s : Scope) (k b c : ℕ) : Type 0 where
+  pub known : Sees s
+  pub procedure : k < procedure_count s.rows.now
+  pub declared : Every (λ i. i < pair_count s.rows.now s.variables.section) (given_values s.rows.now k b ++ given_references s.rows.now k c)
+
+-- what the check of an instruction row asks
+pub record InstructionAsked (s : Scope) (row : ℕ) (layout : List ℕ) : Type 0 where
+  pub ready : Ready s.rows.now s.bodies.now
+  pub own : ScopeIs (instruction_scope s.rows.now row) s
+  pub here : row < table_count s.rows.now instruction_section
+  pub room : length layout ≡ layout_length
 
 -- what the check of a scope's declared yokes asks
-pub record DeclarationsAsked (rows : List ℕ) (own : Scope) (t : Table) (bodies layout : List ℕ) : Type 0 where
-  pub profile : ScopeIs rows 0 own
-  pub known : VariablesKnown rows t bodies
+pub record DeclarationsAsked (own : Scope) (t : Table) (layout : List ℕ) : Type 0 where
+  pub profile : ScopeIs 0 own
+  pub known : VariablesKnown own.rows.now t own.bodies.now
   pub room : length layout ≡ layout_length
 
 -- ---- what is given
@@ -79,7 +83,7 @@ pub record JudgesBody (suits : Bool) (o : Finding Typed) (asks : Body → Bool) 
   pub told : suits ≡ asks typed.body
   pub layout : exit ≡ placed typed.entries entry
 
-abbrev pub Judges : CodeResult Bool (CodeOption CodeError) → Finding Typed → (Body → Bool) → List ℕ → List ℕ → Type 0
+abbrev pub Judges : CodeResult Bool (CodeOption ErrorAt) → Finding Typed → (Body → Bool) → List ℕ → List ℕ → Type 0
 Judges (Ok suits) o asks entry exit = JudgesBody suits o asks entry exit
 Judges (Err f) o asks entry exit = Fails f o
 
@@ -90,7 +94,7 @@ pub record SettlesPassed (entry exit : List ℕ) (o : Outcome TypeError (List En
   pub layout : exit ≡ placed entries entry
 
 -- that, or the type error
-abbrev pub Settles : CodeResult (Unit {0}) CodeError → List ℕ → List ℕ → Outcome TypeError (List Entry) → Type 0
+abbrev pub Settles : CodeResult (Unit {0}) ErrorAt → List ℕ → List ℕ → Outcome TypeError (List Entry) → Type 0
 Settles (Ok u) entry exit o = SettlesPassed entry exit o
 Settles (Err e) entry exit o = o ≡ fail (error_meaning e)
 
@@ -137,10 +141,10 @@ pub record ConcludesPassed (exit : List ℕ) (o : Outcome TypeError (List Entry)
   pub is : o ≡ ok entries
   pub layout : exit ≡ layout_of entries
 
-pub record ConcludesFailed (e : CodeError) (exit : List ℕ) (o : Outcome TypeError (List Entry)) : Type 0 where
+pub record ConcludesFailed (e : ErrorAt) (exit : List ℕ) (o : Outcome TypeError (List Entry)) : Type 0 where
   pub is : o ≡ fail (error_meaning e)
   pub layout : exit ≡ replicate layout_length 0
 
-abbrev pub Concludes : CodeResult (Unit {0}) CodeError → List ℕ → Outcome TypeError (List Entry) → Type 0
+abbrev pub Concludes : CodeResult (Unit {0}) ErrorAt → List ℕ → Outcome TypeError (List Entry) → Type 0
 Concludes (Ok u) exit o = ConcludesPassed exit o
 Concludes (Err e) exit o = ConcludesFailed e exit o

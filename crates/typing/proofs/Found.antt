@@ -8,6 +8,7 @@ use Rattle.std.specs.Result.{result_ok}
 use Rattle.lingua.specs.Outcome.{Outcome, ok, fail, both, answer_of, ◌>>=◌}
 use Rattle.lingua.specs.Faults.{error_number}
 use Rattle.lingua.specs.declared.errors.Error.{Error}
+use Rattle.lingua.specs.declared.errors.ErrorAt.{ErrorAt}
 use Rattle.lingua.specs.Body.{Body}
 use Rattle.lingua.specs.Operation.{top, unary_body}
 use Rattle.lingua.specs.Typing.{Finding, fault, own_rule, current_body, elements_at, lower, lowest_fault}
@@ -16,12 +17,11 @@ use Rattle.safety.specs.Faults.{lower_none, lowest_fault_append}
 use Rattle.body.specs.Encode.{Holds}
 use Rattle.body_half.specs.Half.{HalfPassed, Half}
 use Rattle.body.specs.declared.typed.Typed.{Typed as HalfTyped}
-use Rattle.typing.specs.declared.findings.TypeError.{TypeError as CodeError}
 use Rattle.typing.specs.Check.{fault_meaning, own_fault, own_found, HoldsIf, Fails, Together, Elements, Gives}
 
 -- ---- one row
 -- no answer: what is asked behind it is not
-pub fails_on : {A B : Type 0} (f : CodeOption CodeError) (o : Finding A) (k : A → Finding B) → Fails f o → Fails f (o >>= k)
+pub fails_on : {A B : Type 0} (f : CodeOption ErrorAt) (o : Finding A) (k : A → Finding B) → Fails f o → Fails f (o >>= k)
 fails_on f o k h = record { faults = h.faults; is = ap (λ (p : Finding _). p >>= k) h.is; lowest = h.lowest }
 
 -- a fault of the row's own
@@ -31,7 +31,7 @@ faulted e r = record { faults = fault (error_number e) r; is = refl; lowest = re
 
 -- a row's own rule, by its half on bodies
 module _ (h : CodeResult HalfTyped Error) (r : ℕ) (o : Outcome ℕ Body) (second : Body → ℕ) where
-  pub own_fails : Half h o second → (f : CodeOption CodeError) → Err f ≡ own_found h r → Fails f (own_rule r o)
+  pub own_fails : Half h o second → (f : CodeOption ErrorAt) → Err f ≡ own_found h r → Fails f (own_rule r o)
   own_fails g f e = by h g e
     where
       by : (h : CodeResult HalfTyped Error) → Half h o second → Err f ≡ own_found h r → Fails f (own_rule r o)
@@ -56,20 +56,20 @@ current_none none h = refl
 
 -- ---- two at once
 -- what the definition has beside what the code found
-abbrev pub Finds : {A B : Type 0} → CodeResult A (CodeOption CodeError) → Finding B → Type 0
+abbrev pub Finds : {A B : Type 0} → CodeResult A (CodeOption ErrorAt) → Finding B → Type 0
 Finds {B = B} (Ok a) o = (b : B) × (o ≡ ok b)
 Finds (Err f) o = Fails f o
 
-pub gives_finds : (x : CodeResult (List ℕ) (CodeOption CodeError)) (l m : List ℕ) (o : Finding _) → Gives x l m o → Finds x o
+pub gives_finds : (x : CodeResult (List ℕ) (CodeOption ErrorAt)) (l m : List ℕ) (o : Finding _) → Gives x l m o → Finds x o
 gives_finds (Ok x) l m o g = (g.typed, g.is)
 gives_finds (Err f) l m o g = g
 
-pub elements_finds : (x : CodeResult (List ℕ) (CodeOption CodeError)) (o : Finding Body) → Elements x o → Finds x o
+pub elements_finds : (x : CodeResult (List ℕ) (CodeOption ErrorAt)) (o : Finding Body) → Elements x o → Finds x o
 elements_finds (Ok x) o g = (g.element, g.is)
 elements_finds (Err f) o g = g
 
 module _ {A B C D : Type 0} where
-  pub both_found : (c : CodeResult (A × B) (CodeOption CodeError)) (x : CodeResult A (CodeOption CodeError)) (y : CodeResult B (CodeOption CodeError))
+  pub both_found : (c : CodeResult (A × B) (CodeOption ErrorAt)) (x : CodeResult A (CodeOption ErrorAt)) (y : CodeResult B (CodeOption ErrorAt))
       (o : Finding C) (p : Finding D) → Together c x y → Finds x o → Finds y p → Finds c (both o p)
   unfolding lowest_fault
   both_found (Ok c) (Ok a) (Ok b) o p t f g = ((f.0, g.0), rw (f.1, g.1) refl)
@@ -92,9 +92,9 @@ unfolding elements_at current_body lowest_fault
 no_current r = record { faults = []; is = refl; lowest = refl }
 
 -- the current value of an inner yoke
-pub inner_holds : (x : CodeResult (List ℕ) (CodeOption CodeError)) (y : CodeOption (List ℕ)) (o : Finding Body) → Elements x o → y ≡ result_ok x → HoldsIf y (answer_of o)
+pub inner_holds : (x : CodeResult (List ℕ) (CodeOption ErrorAt)) (y : CodeOption (List ℕ)) (o : Finding Body) → Elements x o → y ≡ result_ok x → HoldsIf y (answer_of o)
 inner_holds x y o g e = rw e (by x g)
   where
-    by : (x : CodeResult (List ℕ) (CodeOption CodeError)) → Elements x o → HoldsIf (result_ok x) (answer_of o)
+    by : (x : CodeResult (List ℕ) (CodeOption ErrorAt)) → Elements x o → HoldsIf (result_ok x) (answer_of o)
     by (Ok x) g = rw g.is g.holds
     by (Err f) g = rw g.is tt

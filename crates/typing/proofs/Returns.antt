@@ -13,12 +13,12 @@ use Rattle.lingua.specs.Value.{Composite}
 use Rattle.lingua.specs.Operation.{Unary, Binary, unary_body, binary_body}
 use Rattle.lingua.specs.Expression.{Connective, Expression, constant, variable, current, unary, binary, lazy, choice, all_list}
 use Rattle.lingua.specs.Typing.{Entry, own_rule, unary_second, binary_second, Bodies, current_body, current_or, elements_at, check, lowest_fault, placed}
+use Rattle.lingua.specs.declared.errors.ErrorAt.{ErrorAt}
 use Rattle.lingua.specs.declared.errors.Error.TheVariants.{BooleanExpected, NoCoherence, YokeExpected}
 use Rattle.laws.specs.Outcomes.{is_boolean_lem}
 use Rattle.body.specs.Encode.{Holds}
 use Rattle.body.specs.declared.typed.Typed.{Typed as HalfTyped}
 use Rattle.body_half.specs.Half.{HalfPassed}
-use Rattle.typing.specs.declared.findings.TypeError.{TypeError as CodeError}
 use Rattle.typing.specs.Check.{own_fault, Fails, ElementsBody, Noted, Passes}
 use Rattle.typing.proofs.Found.{fails_on, faulted}
 
@@ -67,12 +67,12 @@ no_current_fails r vars = record { faults = []; is = refl; lowest = refl }
 
 -- ---- one operand
 module _ (r : ℕ) (o : Unary) (e : Expression) (vars : Bodies) (cur : Option Body) where
-  pub unary_operand : (f : CodeOption CodeError) → Fails f (check e vars cur) → Fails f (check (unary r o e) vars cur)
+  pub unary_operand : (f : CodeOption ErrorAt) → Fails f (check e vars cur) → Fails f (check (unary r o e) vars cur)
   unfolding check
   unary_operand f h = fails_on f (check e vars cur) _ h
 
   module _ {x l0 l1 : List ℕ} (p : Passes x l0 l1 (check e vars cur)) where
-    pub unary_own : (f : CodeOption CodeError) → Fails f (own_rule r (unary_body o p.typed.body)) → Fails f (check (unary r o e) vars cur)
+    pub unary_own : (f : CodeOption ErrorAt) → Fails f (own_rule r (unary_body o p.typed.body)) → Fails f (check (unary r o e) vars cur)
     unfolding check
     unary_own f h = rw p.is (fails_on f (own_rule r (unary_body o p.typed.body)) _ h)
 
@@ -84,11 +84,11 @@ module _ (r : ℕ) (o : Unary) (e : Expression) (vars : Bodies) (cur : Option Bo
 
 -- ---- two operands
 module _ (r : ℕ) (e f : Expression) (vars : Bodies) (cur : Option Body) where
-  pub binary_operands : (o : Binary) (g : CodeOption CodeError) → Fails g (both (check e vars cur) (check f vars cur)) → Fails g (check (binary r o e f) vars cur)
+  pub binary_operands : (o : Binary) (g : CodeOption ErrorAt) → Fails g (both (check e vars cur) (check f vars cur)) → Fails g (check (binary r o e f) vars cur)
   unfolding check
   binary_operands o g h = fails_on g (both (check e vars cur) (check f vars cur)) _ h
 
-  pub lazy_operands : (k : Connective) (g : CodeOption CodeError) → Fails g (both (check e vars cur) (check f vars cur)) → Fails g (check (lazy r k e f) vars cur)
+  pub lazy_operands : (k : Connective) (g : CodeOption ErrorAt) → Fails g (both (check e vars cur) (check f vars cur)) → Fails g (check (lazy r k e f) vars cur)
   unfolding check
   lazy_operands k g h = fails_on g (both (check e vars cur) (check f vars cur)) _ h
 
@@ -96,7 +96,7 @@ module _ (r : ℕ) (e f : Expression) (vars : Bodies) (cur : Option Body) where
     both_layout : l2 ≡ placed (p.typed.entries ++ q.typed.entries) l0
     both_layout = joined_layout p.typed.entries q.typed.entries l0 l1 l2 p.layout q.layout
 
-    pub binary_own : (o : Binary) (g : CodeOption CodeError) → Fails g (own_rule r (binary_body o p.typed.body q.typed.body)) → Fails g (check (binary r o e f) vars cur)
+    pub binary_own : (o : Binary) (g : CodeOption ErrorAt) → Fails g (own_rule r (binary_body o p.typed.body q.typed.body)) → Fails g (check (binary r o e f) vars cur)
     unfolding check
     binary_own o g h = rw (p.is, q.is) (fails_on g (own_rule r (binary_body o p.typed.body q.typed.body)) _ h)
 
@@ -126,7 +126,7 @@ module _ (r : ℕ) (e f : Expression) (vars : Bodies) (cur : Option Body) where
 
 -- ---- if
 module _ (r : ℕ) (t e f : Expression) (vars : Bodies) (cur : Option Body) where
-  pub choice_operands : (g : CodeOption CodeError) → Fails g (both (check t vars cur) (both (check e vars cur) (check f vars cur))) → Fails g (check (choice r t e f) vars cur)
+  pub choice_operands : (g : CodeOption ErrorAt) → Fails g (both (check t vars cur) (both (check e vars cur) (check f vars cur))) → Fails g (check (choice r t e f) vars cur)
   unfolding check
   choice_operands g h = fails_on g (both (check t vars cur) (both (check e vars cur) (check f vars cur))) _ h
 
@@ -149,7 +149,7 @@ module _ (r : ℕ) (t e f : Expression) (vars : Bodies) (cur : Option Body) wher
 
 -- ---- all_list: the list's elements, the inner yoke on their body if they have one, and both at once
 module _ (r : ℕ) (e : Expression) (vars : Bodies) (cur : Option Body) where
-  pub all_list_operands : (g : CodeOption CodeError) → Fails g (both (check e vars (answer_of (elements_at r cur))) (elements_at r cur)) → Fails g (check (all_list r e) vars cur)
+  pub all_list_operands : (g : CodeOption ErrorAt) → Fails g (both (check e vars (answer_of (elements_at r cur))) (elements_at r cur)) → Fails g (check (all_list r e) vars cur)
   unfolding check
   all_list_operands g h = fails_on g (both (check e vars (answer_of (elements_at r cur))) (elements_at r cur)) _ h
 

@@ -5,6 +5,7 @@ use Rattle.lingua.specs.Numbers.{layout_length, type_section, expression_section
 use Rattle.lingua.specs.Outcome.{ok, fail}
 use Rattle.lingua.specs.Faults.{error_number}
 use Rattle.lingua.specs.declared.errors.Error.{Error}
+use Rattle.lingua.specs.declared.errors.ErrorAt.{ErrorAt}
 use Rattle.lingua.specs.Body.{Body, boolean, size}
 use Rattle.lingua.specs.Expression.{Expression, constant, variable, current, unary, binary, lazy, choice, all_list}
 use Rattle.lingua.specs.Typing.{TypeError, type_error, Typed, Finding, Bodies, lower, lowest_fault, placed}
@@ -12,12 +13,9 @@ use Rattle.lingua.specs.Rows.{table_count, pair_count}
 use Rattle.lingua.specs.Trees.{tabulate, expression_tree, body_or, body_in}
 use Rattle.safety.specs.Accepted.{AcceptedRows}
 use Rattle.rules.specs.Types.{BodiesBelow}
-use Rattle.decoder.specs.Tables.{IsTable, AreTables}
-use Rattle.decoder.specs.declared.tables.Tables.{Tables}
 use Rattle.body.specs.Encode.{Holds}
 use Rattle.body.specs.declared.typed.Typed.{Typed as HalfTyped}
-use Rattle.profile.specs.Variables.{HasScope}
-use Rattle.typing.specs.declared.findings.TypeError.{TypeError as CodeError}
+use Rattle.profile.specs.Variables.{VariablesKnown}
 use Rattle.typing.specs.declared.walk.Scope.{Scope}
 
 -- ---- what is given
@@ -25,18 +23,18 @@ use Rattle.typing.specs.declared.walk.Scope.{Scope}
 unfoldable pub variable_bodies : List ℕ → ℕ → Bodies
 variable_bodies rows s n = get_or (tabulate (pair_count rows s) (λ d. body_or (body_in rows s d))) n boolean
 
--- accepted rows, their tables, and the types' bodies
-pub record Ready (rows : List ℕ) (t : Tables) (bodies : List ℕ) : Type 0 where
+-- accepted rows, and the types' bodies
+pub record Ready (rows bodies : List ℕ) : Type 0 where
   pub accepted : AcceptedRows rows
-  pub tables : AreTables rows t
   pub types : BodiesBelow rows bodies (table_count rows type_section)
 
 -- the same where the rows of one scope are read
-pub record Sees (rows : List ℕ) (s : Scope) (bodies : List ℕ) : Type 0 where
-  pub accepted : AcceptedRows rows
-  pub expressions : IsTable rows expression_section s.expressions
-  pub variables : HasScope rows s.variables
-  pub types : BodiesBelow rows bodies (table_count rows type_section)
+abbrev pub Sees : Scope → Type 0
+Sees s = VariablesKnown s.rows.now s.variables s.bodies.now
+
+-- the declared bodies of its variables
+abbrev pub declared_bodies : Scope → Bodies
+declared_bodies s = variable_bodies s.rows.now s.variables.section
 
 -- every variable that an expression reads is one of the first m
 unfoldable pub ReadsBelow : ℕ → Expression → Type 0
@@ -50,8 +48,8 @@ ReadsBelow m (choice r p e f) = ReadsBelow m p × ReadsBelow m e × ReadsBelow m
 ReadsBelow m (all_list r e) = ReadsBelow m e
 
 -- the variables that an expression row reads are the scope's
-unfoldable pub Readable : List ℕ → Scope → ℕ → Type 0
-Readable rows s row = ReadsBelow (pair_count rows s.variables.section) (expression_tree rows row)
+unfoldable pub Readable : Scope → ℕ → Type 0
+Readable s row = ReadsBelow (pair_count s.rows.now s.variables.section) (expression_tree s.rows.now row)
 
 -- the current value's body, if it has one
 abbrev pub HoldsIf : CodeOption (List ℕ) → Option Body → Type 0
@@ -65,47 +63,47 @@ pub record HeldIf (x : CodeOption (List ℕ)) : Type 0 where
   pub holds : HoldsIf x body
 
 -- what the check of an expression row asks
-pub record Asked (row : ℕ) (rows : List ℕ) (s : Scope) (bodies : List ℕ) (current : CodeOption (List ℕ)) (layout : List ℕ) : Type 0 where
-  pub sees : Sees rows s bodies
-  pub here : row < table_count rows expression_section
-  pub reads : Readable rows s row
+pub record Asked (row : ℕ) (s : Scope) (current : CodeOption (List ℕ)) (layout : List ℕ) : Type 0 where
+  pub sees : Sees s
+  pub here : row < table_count s.rows.now expression_section
+  pub reads : Readable s row
   pub held : HeldIf current
   pub room : length layout ≡ layout_length
 
 -- what is known of a row's operand
-pub record Operand (rows : List ℕ) (s : Scope) (row a : ℕ) : Type 0 where
+pub record Operand (s : Scope) (row a : ℕ) : Type 0 where
   pub below : a < row
-  pub reads : Readable rows s a
+  pub reads : Readable s a
 
 -- ---- what it gives
 -- a type error of the code, as the definitions have it
-abbrev pub error_meaning : CodeError → TypeError
+abbrev pub error_meaning : ErrorAt → TypeError
 error_meaning e = type_error (error_number e.error) e.place
 
-abbrev pub fault_meaning : CodeOption CodeError → Option TypeError
+abbrev pub fault_meaning : CodeOption ErrorAt → Option TypeError
 fault_meaning (Some e) = some (error_meaning e)
 fault_meaning None = none
 
 -- a row's own fault, and its rule
-abbrev pub own_fault : Error → ℕ → CodeOption CodeError
+abbrev pub own_fault : Error → ℕ → CodeOption ErrorAt
 own_fault e r = Some (record { error = e; place = r })
 
-abbrev pub own_found : CodeResult HalfTyped Error → ℕ → CodeResult HalfTyped (CodeOption CodeError)
+abbrev pub own_found : CodeResult HalfTyped Error → ℕ → CodeResult HalfTyped (CodeOption ErrorAt)
 own_found (Ok h) r = Ok h
 own_found (Err e) r = Err (own_fault e r)
 
 -- no answer, and the lowest fault if there is any
-pub record Fails {A : Type 0} (f : CodeOption CodeError) (o : Finding A) : Type 0 where
+pub record Fails {A : Type 0} (f : CodeOption ErrorAt) (o : Finding A) : Type 0 where
   pub faults : List TypeError
   pub is : o ≡ fail faults
   pub lowest : fault_meaning f ≡ lowest_fault faults
 
 -- two at once: both, or the lower of their faults
-abbrev pub lowest_of : {A : Type 0} → CodeResult A (CodeOption CodeError) → Option TypeError
+abbrev pub lowest_of : {A : Type 0} → CodeResult A (CodeOption ErrorAt) → Option TypeError
 lowest_of (Ok a) = none
 lowest_of (Err f) = fault_meaning f
 
-abbrev pub Together : {A B : Type 0} → CodeResult (A × B) (CodeOption CodeError) → CodeResult A (CodeOption CodeError) → CodeResult B (CodeOption CodeError) → Type 0
+abbrev pub Together : {A B : Type 0} → CodeResult (A × B) (CodeOption ErrorAt) → CodeResult A (CodeOption ErrorAt) → CodeResult B (CodeOption ErrorAt) → Type 0
 Together (Ok c) x y = (x ≡ Ok c.0) × (y ≡ Ok c.1)
 Together (Err f) x y = ((is_ok x && is_ok y) ≡ false) × (fault_meaning f ≡ lower (lowest_of x) (lowest_of y))
 
@@ -115,7 +113,7 @@ pub record ElementsBody (x : List ℕ) (o : Finding Body) : Type 0 where
   pub is : o ≡ ok element
   pub holds : Holds x element
 
-abbrev pub Elements : CodeResult (List ℕ) (CodeOption CodeError) → Finding Body → Type 0
+abbrev pub Elements : CodeResult (List ℕ) (CodeOption ErrorAt) → Finding Body → Type 0
 Elements (Ok x) o = ElementsBody x o
 Elements (Err f) o = Fails f o
 
@@ -131,6 +129,6 @@ pub record Passes (x entry exit : List ℕ) (o : Finding Typed) : Type 0 where
   pub layout : exit ≡ placed typed.entries entry
 
 -- the code's answer is the definition's; what the layout table holds where there is no body is not said
-abbrev pub Gives : CodeResult (List ℕ) (CodeOption CodeError) → List ℕ → List ℕ → Finding Typed → Type 0
+abbrev pub Gives : CodeResult (List ℕ) (CodeOption ErrorAt) → List ℕ → List ℕ → Finding Typed → Type 0
 Gives (Ok x) entry exit o = Passes x entry exit o
 Gives (Err f) entry exit o = Fails f o

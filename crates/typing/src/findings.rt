@@ -7,19 +7,12 @@ ghost use Rattle.typing.specs.Check.{HeldIf, HoldsIf, fault_meaning, own_fault, 
 
 use body::typed::Typed;
 use body_half::operation::unary_half;
-use lingua::errors::Error;
+use lingua::errors::{Error, ErrorAt};
 use lingua::operations::UnaryOperation;
 use lingua::sizes::BODY_BYTES;
 
-// What is wrong at a place (document 01: fault).
-#[derive(Clone, Copy)]
-pub struct TypeError {
-    pub error: Error,
-    pub place: u16,
-}
-
 // What a row has, or the lowest fault among its rows. A row can have neither: where it hangs on a current value that has no body.
-pub type Found<T> = Result<T, Option<TypeError>>;
+pub type Found<T> = Result<T, Option<ErrorAt>>;
 
 // A row's own rule: its answer, or the row's fault.
 pub fn own_rule(half: Result<Typed, Error>, row: usize) -> Found<Typed>
@@ -30,18 +23,18 @@ pub fn own_rule(half: Result<Typed, Error>, row: usize) -> Found<Typed>
 }
 
 // A row that breaks a rule is at fault.
-pub fn fault(error: Error, row: usize) -> Option<TypeError>
+pub fn fault(error: Error, row: usize) -> Option<ErrorAt>
     requires { row < 65536 }
     ensures { result ≡ own_fault error row }
 {
-    Some(TypeError {
+    Some(ErrorAt {
         error: error,
         place: row as u16,
     })
 }
 
 // Of two faults the one at the lower place.
-fn lower(x: Option<TypeError>, y: Option<TypeError>) -> Option<TypeError>
+fn lower(x: Option<ErrorAt>, y: Option<ErrorAt>) -> Option<ErrorAt>
     ensures { fault_meaning result ≡ lower (fault_meaning x) (fault_meaning y) }
 {
     match (x, y) {

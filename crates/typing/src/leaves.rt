@@ -11,12 +11,13 @@ ghost use Rattle.typing.specs.Check.{HeldIf, HoldsIf, Noted, Gives, variable_bod
 
 use crate::findings::Found;
 use body::walk::measure_body;
+use decoder::rows::Rows;
 use decoder::tables::Table;
 use lingua::sizes::BODY_BYTES;
 use profile::declarations::declared_body;
 
 // The declared body of a variable of a scope, whose table is given.
-pub fn variable_body(rows: &[u8], t: Table, bodies: &[u8], n: usize) -> [u8; BODY_BYTES]
+pub fn variable_body(rows: &Rows, t: Table, bodies: &[u8], n: usize) -> [u8; BODY_BYTES]
     requires variables_known { VariablesKnown rows.now t bodies.now }
     requires n_bound { n < pair_count rows.now t.section }
     ensures { Holds result (variable_bodies rows.now t.section n) }

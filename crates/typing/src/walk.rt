@@ -6,7 +6,7 @@ ghost use Rattle.lingua.specs.Expression.{Connective, unary, binary, lazy, choic
 ghost use Rattle.lingua.specs.Operations.{unary_meaning, binary_meaning};
 ghost use Rattle.lingua.specs.Typing.{check};
 ghost use Rattle.lingua.specs.Trees.{expression_tree};
-ghost use Rattle.typing.specs.Check.{Asked, Operand, HoldsIf, Gives, variable_bodies};
+ghost use Rattle.typing.specs.Check.{Asked, Operand, HoldsIf, Gives, declared_bodies};
 
 use crate::findings::{Found, elements, fault, own_rule, together};
 use crate::leaves::{note_current, note_row, variable_body};
@@ -15,6 +15,7 @@ use body::walk::measure_body;
 use body_half::operation::{binary_half, unary_half};
 use body_half::unary::is_boolean;
 use decoder::decode::ExpressionRow as Row;
+use decoder::rows::Rows;
 use decoder::tables::Table;
 use lingua::errors::Error;
 use lingua::operations::{BinaryOperation, UnaryOperation};
@@ -22,45 +23,44 @@ use lingua::sizes::BODY_BYTES;
 use profile::constants::constant_body;
 use profile::row::expression_row;
 
-// The tables that are read: the expressions', and that of the variables which they name.
+// What the check of a row reads: the rows, the table of the variables that they name, and the bodies of the type rows.
 #[derive(Clone, Copy)]
-pub struct Scope {
-    pub expressions: Table,
+pub struct Scope<'a> {
+    pub rows: &'a Rows<'a>,
     pub variables: Table,
+    pub bodies: &'a [u8],
 }
 
 // What is found of an expression row. The current value has the body `current`, or none.
 #[cycle(all_list_binary_check_choice_lazy_unary)]
 pub fn check(
     row: usize,
-    rows: &[u8],
-    scope: Scope,
-    bodies: &[u8],
+    scope: &Scope,
     current: Option<[u8; BODY_BYTES]>,
     layout: &mut [u16],
 ) -> Found<[u8; BODY_BYTES]>
-    requires { Asked row rows.now scope bodies.now current layout.old }
-    ensures { (b : Option Body) → HoldsIf current b → Gives result layout.old layout.new (check (expression_tree rows.now row) (variable_bodies rows.now scope.variables.section) b) }
+    requires { Asked row scope.now current layout.old }
+    ensures { (b : Option Body) → HoldsIf current b → Gives result layout.old layout.new (check (expression_tree scope.now.rows.now row) (declared_bodies scope.now) b) }
 {
-    let table = scope.expressions;
-    let e = expression_row(rows, table, row);
+    let rows = scope.rows;
+    let e = expression_row(rows, row);
     match e {
         Row::Constant(_) => {
-            let body = constant_body(rows, table, row);
+            let body = constant_body(rows, row);
             note_row(row, body, 0, layout);
             Ok(body)
         }
         Row::Variable(n) => {
-            let body = variable_body(rows, scope.variables, bodies, n);
+            let body = variable_body(rows, scope.variables, scope.bodies, n);
             note_row(row, body, 0, layout);
             Ok(body)
         }
         Row::Current => note_current(row, current, layout),
-        Row::Unary(o, a) => unary(row, rows, scope, bodies, o, a, current, layout),
-        Row::Binary(o, a, b) => binary(row, rows, scope, bodies, o, a, b, current, layout),
-        Row::Lazy(_, a, b) => lazy(row, rows, scope, bodies, a, b, current, layout),
-        Row::Choice(a, b, c) => choice(row, rows, scope, bodies, a, b, c, current, layout),
-        Row::AllList(a) => all_list(row, rows, scope, bodies, a, current, layout),
+        Row::Unary(o, a) => unary(row, scope, o, a, current, layout),
+        Row::Binary(o, a, b) => binary(row, scope, o, a, b, current, layout),
+        Row::Lazy(_, a, b) => lazy(row, scope, a, b, current, layout),
+        Row::Choice(a, b, c) => choice(row, scope, a, b, c, current, layout),
+        Row::AllList(a) => all_list(row, scope, a, current, layout),
     }
 }
 
@@ -68,19 +68,17 @@ pub fn check(
 #[cycle(all_list_binary_check_choice_lazy_unary)]
 fn unary(
     row: usize,
-    rows: &[u8],
-    scope: Scope,
-    bodies: &[u8],
+    scope: &Scope,
     o: UnaryOperation,
     a: usize,
     current: Option<[u8; BODY_BYTES]>,
     layout: &mut [u16],
 ) -> Found<[u8; BODY_BYTES]>
-    requires asked { Asked row rows.now scope bodies.now current layout.old }
-    requires operand { Operand rows.now scope row a }
-    ensures { (b : Option Body) → HoldsIf current b → Gives result layout.old layout.new (check (unary row (unary_meaning o) (expression_tree rows.now a)) (variable_bodies rows.now scope.variables.section) b) }
+    requires asked { Asked row scope.now current layout.old }
+    requires operand { Operand scope.now row a }
+    ensures { (b : Option Body) → HoldsIf current b → Gives result layout.old layout.new (check (unary row (unary_meaning o) (expression_tree scope.now.rows.now a)) (declared_bodies scope.now) b) }
 {
-    let x = check(a, rows, scope, bodies, current, layout)?;
+    let x = check(a, scope, current, layout)?;
     let h = own_rule(unary_half(o, x), row)?;
     note_row(row, h.body, h.offset, layout);
     Ok(h.body)
@@ -90,21 +88,19 @@ fn unary(
 #[cycle(all_list_binary_check_choice_lazy_unary)]
 fn binary(
     row: usize,
-    rows: &[u8],
-    scope: Scope,
-    bodies: &[u8],
+    scope: &Scope,
     o: BinaryOperation,
     a: usize,
     b: usize,
     current: Option<[u8; BODY_BYTES]>,
     layout: &mut [u16],
 ) -> Found<[u8; BODY_BYTES]>
-    requires asked { Asked row rows.now scope bodies.now current layout.old }
-    requires operand { Operand rows.now scope row a × Operand rows.now scope row b }
-    ensures { (d : Option Body) → HoldsIf current d → Gives result layout.old layout.new (check (binary row (binary_meaning o) (expression_tree rows.now a) (expression_tree rows.now b)) (variable_bodies rows.now scope.variables.section) d) }
+    requires asked { Asked row scope.now current layout.old }
+    requires operand { Operand scope.now row a × Operand scope.now row b }
+    ensures { (d : Option Body) → HoldsIf current d → Gives result layout.old layout.new (check (binary row (binary_meaning o) (expression_tree scope.now.rows.now a) (expression_tree scope.now.rows.now b)) (declared_bodies scope.now) d) }
 {
-    let x = check(a, rows, scope, bodies, current, layout);
-    let y = check(b, rows, scope, bodies, current, layout);
+    let x = check(a, scope, current, layout);
+    let y = check(b, scope, current, layout);
     let (left, right) = together(x, y)?;
     let h = own_rule(binary_half(o, left, right), row)?;
     note_row(row, h.body, h.offset, layout);
@@ -115,20 +111,18 @@ fn binary(
 #[cycle(all_list_binary_check_choice_lazy_unary)]
 fn lazy(
     row: usize,
-    rows: &[u8],
-    scope: Scope,
-    bodies: &[u8],
+    scope: &Scope,
     a: usize,
     b: usize,
     current: Option<[u8; BODY_BYTES]>,
     layout: &mut [u16],
 ) -> Found<[u8; BODY_BYTES]>
-    requires asked { Asked row rows.now scope bodies.now current layout.old }
-    requires operand { Operand rows.now scope row a × Operand rows.now scope row b }
-    ensures { (k : Connective) (d : Option Body) → HoldsIf current d → Gives result layout.old layout.new (check (lazy row k (expression_tree rows.now a) (expression_tree rows.now b)) (variable_bodies rows.now scope.variables.section) d) }
+    requires asked { Asked row scope.now current layout.old }
+    requires operand { Operand scope.now row a × Operand scope.now row b }
+    ensures { (k : Connective) (d : Option Body) → HoldsIf current d → Gives result layout.old layout.new (check (lazy row k (expression_tree scope.now.rows.now a) (expression_tree scope.now.rows.now b)) (declared_bodies scope.now) d) }
 {
-    let x = check(a, rows, scope, bodies, current, layout);
-    let y = check(b, rows, scope, bodies, current, layout);
+    let x = check(a, scope, current, layout);
+    let y = check(b, scope, current, layout);
     let (one, other) = together(x, y)?;
     if !is_boolean(one) {
         return Err(fault(Error::BooleanExpected, row));
@@ -144,22 +138,20 @@ fn lazy(
 #[cycle(all_list_binary_check_choice_lazy_unary)]
 fn choice(
     row: usize,
-    rows: &[u8],
-    scope: Scope,
-    bodies: &[u8],
+    scope: &Scope,
     a: usize,
     b: usize,
     c: usize,
     current: Option<[u8; BODY_BYTES]>,
     layout: &mut [u16],
 ) -> Found<[u8; BODY_BYTES]>
-    requires asked { Asked row rows.now scope bodies.now current layout.old }
-    requires operand { Operand rows.now scope row a × (Operand rows.now scope row b × Operand rows.now scope row c) }
-    ensures { (d : Option Body) → HoldsIf current d → Gives result layout.old layout.new (check (choice row (expression_tree rows.now a) (expression_tree rows.now b) (expression_tree rows.now c)) (variable_bodies rows.now scope.variables.section) d) }
+    requires asked { Asked row scope.now current layout.old }
+    requires operand { Operand scope.now row a × (Operand scope.now row b × Operand scope.now row c) }
+    ensures { (d : Option Body) → HoldsIf current d → Gives result layout.old layout.new (check (choice row (expression_tree scope.now.rows.now a) (expression_tree scope.now.rows.now b) (expression_tree scope.now.rows.now c)) (declared_bodies scope.now) d) }
 {
-    let t = check(a, rows, scope, bodies, current, layout);
-    let yes = check(b, rows, scope, bodies, current, layout);
-    let no = check(c, rows, scope, bodies, current, layout);
+    let t = check(a, scope, current, layout);
+    let yes = check(b, scope, current, layout);
+    let no = check(c, scope, current, layout);
     let (test, (chosen, other)) = together(t, together(yes, no))?;
     if !is_boolean(test) {
         return Err(fault(Error::BooleanExpected, row));
@@ -176,19 +168,17 @@ fn choice(
 #[cycle(all_list_binary_check_choice_lazy_unary)]
 fn all_list(
     row: usize,
-    rows: &[u8],
-    scope: Scope,
-    bodies: &[u8],
+    scope: &Scope,
     a: usize,
     current: Option<[u8; BODY_BYTES]>,
     layout: &mut [u16],
 ) -> Found<[u8; BODY_BYTES]>
-    requires asked { Asked row rows.now scope bodies.now current layout.old }
-    requires operand { Operand rows.now scope row a }
-    ensures { (b : Option Body) → HoldsIf current b → Gives result layout.old layout.new (check (all_list row (expression_tree rows.now a)) (variable_bodies rows.now scope.variables.section) b) }
+    requires asked { Asked row scope.now current layout.old }
+    requires operand { Operand scope.now row a }
+    ensures { (b : Option Body) → HoldsIf current b → Gives result layout.old layout.new (check (all_list row (expression_tree scope.now.rows.now a)) (declared_bodies scope.now) b) }
 {
     let list = elements(row, current);
-    let x = check(a, rows, scope, bodies, list.ok(), layout);
+    let x = check(a, scope, list.ok(), layout);
     let (inner, element) = together(x, list)?;
     if !is_boolean(inner) {
         return Err(fault(Error::YokeExpected, row));

@@ -14,61 +14,51 @@ use Rattle.profile.specs.Facts.{RowFacts, row_tree}
 use Rattle.profile.specs.Known.{row_known}
 use Rattle.checked_row.proofs.Giving.{gives_error, gives_as}
 use Rattle.profile.specs.Facts.{says_as}
-use Rattle.cells.proofs.Walking.{counted_elements, turn_room, element_at}
+use Rattle.cells.proofs.Walking.{counted_elements, element_at}
 use Rattle.checked_row.proofs.Stacking.{first_stays, second_lies}
 use Rattle.checked_row.proofs.Seeing.{sees_none}
-use Rattle.checked.proofs.Walking.{no_list, current_list, element_held, list_cell, list_walks, element_current, sees_more, sees_all, all_is}
+use Rattle.checked.proofs.Walking.{no_list, current_list, element_held, list_cell, list_walks, list_turn, element_current, sees_more, sees_all, all_is}
 use Rattle.checked_row.proofs.Simple.{quick_simple, quick_failed}
-use Rattle.checked_row.proofs.Cycle.{in_table, facts, few_named, by_row, lazy_error, lazy_settled, lazy_second_error, lazy_second_told, choice_error, choice_told}
+use Rattle.checked_row.proofs.Cycle.{facts, few_named, by_row, lazy_error, lazy_settled, lazy_second_error, lazy_second_told, choice_error, choice_told}
 use Prim.Native.Nat.{◌<◌}
 use Rattle.checked.proofs.eval.+all_choice_eval_lazy.Goals as goal
 
-pub all-returns-then-body-ne-LIST : goal.all-returns-then-body-ne-LIST
-all-returns-then-body-ne-LIST t c = λ vs x w h. gives_error _ (no_list c.args.row _ (contents vs) h c.if-body-ne-LIST.true)
+pub all-returns-then-current-ne-LIST : goal.all-returns-then-current-ne-LIST
+all-returns-then-current-ne-LIST t c = λ vs x w h. gives_error _ (no_list c.args.row _ (contents vs) h c.if-current-ne-LIST.true)
 
 pub all-measure_body-m-requires : goal.all-measure_body-m-requires
-all-measure_body-m-requires t c = element_held c.requires.asked.ready.has c.if-body-ne-LIST.false c.element-inner.ensures
+all-measure_body-m-requires t c = element_held c.requires.asked.ready.has c.if-current-ne-LIST.false c.element-inner.ensures
 
-pub all-bounds-current-0 : goal.all-bounds-current-0
-all-bounds-current-0 t c = list_cell c.requires.asked.ready.has c.if-body-ne-LIST.false c.element-inner.ensures
+pub all-bounds-current-0-2 : goal.all-bounds-current-0-2
+all-bounds-current-0-2 t c = list_cell c.requires.asked.ready.has c.if-current-ne-LIST.false c.element-inner.ensures
 
 pub all-overflow_cast-n : goal.all-overflow_cast-n
 all-overflow_cast-n t c =
-    let k = list_walks c.requires.asked.ready.has c.if-body-ne-LIST.false c.element-inner.ensures c.measure_body-m.result.cells (λ b h. (c.measure_body-m.ensures b h).is_cells) in
+    let k = list_walks c.requires.asked.ready.has c.if-current-ne-LIST.false c.element-inner.ensures c.measure_body-m.result.cells (λ b h. (c.measure_body-m.ensures b h).is_cells) in
     rw k.positive (tt, omega (arith, k.few))
 
 pub all-loop-i-init : goal.all-loop-i-init
 all-loop-i-init t c = λ vs b x w h l. sees_none
 
 pub all-overflow_mul-at : goal.all-overflow_mul-at
-all-overflow_mul-at t c =
-    let k = list_walks c.requires.asked.ready.has c.if-body-ne-LIST.false c.element-inner.ensures c.measure_body-m.result.cells (λ b h. (c.measure_body-m.ensures b h).is_cells) in
-    omega (arith, turn_room c.loop-i.i _ _ c.measure_body-m.result.cells refl c.loop-i-test.true k.few, k.room)
+all-overflow_mul-at t c = omega (arith, (list_turn c.requires.asked.ready.has c.if-current-ne-LIST.false c.element-inner.ensures _ (λ b h. (c.measure_body-m.ensures b h).is_cells) _ c.loop-i-test.true).0)
 
 pub all-overflow_add-at : goal.all-overflow_add-at
-all-overflow_add-at t c =
-    let k = list_walks c.requires.asked.ready.has c.if-body-ne-LIST.false c.element-inner.ensures c.measure_body-m.result.cells (λ b h. (c.measure_body-m.ensures b h).is_cells) in
-    omega (arith, turn_room c.loop-i.i _ _ c.measure_body-m.result.cells refl c.loop-i-test.true k.few, k.room)
+all-overflow_add-at t c = omega (arith, (list_turn c.requires.asked.ready.has c.if-current-ne-LIST.false c.element-inner.ensures _ (λ b h. (c.measure_body-m.ensures b h).is_cells) _ c.loop-i-test.true).0)
 
-pub all-overflow_add-at-in-loop-i : goal.all-overflow_add-at-in-loop-i
-all-overflow_add-at-in-loop-i t c =
-    let k = list_walks c.requires.asked.ready.has c.if-body-ne-LIST.false c.element-inner.ensures c.measure_body-m.result.cells (λ b h. (c.measure_body-m.ensures b h).is_cells) in
-    omega (arith, turn_room c.loop-i.i _ _ c.measure_body-m.result.cells refl c.loop-i-test.true k.few, k.room)
+pub all-overflow_add-part : goal.all-overflow_add-part
+all-overflow_add-part t c = omega (arith, (list_turn c.requires.asked.ready.has c.if-current-ne-LIST.false c.element-inner.ensures _ (λ b h. (c.measure_body-m.ensures b h).is_cells) _ c.loop-i-test.true).0)
 
 pub all-offset_bounds-current-at : goal.all-offset_bounds-current-at
-all-offset_bounds-current-at t c =
-    let k = list_walks c.requires.asked.ready.has c.if-body-ne-LIST.false c.element-inner.ensures c.measure_body-m.result.cells (λ b h. (c.measure_body-m.ensures b h).is_cells) in
-    omega (arith, turn_room c.loop-i.i _ _ c.measure_body-m.result.cells refl c.loop-i-test.true k.few, k.room)
+all-offset_bounds-current-at t c = omega (arith, (list_turn c.requires.asked.ready.has c.if-current-ne-LIST.false c.element-inner.ensures _ (λ b h. (c.measure_body-m.ensures b h).is_cells) _ c.loop-i-test.true).0)
 
-pub all-slice_bounds-eval-end : goal.all-slice_bounds-eval-end
-all-slice_bounds-eval-end t c =
-    let k = list_walks c.requires.asked.ready.has c.if-body-ne-LIST.false c.element-inner.ensures c.measure_body-m.result.cells (λ b h. (c.measure_body-m.ensures b h).is_cells) in
-    omega (arith, turn_room c.loop-i.i _ _ c.measure_body-m.result.cells refl c.loop-i-test.true k.few, k.long)
+pub all-slice_bounds-part-end : goal.all-slice_bounds-part-end
+all-slice_bounds-part-end t c = (list_turn c.requires.asked.ready.has c.if-current-ne-LIST.false c.element-inner.ensures _ (λ b h. (c.measure_body-m.ensures b h).is_cells) _ c.loop-i-test.true).1
 
 pub all-eval-x-requires : goal.all-eval-x-requires
 all-eval-x-requires t c =
     let r = c.requires.asked.ready in
-    let l = current_list r.has.is c.if-body-ne-LIST.false in
+    let l = current_list r.has.is c.if-current-ne-LIST.false in
     let held = c.element-inner.ensures l.element l.holds in
     let more : c.loop-i.i < count_values (as_items r.has.value.value) = omega (arith, c.loop-i-test.true, counted_elements l.lies) in (
       omega (arith, c.decreases, c.requires.a_lt_row),
@@ -86,7 +76,7 @@ all-loop-i-preserved t c = λ vs b x w h l.
 
 pub all-returns : goal.all-returns
 all-returns t c = λ vs x w h.
-    let l = current_list h c.if-body-ne-LIST.false in
+    let l = current_list h c.if-current-ne-LIST.false in
     let held = c.element-inner.ensures l.element l.holds in
     gives_as (all_is c.args.row _ (contents vs) l) (c.concluded.ensures _ (sees_all _ x.value c.loop-i.i (omega (arith, c.loop-i-test.false, c.loop-i.auto.i-end, counted_elements l.lies)) (c.loop-i.invariant vs l.element x.value w held l.lies)))
 
@@ -104,7 +94,7 @@ choice-returns t c = λ vs x w h.
     gives_as (choice_told c.args.row _ (expression_tree c.args.rows.now c.args.a) (expression_tree c.args.rows.now c.args.b) (contents vs) x false told) (c.eval-2.ensures vs x w h)
 
 pub eval-expression_row-says-requires-clause-known_expression : goal.eval-expression_row-says-requires-clause-known_expression
-eval-expression_row-says-requires-clause-known_expression t c = let w = c.requires.ready.world in row_known _ w.accepted _ (in_table w c.requires.here)
+eval-expression_row-says-requires-clause-known_expression t c = row_known _ c.requires.ready.world.accepted _ c.requires.here
 
 pub eval-constant-requires-clause-constant_row : goal.eval-constant-requires-clause-constant_row
 unfolding RowFacts

@@ -7,7 +7,7 @@ use Rattle.checked.proofs.yoke.eval_plain.Goals as goal
 pub eval-requires : goal.eval-requires
 eval-requires c =
     let r = c.requires.has_world in
-    record { ready = record { store = r.store; world = r.world; has = record { value = no_current; is = none_current _ c.simple-body.ensures } }; here = c.requires.row_lt_count; room = omega (arith, c.requires.row_in_bounds) }
+    record { ready = record { store = r.store; world = r.world; has = record { value = no_current; is = none_current _ c.simple.ensures } }; here = c.requires.row_lt_count; room = omega (arith, c.requires.row_in_bounds) }
 
 pub returns : goal.returns
-returns c = λ vs w. c.eval.ensures vs no_current w (none_current _ c.simple-body.ensures)
+returns c = λ vs w. c.eval.ensures vs no_current w (none_current _ c.simple.ensures)

@@ -1,6 +1,5 @@
 -- `copied` meets its contract, by `gives_current`. Assumes nothing.
 use mathlib.Core.Path.{refl}
-use native.Mathlib.Omega.{arith}
 use Rattle.checked_row.proofs.Storing.{current_room, gives_current}
 use Rattle.checked_row.proofs.leaves.copied.Goals as goal
 
@@ -9,12 +8,6 @@ copy-requires-clause-n_in_bounds c =
     let h = c.requires.has_current.is in
     let r = current_room c.measure_body-m.result.cells h (c.measure_body-m.ensures _ h.holds).is_cells in
     r.0
-
-pub copy-requires-clause-n_in_bounds_2 : goal.copy-requires-clause-n_in_bounds_2
-copy-requires-clause-n_in_bounds_2 c =
-    let h = c.requires.has_current.is in
-    let r = current_room c.measure_body-m.result.cells h (c.measure_body-m.ensures _ h.holds).is_cells in
-    (omega (arith, r.1, c.requires.body_cells_in_bounds))
 
 pub returns : goal.returns
 returns c = λ x h. gives_current c.args.stack.now _ _ _ h (c.measure_body-m.ensures _ h.holds).is_cells c.copy.ensures refl refl

@@ -12,8 +12,8 @@ is_filled-requires c = let h = c.requires.has_stored in flag_there h.stored _ h.
 pub returns-then-not-is_filled : goal.returns-then-not-is_filled
 returns-then-not-is_filled c = λ vs h. gives_error _ (not_filled_is h _ (sym c.is_filled.ensures ∙ c.if-not-is_filled.true))
 
-pub present-body-requires : goal.present-body-requires
-present-body-requires c =
+pub taken-body-requires : goal.taken-body-requires
+taken-body-requires c =
     let h = c.requires.has_stored in
     body_room h.stored _ (filled_there h.stored _ (sym c.is_filled.ensures ∙ c.if-not-is_filled.false))
 
@@ -21,16 +21,13 @@ pub measure_body-m-requires : goal.measure_body-m-requires
 measure_body-m-requires c =
     let h = c.requires.has_stored in
     let lt = filled_there h.stored _ (sym c.is_filled.ensures ∙ c.if-not-is_filled.false) in
-    record { body = _; holds = present_held h.stored _ lt _ c.present-body.ensures }
-
-pub overflow_mul-n : goal.overflow_mul-n
-overflow_mul-n c = omega (arith, c.requires.has_stored.there)
+    record { body = _; holds = present_held h.stored _ lt _ c.taken-body.ensures }
 
 pub copy-requires-clause-n_in_bounds : goal.copy-requires-clause-n_in_bounds
 copy-requires-clause-n_in_bounds c =
     let h = c.requires.has_stored in
     let lt = filled_there h.stored _ (sym c.is_filled.ensures ∙ c.if-not-is_filled.false) in
-    let b = present_held h.stored _ lt _ c.present-body.ensures in
+    let b = present_held h.stored _ lt _ c.taken-body.ensures in
     let m = (c.measure_body-m.ensures _ b).is_cells in
     (omega (arith, cells_room (memory_of h.stored) _ lt, m, b.few_cells))
 
@@ -38,7 +35,7 @@ pub copy-requires-clause-n_in_bounds_2 : goal.copy-requires-clause-n_in_bounds_2
 copy-requires-clause-n_in_bounds_2 c =
     let h = c.requires.has_stored in
     let lt = filled_there h.stored _ (sym c.is_filled.ensures ∙ c.if-not-is_filled.false) in
-    let b = present_held h.stored _ lt _ c.present-body.ensures in
+    let b = present_held h.stored _ lt _ c.taken-body.ensures in
     let m = (c.measure_body-m.ensures _ b).is_cells in
     (omega (arith, m, b.few_cells, c.requires.body_cells_in_bounds))
 
@@ -46,4 +43,4 @@ pub returns : goal.returns
 returns c = λ vs h.
     let g = sym c.is_filled.ensures ∙ c.if-not-is_filled.false in
     let l = filled_there h _ g in
-    gives_variable h _ l c.args.stack.now _ _ _ _ g c.present-body.ensures (c.measure_body-m.ensures _ (present_held h _ l _ c.present-body.ensures)).is_cells c.copy.ensures refl refl
+    gives_variable h _ l c.args.stack.now _ _ _ _ g c.taken-body.ensures (c.measure_body-m.ensures _ (present_held h _ l _ c.taken-body.ensures)).is_cells c.copy.ensures refl refl

@@ -12,15 +12,15 @@ returns-in_err-y c = λ p q h k. rw (passed _ _ c.from_residual-in_err-y.ensures
 
 pub binary-requires-clause-has_operands : goal.binary-requires-clause-has_operands
 unfolding simple_typed
-binary-requires-clause-has_operands c = binary_has (binary_meaning c.args.o) c.in_ok-x.x c.in_ok-y.y (simple_typed c.in-Some.tag) c.args.stack.now c.in-Some.ensures (c.requires.given.gives.answer _ c.in_ok-x.was) (c.requires.given_2.gives.answer _ c.in_ok-y.was)
+binary-requires-clause-has_operands c = binary_has c.in-Some.ensures (c.requires.given.gives.answer _ c.in_ok-x.was) (c.requires.given_2.gives.answer _ c.in_ok-y.was)
 
 pub returns-in_err-binary : goal.returns-in_err-binary
 unfolding simple_typed
-returns-in_err-binary c = λ p q h k. rw (passed _ _ c.from_residual-in_err-binary.ensures.1) (gives_error _ (binary_no_value (binary_meaning c.args.o) c.in_ok-x.x c.in_ok-y.y (simple_typed c.in-Some.tag) c.args.stack.now c.in-Some.ensures _ _ c.in_err-binary.ensures _ refl (h.answer _ c.in_ok-x.was) (k.answer _ c.in_ok-y.was)))
+returns-in_err-binary c = λ p q h k. rw (passed _ _ c.from_residual-in_err-binary.ensures.1) (gives_error _ (binary_no_value c.in-Some.ensures c.in_err-binary.ensures _ refl (h.answer _ c.in_ok-x.was) (k.answer _ c.in_ok-y.was)))
 
 pub returns-in-Some : goal.returns-in-Some
 unfolding simple_typed
-returns-in-Some c = λ p q h k. rw c.simple_value.ensures (binary_value_lem (binary_meaning c.args.o) c.in_ok-x.x c.in_ok-y.y (simple_typed c.in-Some.tag) c.args.stack.now c.in-Some.ensures 0 _ c.in_ok-binary.ensures refl (h.answer _ c.in_ok-x.was) (k.answer _ c.in_ok-y.was))
+returns-in-Some c = λ p q h k. rw c.simple_value.ensures (binary_value_lem c.in-Some.ensures c.in_ok-binary.ensures refl (h.answer _ c.in_ok-x.was) (k.answer _ c.in_ok-y.was))
 
 pub binary_half-requires-clause-held : goal.binary_half-requires-clause-held
 binary_half-requires-clause-held c = given_held (c.requires.given.gives.answer _ c.in_ok-x.was)
@@ -32,10 +32,10 @@ pub returns-in_err-half : goal.returns-in_err-half
 returns-in_err-half c = λ p q h k. rw (passed _ _ c.from_residual-in_err-half.ensures.1) (gives_error _ (binary_no_body (binary_meaning c.args.o) _ c.in_err-half.ensures (h.answer _ c.in_ok-x.was) (k.answer _ c.in_ok-y.was)))
 
 pub binary-requires-2-clause-has_operands : goal.binary-requires-2-clause-has_operands
-binary-requires-2-clause-has_operands c = binary_has (binary_meaning c.args.o) c.in_ok-x.x c.in_ok-y.y c.in_ok-half.half c.args.stack.now c.in_ok-half.ensures (c.requires.given.gives.answer _ c.in_ok-x.was) (c.requires.given_2.gives.answer _ c.in_ok-y.was)
+binary-requires-2-clause-has_operands c = binary_has c.in_ok-half.ensures (c.requires.given.gives.answer _ c.in_ok-x.was) (c.requires.given_2.gives.answer _ c.in_ok-y.was)
 
 pub returns-in_err-binary-2 : goal.returns-in_err-binary-2
-returns-in_err-binary-2 c = λ p q h k. rw (passed _ _ c.from_residual-in_err-binary-2.ensures.1) (gives_error _ (binary_no_value (binary_meaning c.args.o) c.in_ok-x.x c.in_ok-y.y c.in_ok-half.half c.args.stack.now c.in_ok-half.ensures _ _ c.in_err-binary-2.ensures _ refl (h.answer _ c.in_ok-x.was) (k.answer _ c.in_ok-y.was)))
+returns-in_err-binary-2 c = λ p q h k. rw (passed _ _ c.from_residual-in_err-binary-2.ensures.1) (gives_error _ (binary_no_value c.in_ok-half.ensures c.in_err-binary-2.ensures _ refl (h.answer _ c.in_ok-x.was) (k.answer _ c.in_ok-y.was)))
 
 pub returns : goal.returns
-returns c = λ p q h k. binary_value_lem (binary_meaning c.args.o) c.in_ok-x.x c.in_ok-y.y c.in_ok-half.half c.args.stack.now c.in_ok-half.ensures 0 _ c.in_ok-binary-2.ensures refl (h.answer _ c.in_ok-x.was) (k.answer _ c.in_ok-y.was)
+returns c = λ p q h k. binary_value_lem c.in_ok-half.ensures c.in_ok-binary-2.ensures refl (h.answer _ c.in_ok-x.was) (k.answer _ c.in_ok-y.was)

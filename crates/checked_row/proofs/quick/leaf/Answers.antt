@@ -8,14 +8,12 @@ use Rattle.profile.specs.Known.{row_known}
 use Rattle.cells.proofs.Moves.{cell_back}
 use Rattle.run.proofs.Parts.{cells_room}
 use Rattle.checked_row.proofs.Storing.{memory_of, flag_there, filled_there, body_room, present_held}
-use Rattle.checked_row.proofs.Cycle.{in_table, facts, few_named, by_row}
+use Rattle.checked_row.proofs.Cycle.{facts, few_named, by_row}
 use Rattle.checked_row.proofs.Simple.{own_first, constant_simple, variable_simple, current_long, current_simple}
 use Rattle.checked_row.proofs.quick.leaf.Goals as goal
 
 pub expression_row-says-requires-clause-known_expression : goal.expression_row-says-requires-clause-known_expression
-expression_row-says-requires-clause-known_expression c =
-    let w = c.requires.ready.world in
-    row_known _ w.accepted _ (in_table w c.requires.here)
+expression_row-says-requires-clause-known_expression c = row_known _ c.requires.ready.world.accepted _ c.requires.here
 
 pub constant_cell-requires-clause-constant_row : goal.constant_cell-requires-clause-constant_row
 unfolding RowFacts
@@ -29,24 +27,24 @@ is_filled-requires c =
 pub overflow_mul-n : goal.overflow_mul-n
 overflow_mul-n c = omega (arith, few_named c.requires.ready.world c.requires.here (says_as c.in-Variable.is c.expression_row-says.ensures))
 
-pub bounds-variables-n : goal.bounds-variables-n
-bounds-variables-n c =
+pub bounds-memory-n : goal.bounds-memory-n
+bounds-memory-n c =
     let s = c.requires.ready.world.stored in
     omega (arith, body_room s _ (filled_there s _ (sym c.is_filled.ensures ∙ c.if-not-is_filled.false)))
 
 pub overflow_mul-stack : goal.overflow_mul-stack
 overflow_mul-stack c = omega (arith, few_named c.requires.ready.world c.requires.here (says_as c.in-Variable.is c.expression_row-says.ensures))
 
-pub offset_bounds-cells-n : goal.offset_bounds-cells-n
-offset_bounds-cells-n c = omega (arith, few_named c.requires.ready.world c.requires.here (says_as c.in-Variable.is c.expression_row-says.ensures))
+pub offset_bounds-memory-n : goal.offset_bounds-memory-n
+offset_bounds-memory-n c = omega (arith, few_named c.requires.ready.world c.requires.here (says_as c.in-Variable.is c.expression_row-says.ensures))
 
-pub bounds-cells-n : goal.bounds-cells-n
-bounds-cells-n c =
+pub bounds-memory-n-in-Variable : goal.bounds-memory-n-in-Variable
+bounds-memory-n-in-Variable c =
     let s = c.requires.ready.world.stored in
     omega (arith, cells_room (memory_of s) _ (filled_there s _ (sym c.is_filled.ensures ∙ c.if-not-is_filled.false)))
 
-pub bounds-current-0 : goal.bounds-current-0
-bounds-current-0 c =
+pub bounds-current-0-in-Current : goal.bounds-current-0-in-Current
+bounds-current-0-in-Current c =
     let u = c.requires.ready.has in
     current_long u.is (c.in_ok-tag-in-Current.ensures _ _ u.is.holds refl)
 
@@ -63,7 +61,7 @@ returns-in_ok-tag-in-Variable c = λ vs x w h.
     let filled = sym c.is_filled.ensures ∙ c.if-not-is_filled.false in
     let lt = filled_there w.stored _ filled in
     by_row w c.requires.here x (says_as c.in-Variable.is c.expression_row-says.ensures)
-    (variable_simple w.stored _ lt c.args.stack.now _ _ filled (c.in_ok-tag-in-Variable.ensures _ _ (present_held w.stored _ lt _ refl) (own_first c.args.variables.now c.in-Variable.n)) (cell_back _ (omega arith)) (omega (arith, c.requires.room)))
+    (variable_simple w.stored _ lt c.args.stack.now _ _ filled (c.in_ok-tag-in-Variable.ensures _ _ (present_held w.stored _ lt _ refl) (own_first c.args.memory.now.bodies.now c.in-Variable.n)) (cell_back _ (omega arith)) (omega (arith, c.requires.room)))
 
 pub returns-in_ok-tag-in-Current : goal.returns-in_ok-tag-in-Current
 unfolding row_tree meaning

@@ -3,29 +3,14 @@ use mathlib.Core.Path.{ap, ◌∙◌}
 use lib.IntN.{ℤ}
 use Rattle.lingua.specs.Store.{within}
 use Rattle.cells.proofs.Moves.{cell_back}
-use Rattle.checked_store.proofs.Admitting.{held_own, held_there, free_other_body, free_out_of_limits, free_passes}
+use Rattle.checked_store.proofs.Admitting.{held_own, free_other_body, free_out_of_limits, free_passes}
 use Rattle.checked_store.proofs.admit.unyoked.Goals as goal
 
-pub present-own-requires : goal.present-own-requires
-present-own-requires c = c.requires.own_room
-
-pub coherent-requires-clause-held : goal.coherent-requires-clause-held
-coherent-requires-clause-held c = (held_there c.present-own.ensures c.requires.held)
-
-pub coherent-requires-clause-held_2 : goal.coherent-requires-clause-held_2
-coherent-requires-clause-held_2 c = (record { body = _; holds = c.requires.has.is.holds })
-
 pub returns-then-not-coherent : goal.returns-then-not-coherent
-returns-then-not-coherent c = λ vs v x b free h. free_other_body vs v x free _ (c.coherent.ensures _ _ (held_own b c.present-own.ensures) h.holds) c.if-not-coherent.true
-
-pub whole-z-requires : goal.whole-z-requires
-whole-z-requires c = c.requires.has
-
-pub in_limits-requires : goal.in_limits-requires
-in_limits-requires c = c.requires.limit_room
+returns-then-not-coherent c = λ vs v x b free h. free_other_body vs v x free _ (c.coherent.ensures _ _ (held_own b c.taken-own.ensures) h.holds) c.if-not-coherent.true
 
 pub returns-then-not-in_limits : goal.returns-then-not-in_limits
-returns-then-not-in_limits c = λ vs v x b free h. free_out_of_limits vs v x free _ (c.coherent.ensures _ _ (held_own b c.present-own.ensures) h.holds) c.if-not-coherent.false _ (c.in_limits.ensures _ b.limited ∙ ap (λ (z : ℤ). within v.limit z) (cell_back _ c.whole-z.type_inv ∙ c.whole-z.ensures x h)) c.if-not-in_limits.true
+returns-then-not-in_limits c = λ vs v x b free h. free_out_of_limits vs v x free _ (c.coherent.ensures _ _ (held_own b c.taken-own.ensures) h.holds) c.if-not-coherent.false _ (c.in_limits.ensures _ b.limited ∙ ap (λ (z : ℤ). within v.limit z) (cell_back _ c.whole-z.type_inv ∙ c.whole-z.ensures x h)) c.if-not-in_limits.true
 
 pub returns : goal.returns
-returns c = λ vs v x b free h. free_passes vs v x free _ (c.coherent.ensures _ _ (held_own b c.present-own.ensures) h.holds) c.if-not-coherent.false _ (c.in_limits.ensures _ b.limited ∙ ap (λ (z : ℤ). within v.limit z) (cell_back _ c.whole-z.type_inv ∙ c.whole-z.ensures x h)) c.if-not-in_limits.false
+returns c = λ vs v x b free h. free_passes vs v x free _ (c.coherent.ensures _ _ (held_own b c.taken-own.ensures) h.holds) c.if-not-coherent.false _ (c.in_limits.ensures _ b.limited ∙ ap (λ (z : ℤ). within v.limit z) (cell_back _ c.whole-z.type_inv ∙ c.whole-z.ensures x h)) c.if-not-in_limits.false

@@ -11,11 +11,11 @@ use Rattle.checked_row.proofs.Storing.{memory_of, body_room, present_held}
 use Rattle.checked_store.proofs.Assigning.{here_current, copied_current, bounds_of, operand_error, not_admitted, stores}
 use Rattle.checked_store.proofs.assign.assign.Goals as goal
 
-pub returns-in_err-x : goal.returns-in_err-x
-returns-in_err-x c = λ vs o w l h. rw (passed_on _ _ c.from_residual.ensures.1) (keeps_fault _ (operand_error vs _ _ h c.in_err-x.was))
+pub returns-in_err-x-clause-assigns : goal.returns-in_err-x-clause-assigns
+returns-in_err-x-clause-assigns c = λ vs o w l h. rw (passed_on _ _ c.from_residual.ensures.1) (keeps_fault _ (operand_error vs _ _ h c.in_err-x.was))
 
-pub yoke_of-requires : goal.yoke_of-requires
-yoke_of-requires c = let r = c.requires.assignable in word_room (memory_of r.running.world.stored) _ r.there
+pub yoke_in-requires : goal.yoke_in-requires
+yoke_in-requires c = let r = c.requires.assignable in word_room (memory_of r.running.world.stored) _ r.there
 
 pub unyoked-requires : goal.unyoked-requires
 unyoked-requires c =
@@ -28,10 +28,10 @@ unyoked-requires c =
       has = record { value = _; is = here_current (r.given.gives.answer _ c.in_ok-x.was) };
     }
 
-pub returns-in_err-unyoked : goal.returns-in_err-unyoked
-returns-in_err-unyoked c = λ vs o w l h.
+pub returns-in_err-unyoked-clause-assigns : goal.returns-in_err-unyoked-clause-assigns
+returns-in_err-unyoked-clause-assigns c = λ vs o w l h.
     let a = h.answer _ c.in_ok-x.was in
-    rw (passed_on _ _ c.from_residual-in_err-unyoked.ensures.1) (keeps_fault _ (not_admitted vs _ a _ (c.in_err-unyoked.ensures vs _ _ (bounds_of w _ l) (no_yoke w _ l c.yoke_of.ensures c.if-yoke_of-eq0.true) (here_current a)) (error_some _)))
+    rw (passed_on _ _ c.from_residual-in_err-unyoked.ensures.1) (keeps_fault _ (not_admitted vs _ a _ (c.in_err-unyoked.ensures vs _ _ (bounds_of w _ l) (no_yoke w _ l c.yoke_in.ensures c.if-yoke_in-eq0.true) (here_current a)) (error_some _)))
 
 pub keep-requires : goal.keep-requires
 keep-requires c =
@@ -46,10 +46,10 @@ keep-requires c =
       long = omega (arith, a.cells, lies_long a.lies);
     }
 
-pub returns-then-yoke_of-eq0 : goal.returns-then-yoke_of-eq0
-returns-then-yoke_of-eq0 c = λ vs o w l h.
+pub returns-then-yoke_in-eq0-clause-assigns : goal.returns-then-yoke_in-eq0-clause-assigns
+returns-then-yoke_in-eq0-clause-assigns c = λ vs o w l h.
     let a = h.answer _ c.in_ok-x.was in
-    stores vs _ a _ (c.in_ok-unyoked.ensures vs _ _ (bounds_of w _ l) (no_yoke w _ l c.yoke_of.ensures c.if-yoke_of-eq0.true) (here_current a)) w l refl _ (here_current a) c.keep.ensures
+    stores vs _ a _ (c.in_ok-unyoked.ensures vs _ _ (bounds_of w _ l) (no_yoke w _ l c.yoke_in.ensures c.if-yoke_in-eq0.true) (here_current a)) w l refl _ (here_current a) c.keep.ensures.stores_value
 
 pub copy-requires-clause-n_in_bounds : goal.copy-requires-clause-n_in_bounds
 copy-requires-clause-n_in_bounds c =
@@ -66,13 +66,8 @@ admitted-requires-clause-checkable c =
     let r = c.requires.assignable in
     (record { store = r.store; running = r.running; there = r.there; has = record { value = _; is = copied_current (r.given.gives.answer _ c.in_ok-x.was) _ _ c.copy.ensures } })
 
-pub admitted-requires-clause-count_in_bounds : goal.admitted-requires-clause-count_in_bounds
-admitted-requires-clause-count_in_bounds c =
-    let r = c.requires.assignable in
-    c.requires.count_in_bounds
-
-pub returns-in_err-admitted : goal.returns-in_err-admitted
-returns-in_err-admitted c = λ vs o w l h.
+pub returns-in_err-admitted-clause-assigns : goal.returns-in_err-admitted-clause-assigns
+returns-in_err-admitted-clause-assigns c = λ vs o w l h.
     let a = h.answer _ c.in_ok-x.was in
     rw (passed_on _ _ c.from_residual-in_err-admitted.ensures.1) (keeps_fault _ (not_admitted vs _ a _ (c.in_err-admitted.ensures vs _ w l (copied_current a _ _ c.copy.ensures)) (error_some _)))
 
@@ -89,7 +84,7 @@ keep-requires-2 c =
       long = omega (arith, a.cells, lies_long (copied_current a _ _ c.copy.ensures).lies);
     }
 
-pub returns : goal.returns
-returns c = λ vs o w l h.
+pub returns-clause-assigns : goal.returns-clause-assigns
+returns-clause-assigns c = λ vs o w l h.
     let a = h.answer _ c.in_ok-x.was in
-    stores vs _ a _ (c.in_ok-admitted.ensures vs _ w l (copied_current a _ _ c.copy.ensures)) w l refl _ (copied_current a _ _ c.copy.ensures) c.keep-2.ensures
+    stores vs _ a _ (c.in_ok-admitted.ensures vs _ w l (copied_current a _ _ c.copy.ensures)) w l refl _ (copied_current a _ _ c.copy.ensures) c.keep-2.ensures.stores_value

@@ -1,5 +1,4 @@
 -- `change_yoke` meets its contract, by `not_changed` and `changed`. Assumes nothing.
-use native.Mathlib.Omega.{arith}
 use mathlib.Core.Path.{refl}
 use Rattle.laws.specs.Faults.{passed_on, error_some}
 use Rattle.run.proofs.Parts.{word_room}
@@ -7,26 +6,11 @@ use Rattle.checked_row.proofs.Storing.{memory_of}
 use Rattle.checked_store.proofs.Changing.{not_changed, changed}
 use Rattle.checked_store.proofs.change.change_yoke.Goals as goal
 
-pub yoke_holds-requires-clause-has_world : goal.yoke_holds-requires-clause-has_world
-yoke_holds-requires-clause-has_world c =
-    let r = c.requires.has_running in
-    (record { store = r.store; world = r.running.world })
-
-pub yoke_holds-requires-clause-n_lt_most_variables : goal.yoke_holds-requires-clause-n_lt_most_variables
-yoke_holds-requires-clause-n_lt_most_variables c =
-    let r = c.requires.has_running in
-    (omega (arith, r.there, r.running.world.stored.few))
-
-pub yoke_holds-requires-clause-y_le_count : goal.yoke_holds-requires-clause-y_le_count
-yoke_holds-requires-clause-y_le_count c =
-    let r = c.requires.has_running in
-    ((c.requires.y_le_count, omega (arith, c.requires.y_in_bounds)))
-
-pub returns-in_err-yoke_holds : goal.returns-in_err-yoke_holds
-returns-in_err-yoke_holds c = λ vs w l. rw (passed_on _ _ c.from_residual.ensures.1) (not_changed w c.args.n l c.args.y _ (c.in_err-yoke_holds.ensures vs w.world) (error_some _))
+pub returns-in_err-yoke_holds-clause-assigns : goal.returns-in_err-yoke_holds-clause-assigns
+returns-in_err-yoke_holds-clause-assigns c = λ vs w l. rw (passed_on _ _ c.from_residual.ensures.1) (not_changed w c.args.n l c.args.y _ (c.in_err-yoke_holds.ensures vs w.world) (error_some _))
 
 pub set_yoke-requires : goal.set_yoke-requires
 set_yoke-requires c = let r = c.requires.has_running in word_room (memory_of r.running.world.stored) _ r.there
 
-pub returns : goal.returns
-returns c = λ vs w l. changed w c.args.n l c.args.y _ (c.in_ok-yoke_holds.ensures vs w.world) refl c.requires.y_le_count _ c.set_yoke.ensures
+pub returns-clause-assigns : goal.returns-clause-assigns
+returns-clause-assigns c = λ vs w l. changed w c.args.n l c.args.y _ (c.in_ok-yoke_holds.ensures vs w.world) refl c.requires.y_le_count _ c.set_yoke.ensures

@@ -7,14 +7,13 @@ use Rattle.lingua.specs.Trees.{expression_tree}
 use Rattle.profile.specs.Facts.{RowFacts, row_tree}
 use Rattle.profile.specs.Known.{row_known}
 use Rattle.erased_row.proofs.Telling.{sees_none}
-use Rattle.erased_row.proofs.Passing.{table_of, layout_room}
-use Rattle.profile.specs.Facts.{says_as}
+use Rattle.erased_row.proofs.Passing.{layout_room}
 use Rattle.cells.proofs.Operands.{both_long}
 use Rattle.cells.proofs.Walking.{turn_room}
 use Rattle.laws.specs.Faults.{passed_on}
 use Rattle.erased_row.proofs.Leaving.{no_zero}
 use Rattle.erased.proofs.Walking.{ready_listed, list_cell, list_walks, element_ready, sees_more, all_evaluates}
-use Rattle.erased_row.proofs.Cycle.{facts, tree_is, variable_few, ready_as, evaluates_as, constant_evaluates, has_variable, variable_evaluates, has_current, current_evaluates, unary_ready, has_unary, unary_evaluates, binary_first, binary_second_lem, first_under, has_binary, binary_evaluates, lazy_next, lazy_error, lazy_settled, lazy_second, choice_first, choice_other, choice_error, choice_yes, choice_no}
+use Rattle.erased_row.proofs.Cycle.{meant, variable_few, constant_evaluates, has_variable, variable_evaluates, has_current, current_evaluates, unary_ready, has_unary, unary_evaluates, binary_first, binary_second_lem, first_under, has_binary, binary_evaluates, lazy_next, lazy_error, lazy_settled, lazy_second, choice_first, choice_other, choice_error, choice_yes, choice_no}
 use Rattle.erased.proofs.eval.+all_choice_eval_lazy.Goals as goal
 
 pub all-second_at-width-requires : goal.all-second_at-width-requires
@@ -86,171 +85,151 @@ pub choice-returns : goal.choice-returns
 choice-returns t c = choice_no _ _ _ _ c.eval-x.ensures c.in_ok-truth_of.ensures c.if-branch.false c.eval-2.ensures
 
 pub eval-expression_row-says-requires : goal.eval-expression_row-says-requires
-eval-expression_row-says-requires t c =
-    let w = c.requires.ready.world in record { table = w.table; r_lt_count = c.requires.row_lt_count; known_expression = row_known _ w.accepted _ (table_of w c.requires.row_lt_count) }
+eval-expression_row-says-requires t c = record { r_lt_count = c.requires.row_lt_count; known_expression = row_known _ c.requires.ready.world.accepted _ c.requires.row_lt_count }
 
 pub eval-constant-requires : goal.eval-constant-requires
 unfolding RowFacts
 eval-constant-requires t c =
-    let s = says_as c.in-Constant.is c.expression_row-says.ensures in
-    let f = facts c.requires.ready.world c.requires.row_lt_count s in record { table = c.requires.ready.world.table; row_lt_count = c.requires.row_lt_count; constant_row = (f, omega (arith, c.requires.row_in_bounds)) }
+    let m = meant c.requires.ready c.requires.row_lt_count c.in-Constant.is c.expression_row-says.ensures in
+    record { row_lt_count = c.requires.row_lt_count; constant_row = (m.facts, omega (arith, c.requires.row_in_bounds)) }
 
 pub eval-fetch-requires : goal.eval-fetch-requires
 unfolding row_tree
 eval-fetch-requires t c =
-    let s = says_as c.in-Variable.is c.expression_row-says.ensures in
-    let r = ready_as (tree_is c.requires.ready.world c.requires.row_lt_count s) c.requires.ready in record { has_variable = has_variable r (variable_few c.requires.ready.world c.requires.row_lt_count s); row_in_bounds = layout_room c.requires.ready.world c.requires.row_lt_count; body_cells_in_bounds = omega (arith, c.requires.row_in_bounds) }
+    let m = meant c.requires.ready c.requires.row_lt_count c.in-Variable.is c.expression_row-says.ensures in
+    record { has_variable = has_variable m.ready (variable_few c.requires.ready c.requires.row_lt_count c.in-Variable.is c.expression_row-says.ensures refl); row_in_bounds = layout_room c.requires.ready.world c.requires.row_lt_count; body_cells_in_bounds = omega (arith, c.requires.row_in_bounds) }
 
 pub eval-copied-requires : goal.eval-copied-requires
 unfolding row_tree
 eval-copied-requires t c =
-    let s = says_as c.in-Current.is c.expression_row-says.ensures in
-    let r = ready_as (tree_is c.requires.ready.world c.requires.row_lt_count s) c.requires.ready in record { has_current = has_current r; row_in_bounds = layout_room c.requires.ready.world c.requires.row_lt_count; body_cells_in_bounds = omega (arith, c.requires.row_in_bounds) }
+    let m = meant c.requires.ready c.requires.row_lt_count c.in-Current.is c.expression_row-says.ensures in
+    record { has_current = has_current m.ready; row_in_bounds = layout_room c.requires.ready.world c.requires.row_lt_count; body_cells_in_bounds = omega (arith, c.requires.row_in_bounds) }
 
 pub eval-eval-x-requires : goal.eval-eval-x-requires
 unfolding RowFacts row_tree
 eval-eval-x-requires t c =
-    let s = says_as c.in-Unary.is c.expression_row-says.ensures in
-    let f = facts c.requires.ready.world c.requires.row_lt_count s in
-    let r = ready_as (tree_is c.requires.ready.world c.requires.row_lt_count s) c.requires.ready in
-    (omega (arith, c.decreases, f), (unary_ready c.requires.row_lt_count f r, (omega (arith, f, c.requires.row_lt_count), omega (arith, c.requires.row_in_bounds, f))))
+    let m = meant c.requires.ready c.requires.row_lt_count c.in-Unary.is c.expression_row-says.ensures in
+    (omega (arith, c.decreases, m.facts), (unary_ready c.requires.row_lt_count m.facts m.ready, (omega (arith, m.facts, c.requires.row_lt_count), omega (arith, c.requires.row_in_bounds, m.facts))))
 
 pub eval-unary-requires : goal.eval-unary-requires
 unfolding RowFacts row_tree
 eval-unary-requires t c =
-    let s = says_as c.in-Unary.is c.expression_row-says.ensures in
-    let f = facts c.requires.ready.world c.requires.row_lt_count s in
-    let r = ready_as (tree_is c.requires.ready.world c.requires.row_lt_count s) c.requires.ready in record { has_unary = has_unary c.requires.row_lt_count f r c.eval-x.ensures; row_in_bounds = (layout_room c.requires.ready.world c.requires.row_lt_count, layout_room c.requires.ready.world (omega (arith, f, c.requires.row_lt_count))); body_cells_in_bounds = omega (arith, c.requires.row_in_bounds, c.eval-x.auto.stack) }
+    let m = meant c.requires.ready c.requires.row_lt_count c.in-Unary.is c.expression_row-says.ensures in
+    record { has_unary = has_unary c.requires.row_lt_count m.facts m.ready c.eval-x.ensures; row_in_bounds = (layout_room c.requires.ready.world c.requires.row_lt_count, layout_room c.requires.ready.world (omega (arith, m.facts, c.requires.row_lt_count))); body_cells_in_bounds = omega (arith, c.requires.row_in_bounds, c.eval-x.auto.stack) }
 
 pub eval-eval-x-requires-in-Binary : goal.eval-eval-x-requires-in-Binary
 unfolding RowFacts row_tree
 eval-eval-x-requires-in-Binary t c =
-    let s = says_as c.in-Binary.is c.expression_row-says.ensures in
-    let f = facts c.requires.ready.world c.requires.row_lt_count s in
-    let r = ready_as (tree_is c.requires.ready.world c.requires.row_lt_count s) c.requires.ready in
-    (omega (arith, c.decreases, f.0), (binary_first c.requires.row_lt_count f.0 f.1 r, (omega (arith, f.0, c.requires.row_lt_count), omega (arith, c.requires.row_in_bounds, f.0))))
+    let m = meant c.requires.ready c.requires.row_lt_count c.in-Binary.is c.expression_row-says.ensures in
+    (omega (arith, c.decreases, m.facts.0), (binary_first c.requires.row_lt_count m.facts.0 m.facts.1 m.ready, (omega (arith, m.facts.0, c.requires.row_lt_count), omega (arith, c.requires.row_in_bounds, m.facts.0))))
 
 pub eval-leaf-quick-requires : goal.eval-leaf-quick-requires
 unfolding RowFacts row_tree
 eval-leaf-quick-requires t c =
-    let s = says_as c.in-Binary.is c.expression_row-says.ensures in
-    let f = facts c.requires.ready.world c.requires.row_lt_count s in
-    let r = ready_as (tree_is c.requires.ready.world c.requires.row_lt_count s) c.requires.ready in record { ready = binary_second_lem c.requires.row_lt_count f.0 f.1 r; row_lt_count = omega (arith, f.1, c.requires.row_lt_count); row_in_bounds = simp (length-take, length-drop) (omega (arith, c.requires.row_in_bounds, f.1, c.eval-x-in-Binary.auto.stack)) }
+    let m = meant c.requires.ready c.requires.row_lt_count c.in-Binary.is c.expression_row-says.ensures in
+    record { ready = binary_second_lem c.requires.row_lt_count m.facts.0 m.facts.1 m.ready; row_lt_count = omega (arith, m.facts.1, c.requires.row_lt_count); row_in_bounds = simp (length-take, length-drop) (omega (arith, c.requires.row_in_bounds, m.facts.1, c.eval-x-in-Binary.auto.stack)) }
 
 pub eval-binary-requires : goal.eval-binary-requires
 unfolding RowFacts row_tree
 eval-binary-requires t c =
-    let s = says_as c.in-Binary.is c.expression_row-says.ensures in
-    let f = facts c.requires.ready.world c.requires.row_lt_count s in
-    let r = ready_as (tree_is c.requires.ready.world c.requires.row_lt_count s) c.requires.ready in
-    let long : 64 ≤ length c.eval-x-in-Binary.new.stack = omega (arith, c.requires.row_in_bounds, c.eval-x-in-Binary.auto.stack) in record { has_binary = has_binary c.requires.row_lt_count f.0 f.1 c.eval-x-in-Binary.new.stack c.leaf-quick.new.stack _ long c.eval-x-in-Binary.ensures (c.leaf-quick.ensures.evaluates _ c.in-Some.is) r; row_in_bounds = (layout_room c.requires.ready.world c.requires.row_lt_count, layout_room c.requires.ready.world (omega (arith, f.0, c.requires.row_lt_count)), layout_room c.requires.ready.world (omega (arith, f.1, c.requires.row_lt_count))); body_cells_in_bounds = both_long c.eval-x-in-Binary.new.stack c.leaf-quick.new.stack _ long (omega (arith, c.requires.row_in_bounds, c.eval-x-in-Binary.auto.stack, simp (length-take, length-drop) at c.leaf-quick.auto.stack)) }
+    let m = meant c.requires.ready c.requires.row_lt_count c.in-Binary.is c.expression_row-says.ensures in
+    let long : 64 ≤ length c.eval-x-in-Binary.new.stack = omega (arith, c.requires.row_in_bounds, c.eval-x-in-Binary.auto.stack) in
+    record { has_binary = has_binary c.requires.row_lt_count m.facts.0 m.facts.1 c.eval-x-in-Binary.new.stack c.leaf-quick.new.stack _ long c.eval-x-in-Binary.ensures (c.leaf-quick.ensures.evaluates _ c.in-Some.is) m.ready; row_in_bounds = (layout_room c.requires.ready.world c.requires.row_lt_count, layout_room c.requires.ready.world (omega (arith, m.facts.0, c.requires.row_lt_count)), layout_room c.requires.ready.world (omega (arith, m.facts.1, c.requires.row_lt_count))); body_cells_in_bounds = both_long c.eval-x-in-Binary.new.stack c.leaf-quick.new.stack _ long (omega (arith, c.requires.row_in_bounds, c.eval-x-in-Binary.auto.stack, simp (length-take, length-drop) at c.leaf-quick.auto.stack)) }
 
 pub eval-returns-in-Some : goal.eval-returns-in-Some
 unfolding RowFacts row_tree
 eval-returns-in-Some t c =
-    let s = says_as c.in-Binary.is c.expression_row-says.ensures in
-    let f = facts c.requires.ready.world c.requires.row_lt_count s in
+    let m = meant c.requires.ready c.requires.row_lt_count c.in-Binary.is c.expression_row-says.ensures in
     let long : 64 ≤ length c.eval-x-in-Binary.new.stack = omega (arith, c.requires.row_in_bounds, c.eval-x-in-Binary.auto.stack) in
-    evaluates_as (tree_is c.requires.ready.world c.requires.row_lt_count s) (binary_evaluates c.requires.row_lt_count f.0 f.1 c.eval-x-in-Binary.new.stack c.leaf-quick.new.stack _ long c.eval-x-in-Binary.ensures (c.leaf-quick.ensures.evaluates _ c.in-Some.is) c.binary.ensures)
+    m.evaluates _ _ (binary_evaluates c.requires.row_lt_count m.facts.0 m.facts.1 c.eval-x-in-Binary.new.stack c.leaf-quick.new.stack _ long c.eval-x-in-Binary.ensures (c.leaf-quick.ensures.evaluates _ c.in-Some.is) c.binary.ensures)
 
 pub eval-eval-y-requires : goal.eval-eval-y-requires
 unfolding RowFacts row_tree
 eval-eval-y-requires t c =
-    let s = says_as c.in-Binary.is c.expression_row-says.ensures in
-    let f = facts c.requires.ready.world c.requires.row_lt_count s in
-    let r = ready_as (tree_is c.requires.ready.world c.requires.row_lt_count s) c.requires.ready in
-    (omega (arith, c.decreases, f.1), (binary_second_lem c.requires.row_lt_count f.0 f.1 r, (omega (arith, f.1, c.requires.row_lt_count), simp (length-append, length-take, length-drop) (omega (arith, c.requires.row_in_bounds, f.1, c.eval-x-in-Binary.auto.stack, simp (length-take, length-drop) at c.leaf-quick.auto.stack)))))
+    let m = meant c.requires.ready c.requires.row_lt_count c.in-Binary.is c.expression_row-says.ensures in
+    (omega (arith, c.decreases, m.facts.1), (binary_second_lem c.requires.row_lt_count m.facts.0 m.facts.1 m.ready, (omega (arith, m.facts.1, c.requires.row_lt_count), simp (length-append, length-take, length-drop) (omega (arith, c.requires.row_in_bounds, m.facts.1, c.eval-x-in-Binary.auto.stack, simp (length-take, length-drop) at c.leaf-quick.auto.stack)))))
 
 pub eval-binary-requires-in-Binary : goal.eval-binary-requires-in-Binary
 unfolding RowFacts row_tree
 eval-binary-requires-in-Binary t c =
-    let s = says_as c.in-Binary.is c.expression_row-says.ensures in
-    let f = facts c.requires.ready.world c.requires.row_lt_count s in
-    let r = ready_as (tree_is c.requires.ready.world c.requires.row_lt_count s) c.requires.ready in
+    let m = meant c.requires.ready c.requires.row_lt_count c.in-Binary.is c.expression_row-says.ensures in
     let low : 64 ≤ length c.eval-x-in-Binary.new.stack = omega (arith, c.requires.row_in_bounds, c.eval-x-in-Binary.auto.stack) in
     let tried = take 64 c.eval-x-in-Binary.new.stack ++ (c.leaf-quick.new.stack ++ drop (length c.eval-x-in-Binary.new.stack - 64) (drop 64 c.eval-x-in-Binary.new.stack)) in
     let both = both_long c.eval-x-in-Binary.new.stack c.leaf-quick.new.stack (drop (length c.eval-x-in-Binary.new.stack - 64) (drop 64 c.eval-x-in-Binary.new.stack)) low (omega (arith, c.requires.row_in_bounds, c.eval-x-in-Binary.auto.stack, simp (length-take, length-drop) at c.leaf-quick.auto.stack)) in
     let long : 64 ≤ length tried = omega (arith, both) in
-    let first = first_under c.requires.row_lt_count f.0 f.1 c.eval-x-in-Binary.new.stack c.leaf-quick.new.stack _ low c.eval-x-in-Binary.ensures in record { has_binary = has_binary c.requires.row_lt_count f.0 f.1 tried c.eval-y.new.stack _ long first c.eval-y.ensures r; row_in_bounds = (layout_room c.requires.ready.world c.requires.row_lt_count, layout_room c.requires.ready.world (omega (arith, f.0, c.requires.row_lt_count)), layout_room c.requires.ready.world (omega (arith, f.1, c.requires.row_lt_count))); body_cells_in_bounds = both_long tried c.eval-y.new.stack _ long (omega (arith, both, simp (length-take, length-drop) at c.eval-y.auto.stack)) }
+    let first = first_under c.requires.row_lt_count m.facts.0 m.facts.1 c.eval-x-in-Binary.new.stack c.leaf-quick.new.stack _ low c.eval-x-in-Binary.ensures in
+    record { has_binary = has_binary c.requires.row_lt_count m.facts.0 m.facts.1 tried c.eval-y.new.stack _ long first c.eval-y.ensures m.ready; row_in_bounds = (layout_room c.requires.ready.world c.requires.row_lt_count, layout_room c.requires.ready.world (omega (arith, m.facts.0, c.requires.row_lt_count)), layout_room c.requires.ready.world (omega (arith, m.facts.1, c.requires.row_lt_count))); body_cells_in_bounds = both_long tried c.eval-y.new.stack _ long (omega (arith, both, simp (length-take, length-drop) at c.eval-y.auto.stack)) }
 
 pub eval-lazy-requires : goal.eval-lazy-requires
 unfolding RowFacts row_tree
 eval-lazy-requires t c =
-    let s = says_as c.in-Lazy.is c.expression_row-says.ensures in
-    let f = facts c.requires.ready.world c.requires.row_lt_count s in
-    let r = ready_as (tree_is c.requires.ready.world c.requires.row_lt_count s) c.requires.ready in
-    (omega (arith, c.decreases), (r, ((f.0, f.1, c.requires.row_lt_count), omega (arith, c.requires.row_in_bounds))))
+    let m = meant c.requires.ready c.requires.row_lt_count c.in-Lazy.is c.expression_row-says.ensures in
+    (omega (arith, c.decreases), (m.ready, ((m.facts.0, m.facts.1, c.requires.row_lt_count), omega (arith, c.requires.row_in_bounds))))
 
 pub eval-choice-requires : goal.eval-choice-requires
 unfolding RowFacts row_tree
 eval-choice-requires t c =
-    let s = says_as c.in-Choice.is c.expression_row-says.ensures in
-    let f = facts c.requires.ready.world c.requires.row_lt_count s in
-    let r = ready_as (tree_is c.requires.ready.world c.requires.row_lt_count s) c.requires.ready in
-    (omega (arith, c.decreases), (r, ((f.0, f.1, f.2, c.requires.row_lt_count), omega (arith, c.requires.row_in_bounds))))
+    let m = meant c.requires.ready c.requires.row_lt_count c.in-Choice.is c.expression_row-says.ensures in
+    (omega (arith, c.decreases), (m.ready, ((m.facts.0, m.facts.1, m.facts.2, c.requires.row_lt_count), omega (arith, c.requires.row_in_bounds))))
 
 pub eval-all-requires : goal.eval-all-requires
 unfolding RowFacts row_tree
 eval-all-requires t c =
-    let s = says_as c.in-AllList.is c.expression_row-says.ensures in
-    let f = facts c.requires.ready.world c.requires.row_lt_count s in
-    let r = ready_as (tree_is c.requires.ready.world c.requires.row_lt_count s) c.requires.ready in
-    (omega (arith, c.decreases), (r, ((f, c.requires.row_lt_count), omega (arith, c.requires.row_in_bounds))))
+    let m = meant c.requires.ready c.requires.row_lt_count c.in-AllList.is c.expression_row-says.ensures in
+    (omega (arith, c.decreases), (m.ready, ((m.facts, c.requires.row_lt_count), omega (arith, c.requires.row_in_bounds))))
 
 pub eval-returns-in-Constant : goal.eval-returns-in-Constant
 unfolding row_tree
 eval-returns-in-Constant t c =
-    let s = says_as c.in-Constant.is c.expression_row-says.ensures in
-    evaluates_as (tree_is c.requires.ready.world c.requires.row_lt_count s) (constant_evaluates c.constant.ensures)
+    let m = meant c.requires.ready c.requires.row_lt_count c.in-Constant.is c.expression_row-says.ensures in
+    m.evaluates _ _ (constant_evaluates c.constant.ensures)
 
 pub eval-returns-in-Variable : goal.eval-returns-in-Variable
 unfolding row_tree
 eval-returns-in-Variable t c =
-    let s = says_as c.in-Variable.is c.expression_row-says.ensures in
-    evaluates_as (tree_is c.requires.ready.world c.requires.row_lt_count s) (variable_evaluates c.fetch.ensures)
+    let m = meant c.requires.ready c.requires.row_lt_count c.in-Variable.is c.expression_row-says.ensures in
+    m.evaluates _ _ (variable_evaluates c.fetch.ensures)
 
 pub eval-returns-in-Current : goal.eval-returns-in-Current
 unfolding row_tree
 eval-returns-in-Current t c =
-    let s = says_as c.in-Current.is c.expression_row-says.ensures in
-    evaluates_as (tree_is c.requires.ready.world c.requires.row_lt_count s) (current_evaluates c.copied.ensures)
+    let m = meant c.requires.ready c.requires.row_lt_count c.in-Current.is c.expression_row-says.ensures in
+    m.evaluates _ _ (current_evaluates c.copied.ensures)
 
 pub eval-returns-in-Unary : goal.eval-returns-in-Unary
 unfolding RowFacts row_tree
 eval-returns-in-Unary t c =
-    let s = says_as c.in-Unary.is c.expression_row-says.ensures in
-    let f = facts c.requires.ready.world c.requires.row_lt_count s in
-    evaluates_as (tree_is c.requires.ready.world c.requires.row_lt_count s) (unary_evaluates c.requires.row_lt_count f c.eval-x.ensures c.unary.ensures)
+    let m = meant c.requires.ready c.requires.row_lt_count c.in-Unary.is c.expression_row-says.ensures in
+    m.evaluates _ _ (unary_evaluates c.requires.row_lt_count m.facts c.eval-x.ensures c.unary.ensures)
 
 pub eval-returns-in_default : goal.eval-returns-in_default
 unfolding RowFacts row_tree
 eval-returns-in_default t c =
-    let s = says_as c.in-Binary.is c.expression_row-says.ensures in
-    let f = facts c.requires.ready.world c.requires.row_lt_count s in
+    let m = meant c.requires.ready c.requires.row_lt_count c.in-Binary.is c.expression_row-says.ensures in
     let low : 64 ≤ length c.eval-x-in-Binary.new.stack = omega (arith, c.requires.row_in_bounds, c.eval-x-in-Binary.auto.stack) in
     let tried = take 64 c.eval-x-in-Binary.new.stack ++ (c.leaf-quick.new.stack ++ drop (length c.eval-x-in-Binary.new.stack - 64) (drop 64 c.eval-x-in-Binary.new.stack)) in
     let both = both_long c.eval-x-in-Binary.new.stack c.leaf-quick.new.stack (drop (length c.eval-x-in-Binary.new.stack - 64) (drop 64 c.eval-x-in-Binary.new.stack)) low (omega (arith, c.requires.row_in_bounds, c.eval-x-in-Binary.auto.stack, simp (length-take, length-drop) at c.leaf-quick.auto.stack)) in
     let long : 64 ≤ length tried = omega (arith, both) in
-    let first = first_under c.requires.row_lt_count f.0 f.1 c.eval-x-in-Binary.new.stack c.leaf-quick.new.stack _ low c.eval-x-in-Binary.ensures in
-    evaluates_as (tree_is c.requires.ready.world c.requires.row_lt_count s) (binary_evaluates c.requires.row_lt_count f.0 f.1 tried c.eval-y.new.stack _ long first c.eval-y.ensures c.binary-in-Binary.ensures)
+    let first = first_under c.requires.row_lt_count m.facts.0 m.facts.1 c.eval-x-in-Binary.new.stack c.leaf-quick.new.stack _ low c.eval-x-in-Binary.ensures in
+    m.evaluates _ _ (binary_evaluates c.requires.row_lt_count m.facts.0 m.facts.1 tried c.eval-y.new.stack _ long first c.eval-y.ensures c.binary-in-Binary.ensures)
 
 pub eval-returns-in-Lazy : goal.eval-returns-in-Lazy
 unfolding row_tree
 eval-returns-in-Lazy t c =
-    let s = says_as c.in-Lazy.is c.expression_row-says.ensures in
-    evaluates_as (tree_is c.requires.ready.world c.requires.row_lt_count s) c.lazy.ensures
+    let m = meant c.requires.ready c.requires.row_lt_count c.in-Lazy.is c.expression_row-says.ensures in
+    m.evaluates _ _ c.lazy.ensures
 
 pub eval-returns-in-Choice : goal.eval-returns-in-Choice
 unfolding row_tree
 eval-returns-in-Choice t c =
-    let s = says_as c.in-Choice.is c.expression_row-says.ensures in
-    evaluates_as (tree_is c.requires.ready.world c.requires.row_lt_count s) c.choice.ensures
+    let m = meant c.requires.ready c.requires.row_lt_count c.in-Choice.is c.expression_row-says.ensures in
+    m.evaluates _ _ c.choice.ensures
 
 pub eval-returns-in-AllList : goal.eval-returns-in-AllList
 unfolding row_tree
 eval-returns-in-AllList t c =
-    let s = says_as c.in-AllList.is c.expression_row-says.ensures in
-    evaluates_as (tree_is c.requires.ready.world c.requires.row_lt_count s) c.all.ensures
+    let m = meant c.requires.ready c.requires.row_lt_count c.in-AllList.is c.expression_row-says.ensures in
+    m.evaluates _ _ c.all.ensures
 
 pub lazy-returns-in_err-first : goal.lazy-returns-in_err-first
 lazy-returns-in_err-first t c = rw (passed_on _ _ c.from_residual.ensures.1) (lazy_error _ c.args.settling _ _ c.eval-x.ensures c.in_err-first.ensures _ (no_zero _))

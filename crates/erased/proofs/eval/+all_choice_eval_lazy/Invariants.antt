@@ -27,4 +27,4 @@ abbrev pub decreases-lazy : goal.decreases-lazy
 decreases-lazy l = 2 * l.row
 
 abbrev pub invariant-all-loop-i : goal.invariant-all-loop-i
-invariant-all-loop-i l = (length l.stack ≡ length l.initial.stack) × ((ds : List Declaration) (vs : List Variable) (b : Body) (x : Value) → Listed l.rows l.t l.layout l.cells l.states l.current (expression_tree l.rows l.a) l.width ds vs b x → Tells l.seen (all_told (first_results (expression_tree l.rows l.a) vs x l.i)))
+invariant-all-loop-i l = (length l.stack ≡ length l.initial.stack) × ((ds : List Declaration) (vs : List Variable) (b : Body) (x : Value) → Listed l.rows l.layout l.memory.cells.now l.memory.states.now l.current (expression_tree l.rows l.a) l.width ds vs b x → Tells l.seen (all_told (first_results (expression_tree l.rows l.a) vs x l.i)))

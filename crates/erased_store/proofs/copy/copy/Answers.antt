@@ -16,38 +16,29 @@ use Rattle.erased_store.proofs.copy.copy.Goals as goal
 pub is_filled-requires : goal.is_filled-requires
 is_filled-requires c = let r = c.requires.has_copy in states_room (memory_of r.giving.world) _ r.there
 
-pub returns-then-not-is_filled : goal.returns-then-not-is_filled
-returns-then-not-is_filled c = λ p a b limits bodies vs ws v l w k q. keeps _ (λ z. omega arith) (not_copied v _ l (sym c.is_filled.ensures ∙ c.if-not-is_filled.true) ws c.args.m)
+pub returns-then-not-is_filled-clause-settles : goal.returns-then-not-is_filled-clause-settles
+returns-then-not-is_filled-clause-settles c = λ p a b theirs bodies vs ws v l w k q. keeps _ (λ z. omega arith) (not_copied v _ l (sym c.is_filled.ensures ∙ c.if-not-is_filled.true) ws c.args.m)
 
 pub slice_bounds-value-end : goal.slice_bounds-value-end
 slice_bounds-value-end c = let r = c.requires.has_copy in cells_room (memory_of r.giving.world) _ r.there
 
-pub yoke_of-yoke-requires : goal.yoke_of-yoke-requires
-yoke_of-yoke-requires c = let r = c.requires.has_copy in word_room (memory_of r.running.world) _ r.taking
+pub current_yoke-yoke-requires : goal.current_yoke-yoke-requires
+current_yoke-yoke-requires c = let r = c.requires.has_copy in word_room (memory_of r.running.world) _ r.taking
 
 pub satisfies-requires-clause-ready_yoke : goal.satisfies-requires-clause-ready_yoke
 satisfies-requires-clause-ready_yoke c =
     let r = c.requires.has_copy in
-    let y = yoke_there r.running c.args.m r.taking c.yoke_of-yoke.ensures in
     let f = given_part r.giving c.args.n r.there (sym c.is_filled.ensures ∙ c.if-not-is_filled.false) r.same in
-    (value_ready r.running c.args.m r.taking f c.yoke_of-yoke.ensures)
+    value_ready r.running c.args.m r.taking f c.current_yoke-yoke.ensures
 
 pub satisfies-requires-clause-y_le_count : goal.satisfies-requires-clause-y_le_count
-satisfies-requires-clause-y_le_count c =
-    let r = c.requires.has_copy in
-    let y = yoke_there r.running c.args.m r.taking c.yoke_of-yoke.ensures in
-    let f = given_part r.giving c.args.n r.there (sym c.is_filled.ensures ∙ c.if-not-is_filled.false) r.same in
-    y
+satisfies-requires-clause-y_le_count c = let r = c.requires.has_copy in yoke_there r.running c.args.m r.taking c.current_yoke-yoke.ensures
 
 pub satisfies-requires-clause-y_in_bounds : goal.satisfies-requires-clause-y_in_bounds
-satisfies-requires-clause-y_in_bounds c =
-    let r = c.requires.has_copy in
-    let y = yoke_there r.running c.args.m r.taking c.yoke_of-yoke.ensures in
-    let f = given_part r.giving c.args.n r.there (sym c.is_filled.ensures ∙ c.if-not-is_filled.false) r.same in
-    (omega (arith, y, c.requires.count_in_bounds))
+satisfies-requires-clause-y_in_bounds c = let r = c.requires.has_copy in omega (arith, yoke_there r.running c.args.m r.taking c.current_yoke-yoke.ensures, c.requires.count_in_bounds)
 
-pub returns-in_err-satisfies : goal.returns-in_err-satisfies
-returns-in_err-satisfies c = λ p a b limits bodies vs ws v l w k q. let e = sym c.is_filled.ensures ∙ c.if-not-is_filled.false in let f = given_part v c.args.n l e q in rw (passed_on _ _ c.from_residual.ensures.1) (keeps _ (no_zero _) (sym (copied_is v c.args.n l e ws c.args.m) ∙ yoke_fails w c.args.m _ f.declared_body_lem (own_admits w c.args.m k f c.yoke_of-yoke.ensures c.in_err-satisfies.ensures) (no_zero _)))
+pub returns-in_err-satisfies-clause-settles : goal.returns-in_err-satisfies-clause-settles
+returns-in_err-satisfies-clause-settles c = λ p a b theirs bodies vs ws v l w k q. let e = sym c.is_filled.ensures ∙ c.if-not-is_filled.false in let f = given_part v c.args.n l e q in rw (passed_on _ _ c.from_residual.ensures.1) (keeps _ (no_zero _) (sym (copied_is v c.args.n l e ws c.args.m) ∙ yoke_fails w c.args.m _ f.declared_body_lem (own_admits w c.args.m k f c.current_yoke-yoke.ensures c.in_err-satisfies.ensures) (no_zero _)))
 
 pub store_within-requires : goal.store_within-requires
 store_within-requires c =
@@ -55,8 +46,8 @@ store_within-requires c =
     let f = given_part r.giving c.args.n r.there (sym c.is_filled.ensures ∙ c.if-not-is_filled.false) r.same in
     room r.running c.args.m r.taking f (search rules)
 
-pub returns : goal.returns
-returns c = λ p a b limits bodies vs ws v l w k q.
+pub returns-clause-settles : goal.returns-clause-settles
+returns-clause-settles c = λ p a b theirs bodies vs ws v l w k q.
     let e = sym c.is_filled.ensures ∙ c.if-not-is_filled.false in
     let f = given_part v c.args.n l e q in
-    settles_as (copied_is v c.args.n l e ws c.args.m) (c.store_within.ensures p b _ _ _ ws _ w k f (record { holds = (own_admits w c.args.m k f c.yoke_of-yoke.ensures c.satisfies.ensures).answer (ap number_of c.in_ok-satisfies.was) }))
+    settles_as (copied_is v c.args.n l e ws c.args.m) (c.store_within.ensures.settles p b _ _ ws _ w k f (record { holds = (own_admits w c.args.m k f c.current_yoke-yoke.ensures c.satisfies.ensures).answer (ap number_of c.in_ok-satisfies.was) }))

@@ -7,4 +7,4 @@ use Rattle.laws.specs.Chains.{every_from_all}
 use Rattle.row_rules.proofs.constants.expressions_fit.Goals as goal
 
 pub returns : goal.returns
-returns c = every_from_all (λ k. row_constant_fits (expression_row c.args.rows.now k) && attributes_fit (expression_attributes (expression_row c.args.rows.now k))) _ _ _ _ c.all.ensures.ran refl c.requires.count (λ x b q k. search (rules, tests))
+returns c = every_from_all (λ k. row_constant_fits (expression_row c.args.rows.now k) && attributes_fit (expression_attributes (expression_row c.args.rows.now k))) _ _ _ _ c.all.ensures.ran refl c.expressions-expressions.ensures.count (λ x b q k. search (rules, tests))

@@ -9,4 +9,4 @@ use Rattle.laws.specs.Chains.{every_from_all}
 use Rattle.row_rules.proofs.constants.handlers_fit.Goals as goal
 
 pub returns : goal.returns
-returns c = every_from_all (λ k. all_of is_error (handled_errors (instruction_row c.args.rows.now k))) _ _ _ _ c.all.ensures.ran refl c.requires.count (λ x b q k. search (rules, tests))
+returns c = every_from_all (λ k. all_of is_error (handled_errors (instruction_row c.args.rows.now k))) _ _ _ _ c.all.ensures.ran refl c.instructions-instructions.ensures.count (λ x b q k. search (rules, tests))

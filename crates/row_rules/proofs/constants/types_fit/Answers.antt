@@ -7,4 +7,4 @@ use Rattle.laws.specs.Chains.{every_from_all}
 use Rattle.row_rules.proofs.constants.types_fit.Goals as goal
 
 pub returns : goal.returns
-returns c = every_from_all (λ k. attributes_fit (type_attributes (type_row c.args.rows.now k))) _ _ _ _ c.all.ensures.ran refl c.requires.count (λ x b q k. search (rules, tests))
+returns c = every_from_all (λ k. attributes_fit (type_attributes (type_row c.args.rows.now k))) _ _ _ _ c.all.ensures.ran refl c.types-types.ensures.count (λ x b q k. search (rules, tests))

@@ -5,8 +5,8 @@ use Rattle.row_rules.proofs.counts.count_wrong.Goals as goal
 
 pub returns-in-Profile : goal.returns-in-Profile
 unfolding file_meaning
-returns-in-Profile c = λ rows h. rw c.in-Profile.is (c.profile_count_wrong.ensures rows h)
+returns-in-Profile c = rw c.in-Profile.is c.profile_count_wrong.ensures
 
 pub returns-in-Limits : goal.returns-in-Limits
 unfolding file_meaning
-returns-in-Limits c = λ rows h. rw c.in-Limits.is (counts_limits rows c.args.t h)
+returns-in-Limits c = rw c.in-Limits.is (counts_limits c.args.rows.now c.limits.result c.limits.ensures)

@@ -9,4 +9,4 @@ use Rattle.row_rules.proofs.names.profile_name_wrong.Goals as goal
 
 pub returns : goal.returns
 unfolding name_wrong
-returns c = ap not (every_from_all (λ k. names_fit c.args.rows.now (scope_table k)) _ _ _ _ c.all.ensures.ran refl (omega (arith, c.requires.are_tables.procedures)) (λ x b q k. search (rules, tests, scope_names)))
+returns c = ap not (every_from_all (λ k. names_fit c.args.rows.now (scope_table k)) _ _ _ _ c.all.ensures.ran refl (omega (arith, c.procedures.ensures)) (λ x b q k. search (rules, tests, scope_names)))

@@ -5,4 +5,4 @@ use Rattle.run.specs.Kept.{LimitsFrom, Limited}
 use Rattle.run.proofs.start.keep_limits.Given as goal
 
 abbrev pub invariant-loop-l : goal.invariant-loop-l
-invariant-loop-l l = (rows : List ℕ) → Limited rows l.limits l.u l.owners → LimitsFrom rows l.limits l.kept l.l
+invariant-loop-l l = (rows : List ℕ) → Limited rows l.limits l.owners → LimitsFrom rows l.limits l.kept l.l

@@ -5,8 +5,8 @@ use Rattle.run.proofs.steps.ended.Goals as goal
 pub returns-then-m : goal.returns-then-m
 returns-then-m c = ended_out _ _ c.if-m.true
 
-pub returns-then-m-ne-NO_ERROR : goal.returns-then-m-ne-NO_ERROR
-returns-then-m-ne-NO_ERROR c = ended_failed _ _ c.if-m.false c.if-m-ne-NO_ERROR.true
+pub returns-in-Some : goal.returns-in-Some
+returns-in-Some c = ended_failed _ _ _ c.if-m.false c.in-Some.is
 
-pub returns : goal.returns
-returns c = ended_finished _ _ c.if-m.false c.if-m-ne-NO_ERROR.false (c.requires.place_value c.if-m.false c.if-m-ne-NO_ERROR.false)
+pub returns-in-None : goal.returns-in-None
+returns-in-None c = ended_finished _ _ c.if-m.false c.in-None.is

@@ -6,7 +6,7 @@ use Rattle.run.proofs.Ending.{steps_none, steps_one, one_more}
 use Rattle.run.proofs.steps.stepped.Goals as goal
 
 pub returns-then-m-eq0 : goal.returns-then-m-eq0
-returns-then-m-eq0 c = record { is = steps_none c.args.m (omega arith); error = refl; place = refl; fewer = λ e. absurd (true≢false e) }
+returns-then-m-eq0 c = record { is = steps_none c.args.m (omega arith); error = refl; fewer = λ e. absurd (true≢false e) }
 
 pub returns : goal.returns
-returns c = record { is = steps_one c.args.m (omega arith); error = refl; place = refl; fewer = λ e. one_more _ (omega arith) }
+returns c = record { is = steps_one c.args.m (omega arith); error = refl; fewer = λ e. one_more _ (omega arith) }

@@ -1,11 +1,8 @@
 -- `mark_all` meets its contract: the list's rows are marked in turn. Assumes nothing.
-use Rattle.std.proofs.Common.{arith, sym, ◌∙◌}
-use Rattle.std.proofs.lemmas.List.{take_more, take_all}
-use Rattle.scopes.proofs.Marking.{marked_none, marked_more, marked_to, in_same}
+use Rattle.std.proofs.Common.{arith, sym}
+use Rattle.std.proofs.lemmas.List.{take_more}
+use Rattle.scopes.proofs.Marking.{marked_more, marked_to, in_same}
 use Rattle.scopes.proofs.pass.mark_all.Goals as goal
-
-pub loop-x-init : goal.loop-x-init
-loop-x-init c = marked_none _ _
 
 pub mark-requires : goal.mark-requires
 mark-requires c =
@@ -13,6 +10,3 @@ mark-requires c =
 
 pub loop-x-preserved : goal.loop-x-preserved
 loop-x-preserved c = marked_to (marked_more c.loop-x.invariant c.mark.ensures) (sym (take_more _ _ 0 c.loop-x-test.true))
-
-pub returns : goal.returns
-returns c = marked_to c.loop-x.invariant (take_all _ _ c.loop-x-test.false ∙ c.numbers-numbers.ensures)

@@ -5,4 +5,4 @@ use Rattle.text.specs.Appended.{Appended}
 use Rattle.text.proofs.report.put_cell_texts.Given as goal
 
 abbrev pub invariant-loop-cell : goal.invariant-loop-cell
-invariant-loop-cell l = Appended l.initial.out l.at (cell_texts (take l.cell-index l.cells)) l.out l.end
+invariant-loop-cell l = Appended l.initial.page (cell_texts (take l.cell-index l.cells)) l.page

@@ -4,7 +4,7 @@ use native.Mathlib.Omega.{arith}
 use Rattle.lingua.specs.Rows.{pair_count, groups}
 use Rattle.lingua.specs.Typing.{given_fit}
 use Rattle.safety.specs.Every.{Every}
-use Rattle.typing.specs.Check.{variable_bodies}
+use Rattle.typing.specs.Check.{variable_bodies, declared_bodies}
 use Rattle.typecheck.proofs.Scoping.{few_known}
 use Rattle.typecheck.proofs.Giving.{group_first, group_rest, fit_fails, fit_more, fit_all}
 use Rattle.typecheck.proofs.given.given_fit.Goals as goal
@@ -16,21 +16,12 @@ pub loop-m-init : goal.loop-m-init
 loop-m-init c =
     let a = c.args in
     let e : a.first + a.n - a.first ≡ a.n = omega arith in
-    (ap (λ (k : ℕ). given_fit (variable_bodies a.rows.now a.own.section) (groups k a.w) (variable_bodies a.rows.now a.parameters.section) a.first) e, subst (λ (k : ℕ). Every (λ i. i < pair_count a.rows.now a.own.section) (groups k a.w)) (sym e) c.requires.declared)
-
-pub variable_body-given-requires-clause-variables_known : goal.variable_body-given-requires-clause-variables_known
-variable_body-given-requires-clause-variables_known c = c.requires.known
+    (ap (λ (k : ℕ). given_fit (declared_bodies a.scope.now) (groups k a.w) (variable_bodies a.scope.now.rows.now a.parameters.section) a.first) e, subst (λ (k : ℕ). Every (λ i. i < pair_count a.scope.now.rows.now a.scope.now.variables.section) (groups k a.w)) (sym e) c.requires.declared)
 
 pub variable_body-given-requires-clause-n_bound : goal.variable_body-given-requires-clause-n_bound
 variable_body-given-requires-clause-n_bound c =
     let a = c.args in
     group_first _ (a.first + a.n - (c.loop-m.m + 1)) c.loop-m.rest (omega (arith, c.loop-m-test.true)) c.loop-m.invariant.1
-
-pub variable_body-wanted-requires-clause-variables_known : goal.variable_body-wanted-requires-clause-variables_known
-variable_body-wanted-requires-clause-variables_known c = c.requires.wanted
-
-pub variable_body-wanted-requires-clause-n_bound : goal.variable_body-wanted-requires-clause-n_bound
-variable_body-wanted-requires-clause-n_bound c = omega (arith, c.loop-m-test.true, c.requires.within)
 
 pub returns-then-not-same : goal.returns-then-not-same
 returns-then-not-same c =

@@ -1,26 +1,12 @@
 -- `typecheck::verdicts::check_assignment` meets its contract: its expression is judged by the variable's declared body. Assumes nothing.
 use mathlib.Core.Option.{some}
-use native.Mathlib.Omega.{arith}
 use Rattle.lingua.specs.Body.{boolean}
 use Rattle.lingua.specs.Typing.{check_instruction}
-use Rattle.typecheck.proofs.Settling.{none_holds, judges_by}
-use Rattle.typecheck.proofs.Scoping.{sees_known}
+use Rattle.typecheck.proofs.Settling.{none_holds, outside_asked, judges_by}
 use Rattle.typecheck.proofs.verdicts.check_assignment.Goals as goal
 
 pub check-x-requires : goal.check-x-requires
-check-x-requires c = record { sees = c.requires.value.sees; here = c.requires.value.here; reads = c.requires.value.reads; held = record { body = some boolean; holds = none_holds _ c.simple-none.ensures }; room = c.requires.value.room }
-
-pub variable_body-declared-requires-clause-variables_known : goal.variable_body-declared-requires-clause-variables_known
-variable_body-declared-requires-clause-variables_known c = (sees_known c.requires.value.sees)
-
-pub variable_body-declared-requires-clause-n_bound : goal.variable_body-declared-requires-clause-n_bound
-variable_body-declared-requires-clause-n_bound c = c.requires.declared
-
-pub overflow_add-own : goal.overflow_add-own
-overflow_add-own c = omega (arith, c.requires.few)
-
-pub overflow_cast-own : goal.overflow_cast-own
-overflow_cast-own c = omega (arith, c.requires.few)
+check-x-requires c = outside_asked _ c.requires.value c.simple-none.ensures
 
 pub returns : goal.returns
 unfolding check_instruction

@@ -3,11 +3,11 @@ use borrow.Author.Rules.{rules}
 use mathlib.Core.Option.{some}
 use Rattle.lingua.specs.Body.{boolean}
 use Rattle.lingua.specs.Typing.{check_test}
-use Rattle.typecheck.proofs.Settling.{none_holds, judges_by}
+use Rattle.typecheck.proofs.Settling.{none_holds, outside_asked, judges_by}
 use Rattle.typecheck.proofs.verdicts.check_test.Goals as goal
 
 pub check-x-requires : goal.check-x-requires
-check-x-requires c = record { sees = c.requires.sees; here = c.requires.here; reads = c.requires.reads; held = record { body = some boolean; holds = none_holds _ c.simple-none.ensures }; room = c.requires.room }
+check-x-requires c = outside_asked _ c.requires c.simple-none.ensures
 
 pub returns : goal.returns
 unfolding check_test

@@ -6,4 +6,4 @@ use Rattle.typecheck.proofs.Settling.{Done}
 use Rattle.typecheck.proofs.whole.check_declarations.Given as goal
 
 abbrev pub invariant-loop-d : goal.invariant-loop-d
-invariant-loop-d l = Done (λ d. declaration_check l.rows l.t.section d (l.first + d)) (pair_count l.rows l.t.section) l.d l.initial.layout l.layout
+invariant-loop-d l = Done (λ d. declaration_check l.own.rows.now l.t.section d (l.first + d)) (pair_count l.own.rows.now l.t.section) l.d l.initial.layout l.layout

@@ -13,15 +13,6 @@ returns-in_err-list c = λ b h.
     let e : c.in_err-list.field-0.0 ≡ None = grind arith in
     rw (p.1, p.2, e, current_none b (rw n at h)) (no_current c.args.row)
 
-pub own_rule-requires : goal.own_rule-requires
-own_rule-requires c = c.requires.row_bound
-
-pub unary_half-requires : goal.unary_half-requires
-unary_half-requires c =
-    let e : c.args.current ≡ Some c.in_ok-list.list = grind arith in
-    let d = current_some _ _ (rw e at c.requires.held.holds) in
-    record { body = d.0; holds = d.2 }
-
 pub returns-in_err-h : goal.returns-in_err-h
 unfolding unary_meaning
 returns-in_err-h c = λ b h.

@@ -12,12 +12,6 @@ returns-in_err-current c = λ vars b h.
     let e : c.in_err-current.field-0.0 ≡ None = grind arith in
     rw (p.1, p.2, e, current_none b (rw n at h)) (no_current_fails c.args.row vars)
 
-pub note_row-requires : goal.note_row-requires
-note_row-requires c =
-    let e : c.args.body ≡ Some c.in_ok-current.current = grind arith in
-    let d = current_some _ _ (rw e at c.requires.held.holds) in
-    record { held = record { body = d.0; holds = d.2 }; second_bound = omega arith; row_in_bounds = c.requires.row_in_bounds }
-
 pub returns : goal.returns
 returns c = λ vars b h.
     let e : c.args.body ≡ Some c.in_ok-current.current = grind arith in

@@ -5,111 +5,78 @@ use Rattle.profile.specs.Known.{row_known}
 use Rattle.profile.specs.Facts.{row_tree}
 use Rattle.lingua.specs.Outcome.{answer_of}
 use Rattle.lingua.specs.Typing.{elements_at}
-use Rattle.typing.proofs.Rows.{RowAsks, asks_at, tree_at, asked_below, asked_variables, asked_room, asked_small}
+use Rattle.typing.proofs.Rows.{RowAsks, asks_at, tree_at, asked_below, asked_room, asked_small}
 use Rattle.typing.proofs.Found.{own_fails, own_passes, gives_finds, elements_finds, both_found, inner_holds}
 use Rattle.typing.proofs.Returns.{constant_passes, variable_passes, unary_operand, unary_own, unary_passes, binary_operands, binary_own, binary_passes, lazy_operands, lazy_first_own, lazy_second_own, lazy_passes, choice_operands, choice_test_own, choice_own, choice_passes, all_list_operands, all_list_own, all_list_passes}
 use Rattle.typing.proofs.walk.+all_list_binary_check_choice_lazy_unary.Goals as goal
 
-pub check-expression_row-e-requires : goal.check-expression_row-e-requires
-check-expression_row-e-requires t c = record { table = c.requires.sees.expressions; r_lt_count = omega (arith, c.requires.here, c.requires.sees.expressions.count); known_expression = row_known _ c.requires.sees.accepted _ c.requires.here }
+pub check-expression_row-e-requires-clause-known_expression : goal.check-expression_row-e-requires-clause-known_expression
+check-expression_row-e-requires-clause-known_expression t c = row_known _ c.requires.sees.accepted _ c.requires.here
 
-pub check-constant_body-body-requires : goal.check-constant_body-body-requires
-check-constant_body-body-requires t c = record { table = c.requires.sees.expressions; r_lt_count = omega (arith, c.requires.here, c.requires.sees.expressions.count) }
+pub check-note_row-requires-clause-row_in_bounds : goal.check-note_row-requires-clause-row_in_bounds
+check-note_row-requires-clause-row_in_bounds t c = asked_room c.requires _ refl
 
-pub check-note_row-requires : goal.check-note_row-requires
-check-note_row-requires t c = record { held = record { body = _; holds = c.constant_body-body.ensures }; second_bound = omega arith; row_in_bounds = asked_room c.requires c.args.layout.now refl }
-
-pub check-variable_body-body-requires : goal.check-variable_body-body-requires
+pub check-variable_body-body-requires-clause-n_bound : goal.check-variable_body-body-requires-clause-n_bound
 unfolding RowAsks
-check-variable_body-body-requires t c = record { variables_known = asked_variables c.requires; n_bound = asks_at c.args.rows.now c.requires.sees.accepted c.args.row c.requires.here _ _ c.expression_row-e.ensures c.in-Variable.is c.args.scope c.requires.reads }
+check-variable_body-body-requires-clause-n_bound t c = asks_at c.requires _ _ c.expression_row-e.ensures c.in-Variable.is
 
-pub check-note_row-requires-in-Variable : goal.check-note_row-requires-in-Variable
-check-note_row-requires-in-Variable t c = record { held = record { body = _; holds = c.variable_body-body.ensures }; second_bound = omega arith; row_in_bounds = asked_room c.requires c.args.layout.now refl }
+pub check-note_row-requires-in-Variable-clause-row_in_bounds : goal.check-note_row-requires-in-Variable-clause-row_in_bounds
+check-note_row-requires-in-Variable-clause-row_in_bounds t c = asked_room c.requires _ refl
 
-pub check-note_current-requires : goal.check-note_current-requires
-check-note_current-requires t c = record { held = c.requires.held; row_in_bounds = asked_room c.requires c.args.layout.now refl }
+pub check-note_current-requires-clause-row_in_bounds : goal.check-note_current-requires-clause-row_in_bounds
+check-note_current-requires-clause-row_in_bounds t c = asked_room c.requires _ refl
 
 pub check-unary-requires : goal.check-unary-requires
 unfolding RowAsks
-check-unary-requires t c = (omega arith, (c.requires, asks_at c.args.rows.now c.requires.sees.accepted c.args.row c.requires.here _ _ c.expression_row-e.ensures c.in-Unary.is c.args.scope c.requires.reads))
+check-unary-requires t c = (omega arith, (c.requires, asks_at c.requires _ _ c.expression_row-e.ensures c.in-Unary.is))
 
 pub check-binary-requires : goal.check-binary-requires
 unfolding RowAsks
-check-binary-requires t c =
-    let b = asks_at c.args.rows.now c.requires.sees.accepted c.args.row c.requires.here _ _ c.expression_row-e.ensures c.in-Binary.is c.args.scope c.requires.reads in
-    (omega arith, (c.requires, b))
+check-binary-requires t c = (omega arith, (c.requires, asks_at c.requires _ _ c.expression_row-e.ensures c.in-Binary.is))
 
 pub check-lazy-requires : goal.check-lazy-requires
 unfolding RowAsks
-check-lazy-requires t c =
-    let b = asks_at c.args.rows.now c.requires.sees.accepted c.args.row c.requires.here _ _ c.expression_row-e.ensures c.in-Lazy.is c.args.scope c.requires.reads in
-    (omega arith, (c.requires, b))
+check-lazy-requires t c = (omega arith, (c.requires, asks_at c.requires _ _ c.expression_row-e.ensures c.in-Lazy.is))
 
 pub check-choice-requires : goal.check-choice-requires
 unfolding RowAsks
-check-choice-requires t c =
-    let b = asks_at c.args.rows.now c.requires.sees.accepted c.args.row c.requires.here _ _ c.expression_row-e.ensures c.in-Choice.is c.args.scope c.requires.reads in
-    (omega arith, (c.requires, b))
+check-choice-requires t c = (omega arith, (c.requires, asks_at c.requires _ _ c.expression_row-e.ensures c.in-Choice.is))
 
 pub check-all_list-requires : goal.check-all_list-requires
 unfolding RowAsks
-check-all_list-requires t c = (omega arith, (c.requires, asks_at c.args.rows.now c.requires.sees.accepted c.args.row c.requires.here _ _ c.expression_row-e.ensures c.in-AllList.is c.args.scope c.requires.reads))
+check-all_list-requires t c = (omega arith, (c.requires, asks_at c.requires _ _ c.expression_row-e.ensures c.in-AllList.is))
 
 pub check-returns-in-Constant : goal.check-returns-in-Constant
 unfolding row_tree
-check-returns-in-Constant t c = λ b h. rw (tree_at c.args.rows.now c.requires.sees.accepted c.args.row c.requires.here _ _ c.expression_row-e.ensures c.in-Constant.is) (constant_passes c.note_row.ensures _ _ _ c.constant_body-body.ensures)
+check-returns-in-Constant t c = λ b h. rw (tree_at c.requires _ _ c.expression_row-e.ensures c.in-Constant.is) (constant_passes c.note_row.ensures _ _ _ c.constant_body-body.ensures)
 
 pub check-returns-in-Variable : goal.check-returns-in-Variable
 unfolding row_tree
-check-returns-in-Variable t c = λ b h. rw (tree_at c.args.rows.now c.requires.sees.accepted c.args.row c.requires.here _ _ c.expression_row-e.ensures c.in-Variable.is) (variable_passes c.note_row-in-Variable.ensures _ _ _ c.variable_body-body.ensures)
+check-returns-in-Variable t c = λ b h. rw (tree_at c.requires _ _ c.expression_row-e.ensures c.in-Variable.is) (variable_passes c.note_row-in-Variable.ensures _ _ _ c.variable_body-body.ensures)
 
 pub check-returns-in-Current : goal.check-returns-in-Current
 unfolding row_tree
-check-returns-in-Current t c = λ b h. rw (tree_at c.args.rows.now c.requires.sees.accepted c.args.row c.requires.here _ _ c.expression_row-e.ensures c.in-Current.is) (c.note_current.ensures _ b h)
+check-returns-in-Current t c = λ b h. rw (tree_at c.requires _ _ c.expression_row-e.ensures c.in-Current.is) (c.note_current.ensures _ b h)
 
 pub check-returns-in-Unary : goal.check-returns-in-Unary
 unfolding row_tree
-check-returns-in-Unary t c = λ b h. rw (tree_at c.args.rows.now c.requires.sees.accepted c.args.row c.requires.here _ _ c.expression_row-e.ensures c.in-Unary.is) (c.unary.ensures b h)
+check-returns-in-Unary t c = λ b h. rw (tree_at c.requires _ _ c.expression_row-e.ensures c.in-Unary.is) (c.unary.ensures b h)
 
 pub check-returns-in-Binary : goal.check-returns-in-Binary
 unfolding row_tree
-check-returns-in-Binary t c = λ b h. rw (tree_at c.args.rows.now c.requires.sees.accepted c.args.row c.requires.here _ _ c.expression_row-e.ensures c.in-Binary.is) (c.binary.ensures b h)
+check-returns-in-Binary t c = λ b h. rw (tree_at c.requires _ _ c.expression_row-e.ensures c.in-Binary.is) (c.binary.ensures b h)
 
 pub check-returns-in-Lazy : goal.check-returns-in-Lazy
 unfolding row_tree
-check-returns-in-Lazy t c = λ b h. rw (tree_at c.args.rows.now c.requires.sees.accepted c.args.row c.requires.here _ _ c.expression_row-e.ensures c.in-Lazy.is) (c.lazy.ensures _ b h)
+check-returns-in-Lazy t c = λ b h. rw (tree_at c.requires _ _ c.expression_row-e.ensures c.in-Lazy.is) (c.lazy.ensures _ b h)
 
 pub check-returns-in-Choice : goal.check-returns-in-Choice
 unfolding row_tree
-check-returns-in-Choice t c = λ b h. rw (tree_at c.args.rows.now c.requires.sees.accepted c.args.row c.requires.here _ _ c.expression_row-e.ensures c.in-Choice.is) (c.choice.ensures b h)
+check-returns-in-Choice t c = λ b h. rw (tree_at c.requires _ _ c.expression_row-e.ensures c.in-Choice.is) (c.choice.ensures b h)
 
 pub check-returns-in-AllList : goal.check-returns-in-AllList
 unfolding row_tree
-check-returns-in-AllList t c = λ b h. rw (tree_at c.args.rows.now c.requires.sees.accepted c.args.row c.requires.here _ _ c.expression_row-e.ensures c.in-AllList.is) (c.all_list.ensures b h)
-
-pub unary-check-requires : goal.unary-check-requires
-unary-check-requires t c = (omega (arith, c.requires.asked, c.requires.operand.below), asked_below c.requires.asked _ c.requires.operand c.requires.asked.held refl)
-
-pub binary-check-x-requires : goal.binary-check-x-requires
-binary-check-x-requires t c = (omega (arith, c.requires.asked, c.requires.operand.0.below), asked_below c.requires.asked _ c.requires.operand.0 c.requires.asked.held refl)
-
-pub binary-check-y-requires : goal.binary-check-y-requires
-binary-check-y-requires t c = (omega (arith, c.requires.asked, c.requires.operand.1.below), asked_below c.requires.asked _ c.requires.operand.1 c.requires.asked.held c.check-x.auto.layout)
-
-pub choice-check-t-requires : goal.choice-check-t-requires
-choice-check-t-requires t c = (omega (arith, c.requires.asked, c.requires.operand.0.below), asked_below c.requires.asked _ c.requires.operand.0 c.requires.asked.held refl)
-
-pub choice-check-yes-requires : goal.choice-check-yes-requires
-choice-check-yes-requires t c = (omega (arith, c.requires.asked, c.requires.operand.1.0.below), asked_below c.requires.asked _ c.requires.operand.1.0 c.requires.asked.held c.check-t.auto.layout)
-
-pub choice-check-no-requires : goal.choice-check-no-requires
-choice-check-no-requires t c = (omega (arith, c.requires.asked, c.requires.operand.1.1.below), asked_below c.requires.asked _ c.requires.operand.1.1 c.requires.asked.held (c.check-yes.auto.layout ∙ c.check-t.auto.layout))
-
-pub lazy-check-x-requires : goal.lazy-check-x-requires
-lazy-check-x-requires t c = (omega (arith, c.requires.asked, c.requires.operand.0.below), asked_below c.requires.asked _ c.requires.operand.0 c.requires.asked.held refl)
-
-pub lazy-check-y-requires : goal.lazy-check-y-requires
-lazy-check-y-requires t c = (omega (arith, c.requires.asked, c.requires.operand.1.below), asked_below c.requires.asked _ c.requires.operand.1 c.requires.asked.held c.check-x.auto.layout)
+check-returns-in-AllList t c = λ b h. rw (tree_at c.requires _ _ c.expression_row-e.ensures c.in-AllList.is) (c.all_list.ensures b h)
 
 pub unary-returns-in_err-x : goal.unary-returns-in_err-x
 unary-returns-in_err-x t c = λ b h.
@@ -119,20 +86,14 @@ unary-returns-in_err-x t c = λ b h.
 pub unary-own_rule-requires : goal.unary-own_rule-requires
 unary-own_rule-requires t c = asked_small c.requires.asked
 
-pub unary-unary_half-requires : goal.unary-unary_half-requires
-unary-unary_half-requires t c = let g = c.in_ok-x.ensures _ c.requires.asked.held.holds in record { body = g.typed.body; holds = g.holds }
-
 pub unary-returns-in_err-h : goal.unary-returns-in_err-h
 unary-returns-in_err-h t c = λ b h.
     let p = err_from_is_err_and c.from_residual-in_err-h.result c.from_residual-in_err-h.ensures.1 in
     let g = c.in_ok-x.ensures b h in
     rw (p.1, p.2) (unary_own _ _ _ _ _ g _ (own_fails _ _ _ _ (c.unary_half.ensures g.typed.body g.holds) _ c.in_err-h.ensures))
 
-pub unary-note_row-requires : goal.unary-note_row-requires
-unary-note_row-requires t c =
-    let g = c.in_ok-x.ensures _ c.requires.asked.held.holds in
-    let q = own_passes _ _ _ _ (c.unary_half.ensures g.typed.body g.holds) _ c.in_ok-h.ensures in
-    record { held = record { body = q.body; holds = q.passes.holds }; second_bound = q.passes.small; row_in_bounds = asked_room c.requires.asked c.check.new.layout c.check.auto.layout }
+pub unary-note_row-requires-clause-row_in_bounds : goal.unary-note_row-requires-clause-row_in_bounds
+unary-note_row-requires-clause-row_in_bounds t c = asked_room c.requires.asked _ c.check.auto.layout
 
 pub unary-returns : goal.unary-returns
 unary-returns t c = λ b h.
@@ -149,12 +110,6 @@ binary-returns-in_err-left t c = λ d h.
 pub binary-own_rule-requires : goal.binary-own_rule-requires
 binary-own_rule-requires t c = asked_small c.requires.asked
 
-pub binary-binary_half-requires : goal.binary-binary_half-requires
-binary-binary_half-requires t c =
-    let p = rw c.in_ok-left.ensures.0 at (c.check-x.ensures _ c.requires.asked.held.holds) in
-    let q = rw c.in_ok-left.ensures.1 at (c.check-y.ensures _ c.requires.asked.held.holds) in
-    record { held = record { body = p.typed.body; holds = p.holds }; held_2 = record { body = q.typed.body; holds = q.holds } }
-
 pub binary-returns-in_err-h : goal.binary-returns-in_err-h
 binary-returns-in_err-h t c = λ d h.
     let r = err_from_is_err_and c.from_residual-in_err-h.result c.from_residual-in_err-h.ensures.1 in
@@ -168,7 +123,7 @@ binary-note_row-requires t c =
     let p = rw c.in_ok-left.ensures.0 at (c.check-x.ensures _ c.requires.asked.held.holds) in
     let q = rw c.in_ok-left.ensures.1 at (c.check-y.ensures _ c.requires.asked.held.holds) in
     let w = own_passes _ _ _ _ (c.binary_half.ensures _ _ p.holds q.holds) _ c.in_ok-h.ensures in
-    record { held = record { body = w.body; holds = w.passes.holds }; second_bound = w.passes.small; row_in_bounds = asked_room c.requires.asked c.check-y.new.layout (c.check-y.auto.layout ∙ c.check-x.auto.layout) }
+    record { held = record { body = w.body; holds = w.passes.holds }; second_bound = w.passes.small; row_in_bounds = asked_room c.requires.asked _ (c.check-y.auto.layout ∙ c.check-x.auto.layout) }
 
 pub binary-returns : goal.binary-returns
 binary-returns t c = λ d h.
@@ -202,10 +157,8 @@ lazy-returns-then-not-is_boolean-2 t c = λ k d h.
     rw c.fault-then-not-is_boolean-2.ensures
     (lazy_second_own _ _ _ _ _ p q (sym (c.is_boolean.ensures _ p.holds) ∙ c.if-not-is_boolean.false) k (sym (c.is_boolean-2.ensures _ q.holds) ∙ c.if-not-is_boolean-2.true))
 
-pub lazy-note_row-requires : goal.lazy-note_row-requires
-lazy-note_row-requires t c =
-    let q = rw c.in_ok-one.ensures.1 at (c.check-y.ensures _ c.requires.asked.held.holds) in
-    record { held = record { body = q.typed.body; holds = q.holds }; second_bound = omega arith; row_in_bounds = asked_room c.requires.asked c.check-y.new.layout (c.check-y.auto.layout ∙ c.check-x.auto.layout) }
+pub lazy-note_row-requires-clause-row_in_bounds : goal.lazy-note_row-requires-clause-row_in_bounds
+lazy-note_row-requires-clause-row_in_bounds t c = asked_room c.requires.asked _ (c.check-y.auto.layout ∙ c.check-x.auto.layout)
 
 pub lazy-returns : goal.lazy-returns
 lazy-returns t c = λ k d h.
@@ -244,11 +197,8 @@ choice-returns-then-not-same t c = λ d h.
     rw c.fault-then-not-same.ensures
     (choice_own _ _ _ _ _ _ a p q (sym (c.is_boolean.ensures _ a.holds) ∙ c.if-not-is_boolean.false) (sym (c.same.ensures _ _ p.holds q.holds) ∙ c.if-not-same.true))
 
-pub choice-note_row-requires : goal.choice-note_row-requires
-choice-note_row-requires t c =
-    let b = rw c.in_ok-test.ensures.1 at c.together.ensures in
-    let p = rw b.0 at (c.check-yes.ensures _ c.requires.asked.held.holds) in
-    record { held = record { body = p.typed.body; holds = p.holds }; second_bound = omega arith; row_in_bounds = asked_room c.requires.asked c.check-no.new.layout (c.check-no.auto.layout ∙ c.check-yes.auto.layout ∙ c.check-t.auto.layout) }
+pub choice-note_row-requires-clause-row_in_bounds : goal.choice-note_row-requires-clause-row_in_bounds
+choice-note_row-requires-clause-row_in_bounds t c = asked_room c.requires.asked _ (c.check-no.auto.layout ∙ c.check-yes.auto.layout ∙ c.check-t.auto.layout)
 
 pub choice-returns : goal.choice-returns
 choice-returns t c = λ d h.
@@ -258,8 +208,8 @@ choice-returns t c = λ d h.
     let q = rw b.1 at (c.check-no.ensures d h) in
     choice_passes _ _ _ _ _ _ a p q (sym (c.is_boolean.ensures _ a.holds) ∙ c.if-not-is_boolean.false) (sym (c.same.ensures _ _ p.holds q.holds) ∙ c.if-not-same.false) c.note_row.ensures
 
-pub all_list-elements-list-requires : goal.all_list-elements-list-requires
-all_list-elements-list-requires t c = record { held = c.requires.asked.held; row_bound = asked_small c.requires.asked }
+pub all_list-elements-list-requires-clause-row_bound : goal.all_list-elements-list-requires-clause-row_bound
+all_list-elements-list-requires-clause-row_bound t c = asked_small c.requires.asked
 
 pub all_list-check-x-requires : goal.all_list-check-x-requires
 all_list-check-x-requires t c =
@@ -284,17 +234,12 @@ all_list-returns-then-not-is_boolean t c = λ b h.
     let v = rw c.in_ok-inner.ensures.1 at w in
     rw c.fault.ensures (all_list_own _ _ _ _ p v (sym (c.is_boolean.ensures _ p.holds) ∙ c.if-not-is_boolean.true))
 
-pub all_list-measure_body-m-requires : goal.all_list-measure_body-m-requires
-all_list-measure_body-m-requires t c =
-    let v = rw c.in_ok-inner.ensures.1 at (c.elements-list.ensures _ c.requires.asked.held.holds) in
-    record { body = v.element; holds = v.holds }
-
 pub all_list-note_row-requires : goal.all_list-note_row-requires
 all_list-note_row-requires t c =
     let w = c.elements-list.ensures _ c.requires.asked.held.holds in
     let p = rw c.in_ok-inner.ensures.0 at (c.check-x.ensures _ (inner_holds _ _ _ w c.ok.ensures.value)) in
     let v = rw c.in_ok-inner.ensures.1 at w in
-    record { held = record { body = p.typed.body; holds = p.holds }; second_bound = omega (arith, (c.measure_body-m.ensures _ v.holds).is_cells, v.holds.few_cells); row_in_bounds = asked_room c.requires.asked c.check-x.new.layout c.check-x.auto.layout }
+    record { held = record { body = p.typed.body; holds = p.holds }; second_bound = omega (arith, (c.measure_body-m.ensures _ v.holds).is_cells, v.holds.few_cells); row_in_bounds = asked_room c.requires.asked _ c.check-x.auto.layout }
 
 pub all_list-returns : goal.all_list-returns
 all_list-returns t c = λ b h.
