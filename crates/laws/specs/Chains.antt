@@ -15,7 +15,7 @@ use Rattle.lingua.specs.Value.{all_of}
 module _ (p : ℕ → Bool) where
   -- the last number's test stands last
   more : (n a m : ℕ) → a + n ≡ m → list_all p (range_with_len a (suc n)) ≡ (list_all p (range_with_len a n) && p m)
-  more zero a m e = let h : a ≡ m = omega arith in rw (← h) (sym (and-true (p a)))
+  more zero a m e = let h : a ≡ m = omega arith in rw (← h) (and-true (p a))
   more (suc n) a m e =
       let h : (a + 1) + n ≡ m = omega arith in
       ap (λ (b : Bool). p a && b) (more n (a + 1) m h) ∙ sym (and_assoc (p a) (list_all p (range_with_len (a + 1) n)) (p m))
