@@ -44,10 +44,10 @@ pub fn binary_half(
     ensures { (b c : Body) → Holds x b → Holds y c → Half result (binary_body (binary_meaning o) b c) (λ d. binary_second (binary_meaning o) b c d) }
 {
     match o {
-        BinaryOperation::Add => reckoned(x, y),
-        BinaryOperation::Subtract => reckoned(x, y),
-        BinaryOperation::Multiply => reckoned(x, y),
-        BinaryOperation::Divide => reckoned(x, y),
+        BinaryOperation::Add
+        | BinaryOperation::Subtract
+        | BinaryOperation::Multiply
+        | BinaryOperation::Divide => reckoned(x, y),
         BinaryOperation::Less => compared(x, y),
         BinaryOperation::Equal => equal(x, y),
         BinaryOperation::Glue => glue(x, y),
@@ -77,10 +77,10 @@ pub fn simple_binary(o: BinaryOperation, x: [u8; BODY_BYTES], y: [u8; BODY_BYTES
     let a = x[0];
     let b = y[0];
     match o {
-        BinaryOperation::Add => when_both(NUMBER, a, b, NUMBER),
-        BinaryOperation::Subtract => when_both(NUMBER, a, b, NUMBER),
-        BinaryOperation::Multiply => when_both(NUMBER, a, b, NUMBER),
-        BinaryOperation::Divide => when_both(NUMBER, a, b, NUMBER),
+        BinaryOperation::Add
+        | BinaryOperation::Subtract
+        | BinaryOperation::Multiply
+        | BinaryOperation::Divide => when_both(NUMBER, a, b, NUMBER),
         BinaryOperation::Less => when_both(NUMBER, a, b, BOOLEAN),
         BinaryOperation::Equal => when_like(a, b),
         BinaryOperation::Glue => when_both(WORD, a, b, WORD),

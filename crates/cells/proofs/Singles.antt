@@ -4,12 +4,14 @@ use mathlib.Core.Bool.{Bool, true, false, not}
 use mathlib.Core.List.{List, [], ◌∷◌}
 use Prim.Native.Nat.{ℕ, ◌+◌, ◌^◌, ◌<◌}
 use native.Mathlib.Omega.{arith}
+use lib.Dec.{eqb}
 use lib.ListN.{length, take, drop, set, get_or}
 use lib.Seq.{get_or-take, get_or-drop}
 use lib.IntN.{ℤ, pos}
 use lib.Signed.{mag, lt_z}
 use mir.Syntax.{w64}
-use mir.Val.{to_z, of_z, hbits}
+use borrow.Author.Tests.{eqb-true, eq-eqb}
+use mir.Val.{to_z, of_z, hbits, bool_byte}
 use mir.ValLaws.{to_z-of_z}
 use Rattle.lingua.specs.Outcome.{ok}
 use Rattle.lingua.specs.Body.{Body, boolean, number, word, hundredths, list_of, record_of, size, is_simple, is_boolean, is_number, is_word, is_hundredths, is_quantity}
@@ -130,13 +132,25 @@ other_cell : (z : ℤ) (t : Bool) → z ≡ bit t → (of_z w64 z ≡ 0 → ⊥)
 other_cell z true e f = refl
 other_cell z false e f = absurd (f (ap (λ (y : ℤ). of_z w64 y) e))
 
-pub negate_zero : (s : List ℤ) (x : Value) → 0 < length s → Lies s 0 boolean x → of_z w64 (get_or s 0 (pos 0)) ≡ 0 → Holds (set s 0 (pos 1)) boolean (unary_value negation x)
+negate_zero : (s : List ℤ) (x : Value) → 0 < length s → Lies s 0 boolean x → of_z w64 (get_or s 0 (pos 0)) ≡ 0 → Holds (set s 0 (pos 1)) boolean (unary_value negation x)
 unfolding unary_value
 negate_zero s x h k e = negated s (as_truth x) (pos 1) h (zero_cell (get_or s 0 (pos 0)) (as_truth x) (boolean_cell k) e)
 
-pub negate_other : (s : List ℤ) (x : Value) → 0 < length s → Lies s 0 boolean x → (of_z w64 (get_or s 0 (pos 0)) ≡ 0 → ⊥) → Holds (set s 0 (pos 0)) boolean (unary_value negation x)
+negate_other : (s : List ℤ) (x : Value) → 0 < length s → Lies s 0 boolean x → (of_z w64 (get_or s 0 (pos 0)) ≡ 0 → ⊥) → Holds (set s 0 (pos 0)) boolean (unary_value negation x)
 unfolding unary_value
 negate_other s x h k e = negated s (as_truth x) (pos 0) h (other_cell (get_or s 0 (pos 0)) (as_truth x) (boolean_cell k) e)
+
+-- ---- a truth value's cell
+pub bit_byte : (t : Bool) → pos (bool_byte t) ≡ bit t
+bit_byte true = refl
+bit_byte false = refl
+
+pub negate_law : (s : List ℤ) (x : Value) (z : ℤ) → 0 < length s → Lies s 0 boolean x → z ≡ pos (bool_byte (eqb (of_z w64 (get_or s 0 (pos 0))) 0)) → Holds (set s 0 z) boolean (unary_value negation x)
+negate_law s x z h k e = go (eqb (of_z w64 (get_or s 0 (pos 0))) 0) refl e
+  where
+    go : (t : Bool) → eqb (of_z w64 (get_or s 0 (pos 0))) 0 ≡ t → z ≡ pos (bool_byte t) → Holds (set s 0 z) boolean (unary_value negation x)
+    go true q f = rw f (negate_zero s x h k (eqb-true _ _ q))
+    go false q f = rw f (negate_other s x h k (λ w. false_is_true (sym q ∙ eq-eqb _ _ w)))
 
 -- ---- less
 pub less_law : (s : List ℤ) (b : Body) (x y : Value) (t : Bool) (z : ℤ) → 0 < length s → is_quantity b ≡ true → Lies s 0 b x → Lies s 64 b y
@@ -153,14 +167,14 @@ equal_is : (s : List ℤ) (x y : Value) (t : Bool) (z : ℤ) → 0 < length s �
 unfolding binary_value
 equal_is s x y t z h e f = record { value = truth (same_value x y); is = refl; lies = put_truth s (same_value x y) z h (f ∙ ap bit (sym e)) }
 
-pub equal_yes : (s : List ℤ) (b : Body) (x y : Value) → 0 < length s → is_simple b ≡ true → Lies s 0 b x → Lies s 64 b y
+equal_yes : (s : List ℤ) (b : Body) (x y : Value) → 0 < length s → is_simple b ≡ true → Lies s 0 b x → Lies s 64 b y
     → mag (get_or s 0 (pos 0)) < 2 ^ hbits w64 → mag (get_or s 64 (pos 0)) < 2 ^ hbits w64
     → of_z w64 (get_or s 0 (pos 0)) ≡ of_z w64 (get_or s 64 (pos 0)) → Holds (set s 0 (pos 1)) boolean (binary_value equal x y)
 equal_yes s b x y h i k l m n e =
     let c : cells_of b x ≡ cells_of b y = simple_cell i k ∙ ap (λ (z : ℤ). z ∷ []) (bits_same (get_or s 0 (pos 0)) (get_or s 64 (pos 0)) m n e) ∙ sym (simple_cell i l) in
     equal_is s x y true (pos 1) h (ap (λ (v : Value). same_value x v) (sym (determined k.fit l.fit c)) ∙ value_same i k.fit) refl
 
-pub equal_no : (s : List ℤ) (b : Body) (x y : Value) → 0 < length s → is_simple b ≡ true → Lies s 0 b x → Lies s 64 b y
+equal_no : (s : List ℤ) (b : Body) (x y : Value) → 0 < length s → is_simple b ≡ true → Lies s 0 b x → Lies s 64 b y
     → (of_z w64 (get_or s 0 (pos 0)) ≡ of_z w64 (get_or s 64 (pos 0)) → ⊥) → Holds (set s 0 (pos 0)) boolean (binary_value equal x y)
 equal_no s b x y h i k l f = equal_is s x y false (pos 0) h (go (same_value x y) refl) refl
   where
@@ -172,6 +186,15 @@ equal_no s b x y h i k l f = equal_is s x y false (pos 0) h (go (same_value x y)
     go : (t : Bool) → same_value x y ≡ t → t ≡ false
     go true e = absurd (apart e)
     go false e = refl
+
+pub equal_law : (s : List ℤ) (b : Body) (x y : Value) (z : ℤ) → 0 < length s → is_simple b ≡ true → Lies s 0 b x → Lies s 64 b y
+    → mag (get_or s 0 (pos 0)) < 2 ^ hbits w64 → mag (get_or s 64 (pos 0)) < 2 ^ hbits w64
+    → z ≡ pos (bool_byte (eqb (of_z w64 (get_or s 0 (pos 0))) (of_z w64 (get_or s 64 (pos 0))))) → Holds (set s 0 z) boolean (binary_value equal x y)
+equal_law s b x y z h i k l m n e = go (eqb (of_z w64 (get_or s 0 (pos 0))) (of_z w64 (get_or s 64 (pos 0)))) refl e
+  where
+    go : (t : Bool) → eqb (of_z w64 (get_or s 0 (pos 0))) (of_z w64 (get_or s 64 (pos 0))) ≡ t → z ≡ pos (bool_byte t) → Holds (set s 0 z) boolean (binary_value equal x y)
+    go true q f = rw f (equal_yes s b x y h i k l m n (eqb-true _ _ q))
+    go false q f = rw f (equal_no s b x y h i k l (λ w. false_is_true (sym q ∙ eq-eqb _ _ w)))
 
 -- ---- conversions
 pub converted : (h : Bool) (s : List ℤ) (z : ℤ) → 0 < length s → in_range_of h z ≡ true → Holds (set s 0 z) (quantity_body h) (ok (quantity h z))

@@ -14,11 +14,7 @@ pub fn negate(stack: &mut [i64])
     ensures { (x : Value) → Lies stack.old first_place boolean x → Holds stack.new boolean (unary_value negation x) }
 {
     let cell = stack[0];
-    if cell == 0 {
-        stack[0] = 1;
-    } else {
-        stack[0] = 0;
-    }
+    stack[0] = i64::from(cell == 0);
 }
 
 pub fn to_hundredths(stack: &mut [i64])
@@ -49,11 +45,7 @@ pub fn less(stack: &mut [i64])
 {
     let first = stack[0];
     let second = stack[BODY_CELLS];
-    if first < second {
-        stack[0] = 1;
-    } else {
-        stack[0] = 0;
-    }
+    stack[0] = i64::from(first < second);
 }
 
 // Two values of one simple body are equal exactly where their cells are.
@@ -64,9 +56,5 @@ pub fn equal(stack: &mut [i64])
 {
     let first = stack[0];
     let second = stack[BODY_CELLS];
-    if first == second {
-        stack[0] = 1;
-    } else {
-        stack[0] = 0;
-    }
+    stack[0] = i64::from(first == second);
 }

@@ -1,5 +1,6 @@
 -- What a chain of iterators over a range or a slice answers, in the words of the definitions. Assumes nothing.
 use Rattle.std.proofs.Common.{◌≡◌, refl, sym, ap, ℕ, zero, suc, ◌+◌, ◌-◌, Bool, true, false, ◌&&◌, List, [], ◌∷◌, Option, arith, ◌∙◌}
+use Rattle.std.proofs.Math.Bool.{and-true, and_assoc}
 use Rattle.std.specs.Fn.{Called}
 use Rattle.std.specs.Iterator.{YieldsThen}
 use Rattle.std.specs.List.{list_all, range_with_len, FoldsTo}
@@ -11,18 +12,10 @@ use denote.Param.Members.{Mut}
 use Rattle.lingua.specs.Format.{every_below}
 use Rattle.lingua.specs.Value.{all_of}
 
-and_true : (b : Bool) → b ≡ (b && true)
-and_true true = refl
-and_true false = refl
-
-and_assoc : (a b c : Bool) → ((a && b) && c) ≡ (a && (b && c))
-and_assoc true b c = refl
-and_assoc false b c = refl
-
 module _ (p : ℕ → Bool) where
   -- the last number's test stands last
   more : (n a m : ℕ) → a + n ≡ m → list_all p (range_with_len a (suc n)) ≡ (list_all p (range_with_len a n) && p m)
-  more zero a m e = let h : a ≡ m = omega arith in rw (← h) (sym (and_true (p a)))
+  more zero a m e = let h : a ≡ m = omega arith in rw (← h) (and-true (p a))
   more (suc n) a m e =
       let h : (a + 1) + n ≡ m = omega arith in
       ap (λ (b : Bool). p a && b) (more n (a + 1) m h) ∙ sym (and_assoc (p a) (list_all p (range_with_len (a + 1) n)) (p m))

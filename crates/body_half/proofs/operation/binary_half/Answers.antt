@@ -1,3 +1,4 @@
+use mathlib.Core.Logic.{⊎_elim}
 use Rattle.lingua.specs.Operation.{add, subtract, multiply, divide, less, equal, glue, expand, change, push, binary_body}
 use Rattle.lingua.specs.Operations.{binary_meaning}
 use Rattle.body.specs.Typed.{binary_offset}
@@ -6,19 +7,9 @@ use Rattle.body_half.proofs.operation.binary_half.Goals as goal
 
 pub returns-in-Add : goal.returns-in-Add
 unfolding binary_meaning binary_offset binary_body
-returns-in-Add c = λ b d h k. rw c.in-Add.is (binary_is _ (add) b d (c.reckoned.ensures b d h k))
-
-pub returns-in-Subtract : goal.returns-in-Subtract
-unfolding binary_meaning binary_offset binary_body
-returns-in-Subtract c = λ b d h k. rw c.in-Subtract.is (binary_is _ (subtract) b d (c.reckoned-in-Subtract.ensures b d h k))
-
-pub returns-in-Multiply : goal.returns-in-Multiply
-unfolding binary_meaning binary_offset binary_body
-returns-in-Multiply c = λ b d h k. rw c.in-Multiply.is (binary_is _ (multiply) b d (c.reckoned-in-Multiply.ensures b d h k))
-
-pub returns-in-Divide : goal.returns-in-Divide
-unfolding binary_meaning binary_offset binary_body
-returns-in-Divide c = λ b d h k. rw c.in-Divide.is (binary_is _ (divide) b d (c.reckoned-in-Divide.ensures b d h k))
+returns-in-Add c = λ b d h k.
+    let reckons = c.reckoned.ensures b d h k in
+    ⊎_elim (λ e. rw e (binary_is _ add b d reckons)) (⊎_elim (λ e. rw e (binary_is _ subtract b d reckons)) (⊎_elim (λ e. rw e (binary_is _ multiply b d reckons)) (λ e. rw e (binary_is _ divide b d reckons)))) c.in-Add.is
 
 pub returns-in-Less : goal.returns-in-Less
 unfolding binary_meaning binary_offset binary_body

@@ -1,4 +1,5 @@
 -- `body_half::operation::simple_binary` meets its contract: two first bytes give the tag. Assumes nothing.
+use mathlib.Core.Logic.{⊎_elim}
 use Rattle.lingua.specs.Operation.{add, subtract, multiply, divide, less}
 use Rattle.lingua.specs.Operations.{binary_meaning}
 use Rattle.body_half.proofs.Simple.{add_gives, subtract_gives, multiply_gives, divide_gives, less_gives, numbers_simple, equal_simple, glue_simple}
@@ -6,23 +7,9 @@ use Rattle.body_half.proofs.operation.simple_binary.Goals as goal
 
 pub returns-in-Add : goal.returns-in-Add
 unfolding binary_meaning
-returns-in-Add c = λ b d h k. rw c.in-Add.is
-    (numbers_simple c.args.x c.args.y b d h k c.when_both.result add 2 add_gives c.when_both.ensures)
-
-pub returns-in-Subtract : goal.returns-in-Subtract
-unfolding binary_meaning
-returns-in-Subtract c = λ b d h k. rw c.in-Subtract.is
-    (numbers_simple c.args.x c.args.y b d h k c.when_both-in-Subtract.result subtract 2 subtract_gives c.when_both-in-Subtract.ensures)
-
-pub returns-in-Multiply : goal.returns-in-Multiply
-unfolding binary_meaning
-returns-in-Multiply c = λ b d h k. rw c.in-Multiply.is
-    (numbers_simple c.args.x c.args.y b d h k c.when_both-in-Multiply.result multiply 2 multiply_gives c.when_both-in-Multiply.ensures)
-
-pub returns-in-Divide : goal.returns-in-Divide
-unfolding binary_meaning
-returns-in-Divide c = λ b d h k. rw c.in-Divide.is
-    (numbers_simple c.args.x c.args.y b d h k c.when_both-in-Divide.result divide 2 divide_gives c.when_both-in-Divide.ensures)
+returns-in-Add c = λ b d h k.
+    let simple = numbers_simple c.args.x c.args.y b d h k c.when_both.result in
+    ⊎_elim (λ e. rw e (simple add 2 add_gives c.when_both.ensures)) (⊎_elim (λ e. rw e (simple subtract 2 subtract_gives c.when_both.ensures)) (⊎_elim (λ e. rw e (simple multiply 2 multiply_gives c.when_both.ensures)) (λ e. rw e (simple divide 2 divide_gives c.when_both.ensures)))) c.in-Add.is
 
 pub returns-in-Less : goal.returns-in-Less
 unfolding binary_meaning

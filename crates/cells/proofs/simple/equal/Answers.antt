@@ -1,10 +1,10 @@
--- `equal` meets its contract, by `equal_yes` and `equal_no`. Assumes nothing.
+-- `equal` meets its contract, by `equal_law`. Assumes nothing.
+use mathlib.Core.Path.{◌∙◌}
+use mir.Syntax.{w64}
+use mir.ValLaws.{to_z-of_z}
 use native.Mathlib.Omega.{arith}
-use Rattle.cells.proofs.Singles.{equal_yes, equal_no}
+use Rattle.cells.proofs.Singles.{equal_law}
 use Rattle.cells.proofs.simple.equal.Goals as goal
 
-pub returns-then-first-second : goal.returns-then-first-second
-returns-then-first-second c = λ b x y i h k. equal_yes c.args.stack.now b x y (omega arith) i h k c.first-1.given c.second-1.given c.if-first-second.true
-
-pub returns-else-first-second : goal.returns-else-first-second
-returns-else-first-second c = λ b x y i h k. equal_no c.args.stack.now b x y (omega arith) i h k c.if-first-second.false
+pub returns : goal.returns
+returns c = λ b x y i h k. equal_law c.args.stack.now b x y _ (omega arith) i h k c.first-1.given c.second-1.given (to_z-of_z w64 c.from.result (record { sfits = c.from.type_inv }) ∙ c.from.ensures)

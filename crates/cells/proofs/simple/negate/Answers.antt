@@ -1,9 +1,9 @@
--- `negate` meets its contract, by `negate_zero` and `negate_other`. Assumes nothing.
-use Rattle.cells.proofs.Singles.{negate_zero, negate_other}
+-- `negate` meets its contract, by `negate_law`. Assumes nothing.
+use mathlib.Core.Path.{◌∙◌}
+use mir.Syntax.{w64}
+use mir.ValLaws.{to_z-of_z}
+use Rattle.cells.proofs.Singles.{negate_law}
 use Rattle.cells.proofs.simple.negate.Goals as goal
 
-pub returns-then-cell-eq0 : goal.returns-then-cell-eq0
-returns-then-cell-eq0 c = λ x h. negate_zero c.args.stack.now x c.requires h c.if-cell-eq0.true
-
-pub returns-else-cell-eq0 : goal.returns-else-cell-eq0
-returns-else-cell-eq0 c = λ x h. negate_other c.args.stack.now x c.requires h c.if-cell-eq0.false
+pub returns : goal.returns
+returns c = λ x h. negate_law c.args.stack.now x _ c.requires h (to_z-of_z w64 c.from.result (record { sfits = c.from.type_inv }) ∙ c.from.ensures)
