@@ -5,8 +5,7 @@ use Rattle.lingua.specs.Numbers.{expression_section}
 use Rattle.lingua.specs.Rows.{table_count, ExpressionRow, constant_row, variable_row, current_row, unary_row, binary_row, lazy_row, choice_row, all_list_row, unknown_expression}
 use Rattle.lingua.specs.Trees.{expression_tree}
 use Rattle.lingua.specs.References.{reads_variable, reads_current, reference_wrong}
-use Rattle.decoder.specs.Tables.{AreTables, Sized, OldSized}
-use Rattle.decoder.specs.declared.tables.Tables.{Tables}
+use Rattle.decoder.specs.Tables.{Sized}
 
 -- whether an expression reads a variable, or else the current value
 unfoldable pub reads : Bool → Expression → Bool
@@ -20,12 +19,6 @@ Marked rows variable n marks = (r : ℕ) → r < n → get_or marks r false ≡ 
 -- what rules 7 and 10 have shown when places are asked, and marks of all expression rows
 pub record PlacesMarked (rows : List ℕ) (variable : Bool) (marks : List Bool) : Type 0 where
   pub sized : Sized rows
-  pub references : reference_wrong rows ≡ false
-  pub marked : Marked rows variable (table_count rows expression_section) marks
-
-pub record OldPlacesMarked (rows : List ℕ) (t : Tables) (variable : Bool) (marks : List Bool) : Type 0 where
-  pub tables : AreTables rows t
-  pub sized : OldSized t
   pub references : reference_wrong rows ≡ false
   pub marked : Marked rows variable (table_count rows expression_section) marks
 

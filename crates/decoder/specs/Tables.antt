@@ -37,20 +37,6 @@ pub record Sized (rows : List ℕ) : Type 0 where
   pub instructions : table_count rows instruction_section ≤ most_instructions
   pub procedures : procedure_count rows ≤ most_procedures
 
--- of tables
-pub record OldSized (t : Tables) : Type 0 where
-  pub declarations : t.declarations.count / 2 ≤ most_variables
-  pub types : t.types.count ≤ most_types
-  pub expressions : t.expressions.count ≤ most_expressions
-  pub some_instruction : 1 ≤ t.instructions.count
-  pub instructions : t.instructions.count ≤ most_instructions
-  pub procedures : t.procedures.count ≤ most_procedures
-
-pub record Described (t : Tables) : Type 0 where
-  pub rows : List ℕ
-  pub tables : AreTables rows t
-  pub few : t.procedures.count ≤ most_procedures
-
 -- the fields of the row that begins procedure k
 pub record IsProcedure (rows : List ℕ) (k : ℕ) (p : Procedure) : Type 0 where
   pub body : p.body ≡ body_row rows k

@@ -1,5 +1,6 @@
 // What a row says: the one place that knows kinds. For each table of rows a kind has, as in the definitions, how many of a row's
-// eight bytes it uses and what the row says; any other kind is unknown, and rule 6 refuses it.
+// eight bytes it uses and what the row says; any other kind is unknown, and rule 6 refuses it. What a row names it names by a row's number,
+// as the files do: rows stay where they were handed in, and no tree is built in memory, which is fixed.
 ghost use Rattle.std.specs.Prelude.{◌≡◌, ◌+◌, ◌*◌, ◌≤◌, min, length};
 ghost use Rattle.decoder.specs.Decoded.{TypeSays, ExpressionSays, InstructionSays};
 

@@ -5,6 +5,5 @@ pub mod decode; // decode.rt: what a row says, by its kind
 pub mod fields; // fields.rt: a row's fields
 pub mod groups; // groups.rt: the groups of bits in a call's fields
 pub mod mentions; // mentions.rt: what a row mentions by number
-pub mod procedures; // procedures.rt: a procedure's first row, and its variables
 pub mod rows; // rows.rt: rows with where their tables stand
 pub mod tables; // tables.rt: where each table's rows stand, found in one pass

@@ -1,19 +1,14 @@
 // What a row mentions by number, by what it says: attributes, rows, variables and errors.
-ghost use Rattle.std.specs.Prelude.{◌≡◌, ◌&&◌, List, [], ◌∷◌, ℕ, ◌+◌, ◌<◌, leb, ltb};
-ghost use Rattle.lingua.specs.Numbers.{type_section, expression_section, instruction_section};
+ghost use Rattle.std.specs.Prelude.{◌≡◌, ◌&&◌, List, ℕ, leb, ltb};
 ghost use Rattle.lingua.specs.Value.{all_of};
 ghost use Rattle.lingua.specs.Operations.{unary_meaning, binary_meaning};
-ghost use Rattle.lingua.specs.Rows.{type_row, expression_row, instruction_row, operands, parts, evaluated, yoke_root, yoke_set};
+ghost use Rattle.lingua.specs.Rows.{operands, parts, evaluated, yoke_root, yoke_set};
 ghost use Rattle.lingua.specs.Rules.{unary_attribute, binary_attribute, type_attributes, expression_attributes, handled_errors};
 ghost use Rattle.lingua.specs.References.{type_parts, expression_variables, instruction_variables};
-ghost use Rattle.decoder.specs.Tables.{IsTable};
-ghost use Rattle.decoder.specs.Mentions.{listed, mentioned_by, TypeAlike, ExpressionAlike, InstructionAlike};
+ghost use Rattle.decoder.specs.Mentions.{listed, mentioned_by};
 ghost use Rattle.decoder.specs.Decoded.{type_meaning, expression_meaning, instruction_meaning};
 
-use crate::decode::{
-    ExpressionRow, InstructionRow, Simple, TypeRow, expression_at, instruction_at, type_at,
-};
-use crate::tables::Table;
+use crate::decode::{ExpressionRow, InstructionRow, TypeRow};
 use lingua::operations::{BinaryOperation, UnaryOperation};
 
 // At most three numbers.
@@ -35,41 +30,6 @@ impl UpToThree {
             UpToThree::Two(numbers) => numbers,
             UpToThree::Three(numbers) => numbers,
         }
-    }
-}
-
-// Row r of a table. What rule 6 refuses as unknown names nothing, and is taken for a row that names nothing.
-pub fn type_in(rows: &[u8], t: Table, r: usize) -> TypeRow
-    requires table { IsTable rows.now type_section t }
-    requires r_lt_count { r < t.count }
-    ensures { TypeAlike result (type_row rows.now r) }
-{
-    match type_at(rows, t.start + r) {
-        Some((_, row)) => row,
-        None => TypeRow::Simple(Simple::Boolean),
-    }
-}
-
-// Attributes as the decoded row has them: those in range are the row's, and the others are out of range.
-pub fn expression_in(rows: &[u8], t: Table, r: usize) -> ExpressionRow
-    requires table { IsTable rows.now expression_section t }
-    requires r_lt_count { r < t.count }
-    ensures { ExpressionAlike rows.now (t.start + r) result (expression_row rows.now r) }
-{
-    match expression_at(rows, t.start + r) {
-        Some((_, row)) => row,
-        None => ExpressionRow::Constant(Simple::Boolean),
-    }
-}
-
-pub fn instruction_in(rows: &[u8], t: Table, r: usize) -> InstructionRow
-    requires table { IsTable rows.now instruction_section t }
-    requires r_lt_count { r < t.count }
-    ensures { InstructionAlike result (instruction_row rows.now r) }
-{
-    match instruction_at(rows, t.start + r) {
-        Some((_, row)) => row,
-        None => InstructionRow::Skip,
     }
 }
 

@@ -19,7 +19,8 @@ pub struct Table {
     pub count: usize,
 }
 
-// How many procedures there are, and where each begins; behind the last its end.
+// How many procedures there are, and where each begins; behind the last its end. Eight at most are looked into, in fixed memory, as all memory
+// here is: the count may be higher, until rule 7 refuses it.
 #[derive(Clone, Copy)]
 pub struct Procedures {
     pub count: usize,
@@ -159,12 +160,4 @@ pub fn tables_of(rows: &[u8]) -> Tables
         limits: limits,
         procedures: procedures,
     }
-}
-
-// The tables of no rows.
-pub fn no_tables() -> Tables
-    ensures { AreTables [] result }
-{
-    let none = [0u8; 0];
-    tables_of(&none)
 }
