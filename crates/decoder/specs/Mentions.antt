@@ -7,8 +7,6 @@ use Rattle.decoder.specs.Decoded.{type_meaning, expression_meaning, instruction_
 use Rattle.decoder.specs.Reads.{reads_row}
 use Rattle.decoder.specs.declared.mentions.UpToThree.{UpToThree}
 use Rattle.decoder.specs.declared.mentions.UpToThree.TheVariants as up_to
-use Rattle.decoder.specs.declared.mentions.Mention.{Mention}
-use Rattle.decoder.specs.declared.mentions.Mention.TheVariants as mention
 use Rattle.decoder.specs.declared.decode.TypeRow.{TypeRow as CodeType}
 use Rattle.decoder.specs.declared.decode.ExpressionRow.{ExpressionRow as CodeRow}
 use Rattle.decoder.specs.declared.decode.InstructionRow.{InstructionRow as CodeInstruction}
@@ -18,12 +16,6 @@ listed up_to.None = []
 listed (up_to.One xs) = xs
 listed (up_to.Two xs) = xs
 listed (up_to.Three xs) = xs
-
--- the rows that an instruction row mentions, in one of three ways
-unfoldable pub mentioned_by : Mention → InstructionRow → List ℕ
-mentioned_by mention.Yoke row = yoke_set row
-mentioned_by mention.Evaluated row = evaluated row
-mentioned_by mention.Part row = parts row
 
 pub record TypeAlike (row : CodeType) (x : TypeRow) : Type 0 where
   pub attributes : type_attributes (type_meaning row) ≡ type_attributes x

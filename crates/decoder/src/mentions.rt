@@ -5,7 +5,7 @@ ghost use Rattle.lingua.specs.Operations.{unary_meaning, binary_meaning};
 ghost use Rattle.lingua.specs.Rows.{operands, parts, evaluated, yoke_root, yoke_set};
 ghost use Rattle.lingua.specs.Rules.{unary_attribute, binary_attribute, type_attributes, expression_attributes, handled_errors};
 ghost use Rattle.lingua.specs.References.{type_parts, expression_variables, instruction_variables};
-ghost use Rattle.decoder.specs.Mentions.{listed, mentioned_by};
+ghost use Rattle.decoder.specs.Mentions.{listed};
 ghost use Rattle.decoder.specs.Decoded.{type_meaning, expression_meaning, instruction_meaning};
 
 use crate::decode::{ExpressionRow, InstructionRow, TypeRow};
@@ -166,24 +166,6 @@ pub fn yoke_set(row: InstructionRow) -> UpToThree
     match row {
         InstructionRow::SetYoke(_, y) => yoke_root(y),
         _ => UpToThree::None,
-    }
-}
-
-// Rows that an instruction row mentions: of a yoke that it sets, of what it evaluates, or of its parts.
-#[derive(Clone, Copy)]
-pub enum Mention {
-    Yoke,
-    Evaluated,
-    Part,
-}
-
-pub fn mentioned(row: InstructionRow, what: Mention) -> UpToThree
-    ensures { listed result ≡ mentioned_by what (instruction_meaning row) }
-{
-    match what {
-        Mention::Yoke => yoke_set(row),
-        Mention::Evaluated => evaluated(row),
-        Mention::Part => parts(row),
     }
 }
 

@@ -6,8 +6,8 @@ use Prim.Native.Nat.{ℕ, ◌+◌, ◌/◌, ◌≤◌, ◌<◌, min}
 use native.Mathlib.Omega.{arith}
 use lib.Dec.{eqb, ltb, leb}
 use borrow.Author.Tests.{ltb-true, le-leb, lt-leb, eq-eqb, ne_eqb}
-use Rattle.lingua.specs.Numbers.{most_parameters, most_variables, variable_table}
-use Rattle.lingua.specs.Rows.{pair_count, value_count, reference_count, groups, instruction_row}
+use Rattle.lingua.specs.Numbers.{most_parameters, most_variables, most_procedures, instruction_section, variable_table}
+use Rattle.lingua.specs.Rows.{table_count, pair_count, procedure_count, value_count, reference_count, groups, instruction_row, InstructionRow as Row}
 use Rattle.lingua.specs.Trees.{given_values, given_references}
 use Rattle.lingua.specs.References.{all_below, on_call, parameters_fit, bits_above, all_different}
 use Rattle.decoder.specs.Tables.{IsTable, IsProcedure}
@@ -17,7 +17,6 @@ use Rattle.decoder.specs.declared.decode.InstructionRow.{InstructionRow}
 use Rattle.decoder.specs.declared.decode.InstructionRow.TheVariants as row
 use Rattle.decoder.specs.declared.tables.Procedure.{Procedure}
 use Rattle.decoder.specs.declared.tables.Table.{Table}
-use Rattle.decoder.specs.declared.tables.Tables.{Tables}
 use Rattle.decoder.proofs.Short.{all_append}
 use Rattle.rules.specs.Accepted.{own_call_lem}
 use Rattle.rules.specs.Calls.{Scoped, Calls}
@@ -38,19 +37,24 @@ no_call (row.Loop e i) f h = refl
 no_call (row.Handle n i) f h = refl
 no_call (row.Call k b c) f h = absurd (h k b c refl)
 
--- its procedure is there
-pub called_at : (rows : List ℕ) (t : Tables) (x : InstructionRow) (k b c : ℕ) → Calls rows t x → x ≡ row.Call k b c → k < t.procedures.count
-called_at rows t x k b c h e = ltb-true k t.procedures.count (sym (call_at x k b c (λ k b c. ltb k t.procedures.count) e) ∙ h.called)
+-- its procedure is there, and has a number that can be
+pub called_at : (rows : List ℕ) (x : InstructionRow) (k b c : ℕ) → Calls rows x → x ≡ row.Call k b c → k < procedure_count rows
+called_at rows x k b c h e = ltb-true k (procedure_count rows) (sym (call_at x k b c (λ k b c. ltb k (procedure_count rows)) e) ∙ h.called)
 
-pub calls_of : (rows : List ℕ) (t : Tables) (r : ℕ) (x : InstructionRow) → Scoped rows t → r < t.instructions.count → InstructionAlike x (instruction_row rows r) → Calls rows t x
-calls_of rows t r x h l a =
-    record {
-      tables = h.tables;
-      few = h.sized.procedures;
-      called = a.calls (λ k b c. ltb k t.procedures.count)
-          ∙ ap (λ (n : ℕ). on_call (instruction_row rows r) (λ k b c. ltb k n)) h.tables.procedures
-          ∙ own_call_lem rows h.refers r (omega (arith, h.tables.instructions.count));
-    }
+pub called_low : (rows : List ℕ) (x : InstructionRow) (k b c : ℕ) → Calls rows x → x ≡ row.Call k b c → k < most_procedures
+called_low rows x k b c h e = omega (arith, called_at rows x k b c h e, h.few)
+
+pub calls_of : (rows : List ℕ) (r : ℕ) (x : InstructionRow) → Scoped rows → r < table_count rows instruction_section → InstructionAlike x (instruction_row rows r) → Calls rows x
+calls_of rows r x h l a =
+    record { few = h.sized.procedures; called = a.calls (λ k b c. ltb k (procedure_count rows)) ∙ own_call_lem rows h.refers r l }
+
+-- of a row that the code has, what is asked of the definitions' row
+module _ {x : InstructionRow} {y : Row} (a : InstructionAlike x y) (f : ℕ → ℕ → ℕ → Bool) where
+  pub alike_call : {k b c : ℕ} → x ≡ row.Call k b c → f k b c ≡ on_call y f
+  alike_call e = sym (call_at x _ _ _ f e) ∙ a.calls f
+
+  pub alike_none : ((k b c : ℕ) → x ≡ row.Call k b c → ⊥) → true ≡ on_call y f
+  alike_none n = no_call x f n ∙ a.calls f
 
 -- ---- the variables that it gives
 module _ (rows : List ℕ) (k b c : ℕ) (p : Procedure) (h : IsProcedure rows k p) (n m : ℕ) (en : n ≡ min most_parameters p.values) (em : m ≡ min most_parameters p.references) where
@@ -80,50 +84,6 @@ module _ (rows : List ℕ) (k b c : ℕ) (p : Procedure) (h : IsProcedure rows k
 
 -- ---- 18
 module _ (rows : List ℕ) (k : ℕ) (p : Procedure) (h : IsProcedure rows k p) where
-  abbrev enough : Bool
-  enough = leb (value_count rows k + reference_count rows k) (pair_count rows (variable_table k))
-
-  abbrev few : Bool
-  few = leb (pair_count rows (variable_table k)) most_variables
-
-  pub values_many : most_parameters < p.values → false ≡ parameters_fit rows k
-  unfolding parameters_fit
-  values_many l =
-      sym
-      (ap (λ (t : Bool). t && leb (reference_count rows k) most_parameters && enough && few)
-      (lt-leb (value_count rows k) most_parameters (omega (arith, h.values))))
-
-  module _ (v : p.values ≤ most_parameters) where
-    v_fits : leb (value_count rows k) most_parameters ≡ true
-    v_fits = le-leb (value_count rows k) most_parameters (omega (arith, h.values))
-
-    pub references_many : most_parameters < p.references → false ≡ parameters_fit rows k
-    unfolding parameters_fit
-    references_many l =
-        sym
-        (ap₂ (λ (t u : Bool). t && u && enough && few) v_fits
-        (lt-leb (reference_count rows k) most_parameters (omega (arith, h.references))))
-
-    module _ (r : p.references ≤ most_parameters) (own : Table) (i : IsTable rows (variable_table k) own) where
-      r_fits : leb (reference_count rows k) most_parameters ≡ true
-      r_fits = le-leb (reference_count rows k) most_parameters (omega (arith, h.references))
-
-      pairs : pair_count rows (variable_table k) ≡ own.count / 2
-      unfolding pair_count
-      pairs = ap (λ (n : ℕ). n / 2) (sym i.count)
-
-      pub variables_lack : own.count / 2 < p.values + p.references → false ≡ parameters_fit rows k
-      unfolding parameters_fit
-      variables_lack l =
-          let e : enough ≡ false = lt-leb (value_count rows k + reference_count rows k) (pair_count rows (variable_table k)) (omega (arith, h.values, h.references, pairs)) in
-          sym (rw (v_fits, r_fits, e))
-
-      pub variables_tell : p.values + p.references ≤ own.count / 2 → leb (own.count / 2) most_variables ≡ parameters_fit rows k
-      unfolding parameters_fit
-      variables_tell l =
-          let e : enough ≡ true = le-leb (value_count rows k + reference_count rows k) (pair_count rows (variable_table k)) (omega (arith, h.values, h.references, pairs)) in
-          sym (rw (v_fits, r_fits, e, pairs))
-
   -- a call's bits
   pub bits_fail : (b c u : ℕ) → u ≡ bits_above p.values b → (u ≡ 0 → ⊥) → false ≡ (eqb (bits_above (value_count rows k) b) 0 && eqb (bits_above (reference_count rows k) c) 0)
   bits_fail b c u e n =

@@ -17,10 +17,9 @@ use Rattle.lingua.specs.Rows.{pair_count}
 use Rattle.lingua.specs.Format.{File, profile, limits}
 use Rattle.lingua.specs.Rules.{form_wrong, count_wrong, name_wrong, constant_wrong}
 use Rattle.lingua.specs.Refusal.{Rule, rule, rank, place_in, lowest, row_rules}
-use Rattle.decoder.specs.Tables.{AreTables, OldSized}
+use Rattle.decoder.specs.Tables.{Sized}
 use Rattle.rules.specs.Accepted.{counts}
 use Rattle.rules.specs.Refusals.{link_rules, Linked, Judged}
-use Rattle.decoder.specs.declared.tables.Tables.{Tables}
 use Rattle.row_rules.specs.Form.{FewProcedures}
 use Rattle.laws.specs.Refusals.{all_above, lowest_skip, lowest_first}
 
@@ -53,24 +52,24 @@ later_behind profile rows = record { form = refl; count = refl; name = refl; con
 later_behind limits rows = record { form = refl; count = refl; name = refl; constant = refl }
 
 -- ---- what rule 7 lets through
-pub sized : (rows : List ℕ) (t : Tables) → AreTables rows t → count_wrong profile rows ≡ false → OldSized t
+pub sized : (rows : List ℕ) → count_wrong profile rows ≡ false → Sized rows
 unfolding pair_count
-sized rows t h e =
+sized rows e =
     let c = counts rows e in
     record {
-      declarations = omega (arith, h.declarations.count, c.variables.most);
-      types = omega (arith, h.types.count, c.types.most);
-      expressions = omega (arith, h.expressions.count, c.expressions.most);
-      some_instruction = omega (arith, h.instructions.count, c.instructions.least);
-      instructions = omega (arith, h.instructions.count, c.instructions.most);
-      procedures = omega (arith, h.procedures, c.procedures.most);
+      declarations = c.variables.most;
+      types = c.types.most;
+      expressions = c.expressions.most;
+      some_instruction = c.instructions.least;
+      instructions = c.instructions.most;
+      procedures = c.procedures.most;
     }
 
 -- of a file that rule 7 lets through, if it is a profile
-pub few_procedures_lem : (f : File) (rows : List ℕ) (t : Tables) → AreTables rows t → count_wrong f rows ≡ false → FewProcedures f t
+pub few_procedures_lem : (f : File) (rows : List ℕ) → count_wrong f rows ≡ false → FewProcedures f rows
 unfolding FewProcedures
-few_procedures_lem profile rows t h e = (sized rows t h e).procedures
-few_procedures_lem limits rows t h e = tt
+few_procedures_lem profile rows e = (sized rows e).procedures
+few_procedures_lem limits rows e = tt
 
 -- ---- rules 6 to 9, and what follows them
 module _ (a b c d : Bool) (rs : List Rule) where

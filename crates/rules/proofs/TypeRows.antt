@@ -18,7 +18,7 @@ use Rattle.lingua.specs.Outcome.{Outcome, ok, fail, is_ok, ◌>>=◌}
 use Rattle.lingua.specs.Body.{Body, boolean}
 use Rattle.lingua.specs.Operation.{make_list, make_record, expand, unary_body, binary_body}
 use Rattle.lingua.specs.Value.{all_of}
-use Rattle.lingua.specs.Rows.{table_count, TypeRow, simple_type, list_type, record_type, expand_type, unknown_type, type_row}
+use Rattle.lingua.specs.Rows.{table_count, TypeRow, simple_type, list_type, record_type, expand_type, unknown_type, type_at, type_row}
 use Rattle.lingua.specs.Trees.{lower, type_body_of, type_body}
 use Rattle.lingua.specs.Rules.{attributes_fit, type_attributes}
 use Rattle.lingua.specs.References.{type_parts, type_wrong}
@@ -26,12 +26,15 @@ use Rattle.laws.specs.Outcomes.{and_left}
 use Rattle.laws.specs.Tests.{below_suc, every_all, every_false}
 use Rattle.safety.specs.Every.{Every, every_more, every_implies}
 use Rattle.decoder.specs.Tables.{IsTable}
+use Rattle.decoder.specs.Decoded.{Decoded, decoded, type_meaning, TypeSays}
+use Rattle.decoder.specs.declared.decode.TypeRow.{TypeRow as CodeType}
+use Rattle.decoder.proofs.Decoding.{place, row_decoded}
 use Rattle.decoder.specs.declared.tables.Table.{Table}
 use Rattle.body.specs.Encode.{Holds, Held}
 use Rattle.body.specs.Typed.{Types}
 use Rattle.body.specs.declared.typed.Typed.{Typed}
 use Rattle.laws.specs.Encoded.{length_encoded}
-use Rattle.rules.specs.Types.{body_at, HeldAt, LooksUp, Answers, TypesReady, BodiesBelow}
+use Rattle.rules.specs.Types.{body_at, HeldAt, LooksUp, Answers, BodiesBelow, RowReady}
 use Rattle.rules.specs.Unrolled.{lower_is, type_unrolled}
 use Rattle.rules.proofs.TypePlaces.{kept_other, kept_own}
 
@@ -118,25 +121,29 @@ module _ (t : Result Typed Error) (row : TypeRow) (look : ℕ → Outcome ℕ Bo
         (h d f (subst (λ (z : List ℕ). Holds z d) (sym q) ls.0.holds) (subst (λ (z : List ℕ). Holds z f) (sym s) ls.1.holds))
 
 -- ---- row r, from those below it
-module _ (rows bodies : List ℕ) (t : Table) (r : ℕ) (h : IsTable rows type_section t) (inside : r < table_count rows type_section) (ready : TypesReady rows) (held : BodiesBelow rows bodies r)
-    (row : TypeRow) (is : row ≡ type_row rows r) where
+-- what was decoded at its place
+pub row_is : (rows : List ℕ) {bytes : List ℕ} (t : Table) (r : ℕ) {d : Decoded CodeType} → bytes ≡ rows → IsTable rows type_section t → TypeSays bytes (t.start + r) d → decoded unknown_type type_meaning d ≡ type_row rows r
+unfolding type_row
+row_is rows t r e h says = row_decoded (type_at rows) (place rows type_section t r h) (rw e at says)
+
+module _ {rows bodies : List ℕ} {r : ℕ} (h : RowReady rows r bodies) {row : TypeRow} (is : row ≡ type_row rows r) where
   below : Every (λ p. p < r) (type_parts row)
-  below = subst (λ (x : TypeRow). Every (λ p. p < r) (type_parts x)) (sym is) (ready.parts r inside)
+  below = subst (λ (x : TypeRow). Every (λ p. p < r) (type_parts x)) (sym is) (h.types.parts r h.below)
 
   pub row_attributes : attributes_fit (type_attributes row) ≡ true
-  row_attributes = ap (λ (x : TypeRow). attributes_fit (type_attributes x)) is ∙ ready.attributes r inside
+  row_attributes = ap (λ (x : TypeRow). attributes_fit (type_attributes x)) is ∙ h.types.attributes r h.below
 
   pub row_parts : Every (λ p. HeldAt bodies p) (type_parts row)
   row_parts =
-      let few : r < most_types = omega (arith, ready.few) in
+      let few : r < most_types = omega (arith, h.below, h.types.few) in
       every_implies
-      (λ p l. record { within = omega (arith, held.long); held = record { body = (held.each p l).body; holds = (held.each p l).holds } })
+      (λ p l. record { within = omega (arith, h.held.long); held = record { body = (h.held.each p l).body; holds = (h.held.each p l).holds } })
       below
 
   pub row_answers : (o : Result Typed Error) → ((look : ℕ → Outcome ℕ Body) → Every (λ p. LooksUp look bodies p) (type_parts row) → Answers o (type_body_of row look)) → Answers o (type_body rows r)
   row_answers o f =
       let look : ℕ → Outcome ℕ Body = lower r (λ p. type_body rows p) (fail record_expected) in
-      let given = f look (every_implies (λ p l. record { body = (held.each p l).body; is = lower_is r (λ q. type_body rows q) (fail record_expected) p l ∙ (held.each p l).is; holds = (held.each p l).holds }) below) in
+      let given = f look (every_implies (λ p l. record { body = (h.held.each p l).body; is = lower_is r (λ q. type_body rows q) (fail record_expected) p l ∙ (h.held.each p l).is; holds = (h.held.each p l).holds }) below) in
       answered o (type_body rows r) (type_body_of row look) given.offset
       (type_unrolled rows r ∙ ap (λ (x : TypeRow). type_body_of x look) (sym is)) given.types
 

@@ -4,7 +4,7 @@ use mathlib.Core.Path.{◌≡◌, refl, sym, ap, ap₂, ◌∙◌, subst}
 use mathlib.Core.Bool.{Bool, ◌&&◌}
 use mathlib.Core.List.{List, [], ◌∷◌, ◌++◌, append-nil, append_assoc}
 use mathlib.Core.Logic.{⊎_elim}
-use Prim.Native.Nat.{ℕ, zero, suc, ◌+◌, ◌-◌, ◌≤◌, ◌<◌, min, pred}
+use Prim.Native.Nat.{ℕ, zero, suc, ◌+◌, ◌-◌, ◌/◌, ◌≤◌, ◌<◌, min, pred}
 use native.Mathlib.Numerals.{add-one}
 use native.Mathlib.Nat.{zero-add, add-zero, suc-add, add-suc}
 use native.Mathlib.Omega.{arith}
@@ -20,12 +20,7 @@ use Rattle.lingua.specs.Rows.{table_count, pair_count, procedure_count, Instruct
 use Rattle.lingua.specs.References.{occurrences, yoke_in, declared_roots, yoke_roots, plain_roots, expression_uses}
 use Rattle.decoder.specs.Tables.{IsTable}
 use Rattle.decoder.specs.declared.tables.Table.{Table}
-use Rattle.decoder.specs.Mentions.{mentioned_by, InstructionAlike}
-use Rattle.decoder.specs.Decoded.{instruction_meaning}
 use Rattle.rules.specs.Uses.{Counted}
-use Rattle.decoder.specs.declared.mentions.Mention.{Mention}
-use Rattle.decoder.specs.declared.mentions.Mention.TheVariants as mention
-use Rattle.decoder.specs.declared.decode.InstructionRow.{InstructionRow as CodeInstruction}
 use Rattle.decoder.proofs.Counting.{order}
 
 -- ---- occurrences
@@ -76,12 +71,6 @@ unfolding occurrences
 counted_zeros = record { long = length-replicate {A = ℕ} 512 0; counts = λ r l. get_or-replicate 512 r 0 0 l }
 
 -- ---- rows one after another
--- the code's row mentions what the row does
-pub mentions_alike : {row : CodeInstruction} {x : InstructionRow} (what : Mention) → InstructionAlike row x → mentioned_by what (instruction_meaning row) ≡ mentioned_by what x
-unfolding mentioned_by
-mentions_alike mention.Yoke h = h.yoke
-mentions_alike mention.Evaluated h = h.evaluated
-mentions_alike mention.Part h = h.parts
 
 pub joined_snoc : {A : Type 0} (f : ℕ → List A) (i n : ℕ) → joined (tabulate_from i (suc n) f) ≡ joined (tabulate_from i n f) ++ f (i + n)
 unfolding joined tabulate_from
@@ -128,28 +117,21 @@ pub uses_order : (rows : List ℕ) → joined (tabulate (suc (procedure_count ro
 unfolding expression_uses yoke_roots plain_roots
 uses_order rows = append_assoc (yoke_roots rows) (plain_roots rows) (joined (tabulate (table_count rows expression_section) (λ r. operands (expression_row rows r))))
 
--- the roots of a scope, by its table
-pub roots_from : (rows : List ℕ) (s : ℕ) (t : Table) → IsTable rows (scope_table s) t → joined (tabulate (pair_count rows t.section) (λ d. yoke_root (yoke_in rows t.section d))) ≡ declared_roots rows s
-unfolding declared_roots
-roots_from rows s t h = rw h.section
+-- ---- rows that each name one
+one_each : {A : Type 0} (f : ℕ → A) (i n : ℕ) → joined (tabulate_from i n (λ k. f k ∷ [])) ≡ tabulate_from i n f
+unfolding joined tabulate_from
+one_each f i zero = refl
+one_each f i (suc n) = ap (λ l. f i ∷ l) (one_each f (suc i) n)
 
--- ---- single rows one after another
-tabulate_snoc : {A : Type 0} (f : ℕ → A) (i n : ℕ) → tabulate_from i (suc n) f ≡ tabulate_from i n f ++ (f (i + n) ∷ [])
-unfolding tabulate_from
-tabulate_snoc f i zero = ap (λ (k : ℕ). f k ∷ []) (sym (add-zero i))
-tabulate_snoc f i (suc n) = ap (λ l. f i ∷ l) (tabulate_snoc f (suc i) n ∙ ap (λ (k : ℕ). tabulate_from (suc i) n f ++ (f k ∷ [])) (suc-add i n ∙ sym (add-suc i n)))
-
-tabulate_more : {A : Type 0} (f : ℕ → A) (n : ℕ) → tabulate (n + 1) f ≡ tabulate n f ++ (f n ∷ [])
+pub joined_single : {A : Type 0} (f : ℕ → A) (n : ℕ) → joined (tabulate n (λ k. f k ∷ [])) ≡ tabulate n f
 unfolding tabulate
-tabulate_more f n = rw (add-one n) (tabulate_snoc f 0 n ∙ ap (λ (k : ℕ). tabulate_from 0 n f ++ (f k ∷ [])) (zero-add n))
+joined_single f n = one_each f 0 n
 
-module _ (f : ℕ → ℕ) (uses xs : List ℕ) where
-  pub rows_none : Counted uses xs → Counted uses (xs ++ tabulate 0 f)
-  unfolding tabulate tabulate_from
-  rows_none h = counted_to h (sym (append-nil xs))
+-- the roots of a scope, by its table
+pub roots_from : (rows : List ℕ) {uses : List ℕ} (xs : List ℕ) (s : ℕ) (t : Table) → IsTable rows (scope_table s) t → Counted uses (xs ++ joined (tabulate (t.count / 2) (λ d. yoke_root (yoke_in rows (scope_table s) d)))) → Counted uses (xs ++ declared_roots rows s)
+unfolding declared_roots pair_count
+roots_from rows xs s t h k = rw (← h.count) k
 
-  pub rows_more : (n y : ℕ) → y ≡ f n → Counted uses (xs ++ tabulate n f ++ (y ∷ [])) → Counted uses (xs ++ tabulate (n + 1) f)
-  rows_more n y e h = counted_to h (append_assoc xs (tabulate n f) (y ∷ []) ∙ ap (λ (l : List ℕ). xs ++ l) (ap (λ (k : ℕ). tabulate n f ++ (k ∷ [])) e ∙ sym (tabulate_more f n)))
-
-  pub rows_all : (i n : ℕ) → i ≡ n → Counted uses (xs ++ tabulate i f) → Counted uses (xs ++ tabulate n f)
-  rows_all i n e h = rw e at h
+-- what the code's short list of a yoke holds
+pub yoke_of : {n y : ℕ} {ys : List ℕ} → n ≡ y → ys ≡ yoke_root n → ys ≡ yoke_root y
+yoke_of e h = h ∙ ap yoke_root e

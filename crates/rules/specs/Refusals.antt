@@ -9,9 +9,7 @@ use Rattle.lingua.specs.Format.{File, profile}
 use Rattle.lingua.specs.Rules.{count_wrong, constant_wrong}
 use Rattle.lingua.specs.References.{reference_wrong, use_wrong, place_wrong, type_wrong, parameters_wrong, references_wrong}
 use Rattle.lingua.specs.Refusal.{Rule, rule, lowest, row_rules}
-use Rattle.decoder.specs.Tables.{AreTables}
 use Rattle.rules.specs.Types.{BodiesBelow}
-use Rattle.decoder.specs.declared.tables.Tables.{Tables}
 
 unfoldable pub link_rules : List ℕ → List Rule
 link_rules rows =
@@ -24,8 +22,7 @@ link_rules rows =
     ∷ []
 
 -- what rules 7 and 9 have shown when these are asked, and room for the bodies
-pub record Linkable (rows : List ℕ) (t : Tables) (bodies : List ℕ) : Type 0 where
-  pub tables : AreTables rows t
+pub record Linkable (rows : List ℕ) (bodies : List ℕ) : Type 0 where
   pub counts : count_wrong profile rows ≡ false
   pub constants : constant_wrong profile rows ≡ false
   pub room : length bodies ≡ type_bodies_length

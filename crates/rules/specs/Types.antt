@@ -13,8 +13,6 @@ use Rattle.safety.specs.Every.{Every}
 use Rattle.body.specs.Encode.{Holds, Held}
 use Rattle.body.specs.Typed.{Types}
 use Rattle.body.specs.declared.typed.Typed.{Typed}
-use Rattle.decoder.specs.Tables.{IsTable}
-use Rattle.decoder.specs.declared.tables.Table.{Table}
 use Rattle.rules.specs.Accepted.{counts, type_attributes_lem, type_parts_lem}
 
 -- the bytes of row r's body
@@ -53,8 +51,7 @@ pub record BodiesBelow (rows bodies : List ℕ) (n : ℕ) : Type 0 where
   pub each : (r : ℕ) → r < n → LooksUp (λ a. type_body rows a) bodies r
 
 -- what is known where row r's body is made: those of the rows below are
-pub record RowReady (rows : List ℕ) (t : Table) (r : ℕ) (bodies : List ℕ) : Type 0 where
-  pub table : IsTable rows type_section t
-  pub below : r < t.count
+pub record RowReady (rows : List ℕ) (r : ℕ) (bodies : List ℕ) : Type 0 where
+  pub below : r < table_count rows type_section
   pub types : TypesReady rows
   pub held : BodiesBelow rows bodies r

@@ -7,18 +7,15 @@ ghost use Rattle.lingua.specs.Rows.{table_count, procedure_count, expression_row
 ghost use Rattle.lingua.specs.Trees.{expression_tree};
 ghost use Rattle.lingua.specs.Format.{every_below};
 ghost use Rattle.lingua.specs.References.{declared_roots, reference_wrong, place_wrong};
-ghost use Rattle.decoder.specs.Tables.{IsTable, AreTables, OldSized};
+ghost use Rattle.decoder.specs.Tables.{Sized};
 ghost use Rattle.decoder.specs.Mentions.{listed};
 ghost use Rattle.decoder.specs.Decoded.{expression_meaning};
-ghost use Rattle.decoder.specs.Reads.{reads, reads_row, Marked, OldPlacesMarked};
+ghost use Rattle.decoder.specs.Reads.{reads, reads_row, Marked, PlacesMarked};
 
 use decoder::decode::ExpressionRow;
 use decoder::fields::b_at;
-use decoder::mentions::{
-    UpToThree, evaluated, expression_in, instruction_in, operands, yoke_root, yoke_set,
-};
-use decoder::procedures::scope_table;
-use decoder::tables::{Table, Tables};
+use decoder::mentions::{UpToThree, evaluated, operands, yoke_root, yoke_set};
+use decoder::rows::Rows;
 use lingua::sizes::MOST_EXPRESSIONS;
 
 // Whether a row by itself reads a variable, or else the current value.
@@ -49,47 +46,42 @@ fn none_marked(f: UpToThree, marks: &[bool; MOST_EXPRESSIONS], r: usize) -> bool
 }
 
 // Whether the tree of row r reads, given the marks of the rows below.
-fn tree_reads(
-    rows: &[u8],
-    t: Table,
-    marks: &[bool; MOST_EXPRESSIONS],
-    r: usize,
-    variable: bool,
-) -> bool
-    requires table { IsTable rows.now expression_section t }
-    requires r_lt_count { (r < t.count) × (r ≤ most_expressions) }
+fn tree_reads(rows: &Rows, marks: &[bool; MOST_EXPRESSIONS], r: usize, variable: bool) -> bool
+    requires r_lt_count { r < table_count rows.now expression_section }
+    requires r_le_most { r ≤ most_expressions }
     requires marked { Marked rows.now variable r marks.now }
     ensures { result ≡ reads variable (expression_tree rows.now r) }
 {
-    let row = expression_in(rows, t, r);
+    let row = rows.expression_row(r);
     row_reads(row, variable) || !none_marked(operands(row), marks, r)
 }
 
-fn readers(rows: &[u8], t: Table, variable: bool) -> [bool; MOST_EXPRESSIONS]
-    requires table { IsTable rows.now expression_section t }
-    requires count_le_most_expressions { t.count ≤ most_expressions }
+fn readers(rows: &Rows, variable: bool) -> [bool; MOST_EXPRESSIONS]
+    requires { table_count rows.now expression_section ≤ most_expressions }
     ensures { Marked rows.now variable (table_count rows.now expression_section) result }
 {
     let mut marks = [false; MOST_EXPRESSIONS];
-    for r in 0..t.count {
-        let mark = tree_reads(rows, t, &marks, r, variable);
+    let expressions = rows.expressions();
+    for r in 0..expressions.count {
+        let mark = tree_reads(rows, &marks, r, variable);
         marks[r] = mark;
     }
     marks
 }
 
 // No yoke that a scope declares reads a variable.
-fn declared_fit(rows: &[u8], t: Tables, marks: &[bool; MOST_EXPRESSIONS], s: usize) -> bool
-    requires places_marked { OldPlacesMarked rows.now t true marks.now }
-    requires s_le_count { s ≤ t.procedures.count }
+fn declared_fit(rows: &Rows, marks: &[bool; MOST_EXPRESSIONS], s: usize) -> bool
+    requires places_marked { PlacesMarked rows.now true marks.now }
+    requires s_le_count { s ≤ procedure_count rows.now }
     ensures { result ≡ all_of (λ r. not (reads true (expression_tree rows.now r))) (declared_roots rows.now s) }
 {
-    let own = scope_table(t, s);
+    let bytes = rows.bytes();
+    let own = rows.scope(s);
     let start = own.start;
-    let expressions = t.expressions.count;
+    let expressions = rows.expressions().count;
     (0..own.count / 2).all(|d| {
         none_marked(
-            yoke_root(b_at(rows, start + (2 * d + 1))),
+            yoke_root(b_at(bytes, start + (2 * d + 1))),
             marks,
             expressions,
         )
@@ -97,59 +89,47 @@ fn declared_fit(rows: &[u8], t: Tables, marks: &[bool; MOST_EXPRESSIONS], s: usi
 }
 
 // Those of the profile and of each procedure.
-fn scopes_fit(rows: &[u8], t: Tables, marks: &[bool; MOST_EXPRESSIONS]) -> bool
-    requires { OldPlacesMarked rows.now t true marks.now }
+fn scopes_fit(rows: &Rows, marks: &[bool; MOST_EXPRESSIONS]) -> bool
+    requires { PlacesMarked rows.now true marks.now }
     ensures { result ≡ every_below (suc (procedure_count rows.now)) (λ s. all_of (λ r. not (reads true (expression_tree rows.now r))) (declared_roots rows.now s)) }
 {
-    (0..t.procedures.count + 1).all(|s| declared_fit(rows, t, marks, s))
+    (0..rows.procedures() + 1).all(|s| declared_fit(rows, marks, s))
 }
 
 // No yoke that is set reads a variable.
-fn set_fit(rows: &[u8], t: Tables, marks: &[bool; MOST_EXPRESSIONS]) -> bool
-    requires { OldPlacesMarked rows.now t true marks.now }
+fn set_fit(rows: &Rows, marks: &[bool; MOST_EXPRESSIONS]) -> bool
+    requires { PlacesMarked rows.now true marks.now }
     ensures { result ≡ every_below (table_count rows.now instruction_section) (λ i. all_of (λ r. not (reads true (expression_tree rows.now r))) (yoke_set (instruction_row rows.now i))) }
 {
-    let instructions = t.instructions;
-    let expressions = t.expressions.count;
-    (0..instructions.count).all(|i| {
-        none_marked(
-            yoke_set(instruction_in(rows, instructions, i)),
-            marks,
-            expressions,
-        )
-    })
+    let instructions = rows.instructions();
+    let expressions = rows.expressions().count;
+    (0..instructions.count).all(|i| none_marked(
+        yoke_set(rows.instruction_row(i)),
+        marks,
+        expressions,
+    ))
 }
 
 // No expression that an instruction evaluates reads the current value.
-fn evaluated_fit(rows: &[u8], t: Tables, marks: &[bool; MOST_EXPRESSIONS]) -> bool
-    requires { OldPlacesMarked rows.now t false marks.now }
+fn evaluated_fit(rows: &Rows, marks: &[bool; MOST_EXPRESSIONS]) -> bool
+    requires { PlacesMarked rows.now false marks.now }
     ensures { result ≡ every_below (table_count rows.now instruction_section) (λ i. all_of (λ r. not (reads false (expression_tree rows.now r))) (evaluated (instruction_row rows.now i))) }
 {
-    let instructions = t.instructions;
-    let expressions = t.expressions.count;
-    (0..instructions.count).all(|i| {
-        none_marked(
-            evaluated(instruction_in(rows, instructions, i)),
-            marks,
-            expressions,
-        )
-    })
+    let instructions = rows.instructions();
+    let expressions = rows.expressions().count;
+    (0..instructions.count).all(|i| none_marked(
+        evaluated(rows.instruction_row(i)),
+        marks,
+        expressions,
+    ))
 }
 
-pub fn place_wrong(rows: &[u8], t: Tables) -> bool
-    requires are_tables { AreTables rows.now t }
-    requires sized { OldSized t }
+pub fn place_wrong(rows: &Rows) -> bool
+    requires sized { Sized rows.now }
     requires rows_value { reference_wrong rows.now ≡ false }
     ensures { result ≡ place_wrong rows.now }
 {
-    let expressions = t.expressions;
-    let variables = readers(rows, expressions, true);
-    if !scopes_fit(rows, t, &variables) {
-        return true;
-    }
-    if !set_fit(rows, t, &variables) {
-        return true;
-    }
-    let currents = readers(rows, expressions, false);
-    !evaluated_fit(rows, t, &currents)
+    let variables = readers(rows, true);
+    let currents = readers(rows, false);
+    !scopes_fit(rows, &variables) || !set_fit(rows, &variables) || !evaluated_fit(rows, &currents)
 }

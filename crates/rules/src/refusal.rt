@@ -2,7 +2,6 @@
 ghost use Rattle.std.specs.Prelude.{◌≡◌, length};
 ghost use Rattle.lingua.specs.Numbers.{type_bodies_length};
 ghost use Rattle.lingua.specs.Answers.{file_meaning};
-ghost use Rattle.decoder.specs.Tables.{AreTables};
 ghost use Rattle.rules.specs.Refusals.{Linkable, Linked, Judged};
 
 use crate::parameters::parameters_wrong;
@@ -11,7 +10,7 @@ use crate::references::reference_wrong;
 use crate::repeats::references_wrong;
 use crate::types::type_wrong;
 use crate::uses::use_wrong;
-use decoder::tables::Tables;
+use decoder::rows::Rows;
 use lingua::FileKind;
 use lingua::errors::Refusal;
 use row_rules::constants::constant_wrong;
@@ -20,56 +19,50 @@ use row_rules::form::form_wrong;
 use row_rules::names::name_wrong;
 
 // Rules 10 to 13, 18 and 19, which only a profile has.
-fn link_refusal(rows: &[u8], t: Tables, bodies: &mut [u8]) -> Result<(), Refusal>
-    requires { Linkable rows.now t bodies.old }
+fn link_refusal(rows: &Rows, bodies: &mut [u8]) -> Result<(), Refusal>
+    requires { Linkable rows.now bodies.old }
     ensures { Linked result rows.now bodies.new }
 {
-    if reference_wrong(rows, t) {
+    if reference_wrong(rows) {
         return Err(Refusal::BadReference);
     }
-    if use_wrong(rows, t) {
+    if use_wrong(rows) {
         return Err(Refusal::BadUse);
     }
-    if place_wrong(rows, t) {
+    if place_wrong(rows) {
         return Err(Refusal::Misplaced);
     }
-    if type_wrong(rows, t.types, bodies) {
+    if type_wrong(rows, bodies) {
         return Err(Refusal::BadType);
     }
-    if parameters_wrong(rows, t) {
+    if parameters_wrong(rows) {
         return Err(Refusal::BadParameters);
     }
-    if references_wrong(rows, t) {
+    if references_wrong(rows) {
         return Err(Refusal::RepeatedReference);
     }
     Ok(())
 }
 
 // Rule 13 makes the bodies of a profile's type rows, and leaves them in the array.
-pub fn rows_refusal(
-    file: FileKind,
-    rows: &[u8],
-    t: Tables,
-    bodies: &mut [u8],
-) -> Result<(), Refusal>
-    requires are_tables { AreTables rows.now t }
-    requires bodies_len { length bodies.old ≡ type_bodies_length }
+pub fn rows_refusal(file: FileKind, rows: &Rows, bodies: &mut [u8]) -> Result<(), Refusal>
+    requires { length bodies.old ≡ type_bodies_length }
     ensures { Judged result (file_meaning file) rows.now bodies.new }
 {
-    if form_wrong(file, rows, t) {
+    if form_wrong(file, rows) {
         return Err(Refusal::BadForm);
     }
-    if count_wrong(file, t) {
+    if count_wrong(file, rows) {
         return Err(Refusal::BadCount);
     }
-    if name_wrong(file, rows, t) {
+    if name_wrong(file, rows) {
         return Err(Refusal::BadName);
     }
-    if constant_wrong(file, rows, t) {
+    if constant_wrong(file, rows) {
         return Err(Refusal::BadConstant);
     }
     match file {
-        FileKind::Profile => link_refusal(rows, t, bodies),
+        FileKind::Profile => link_refusal(rows, bodies),
         FileKind::Limits => Ok(()),
     }
 }

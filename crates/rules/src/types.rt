@@ -1,6 +1,5 @@
 // Rule 13 and the bodies of type rows, in a flat array that has BODY_BYTES for each.
 ghost use Rattle.std.specs.Prelude.{◌≡◌, true, false, ℕ, ◌+◌, ◌*◌, ◌≤◌, length, Ok};
-ghost use Rattle.std.proofs.Math.Seq.{paste};
 ghost use Rattle.lingua.specs.Numbers.{body_bytes, type_bodies_length, type_section};
 ghost use Rattle.lingua.specs.Outcome.{Outcome, ok};
 ghost use Rattle.lingua.specs.Body.{Body};
@@ -10,7 +9,6 @@ ghost use Rattle.lingua.specs.References.{type_parts, type_wrong};
 ghost use Rattle.lingua.specs.Trees.{type_body_of, type_body};
 ghost use Rattle.safety.specs.Every.{Every};
 ghost use Rattle.body.specs.Typed.{Types};
-ghost use Rattle.decoder.specs.Tables.{IsTable};
 ghost use Rattle.decoder.specs.Decoded.{simple_meaning, type_meaning};
 ghost use Rattle.rules.specs.Types.{HeldAt, LooksUp, Answers, TypesReady, BodiesBelow, RowReady};
 
@@ -20,17 +18,8 @@ use body::walk::{BOOLEAN, HUNDREDTHS, NUMBER, WORD};
 use body_half::binary::expand;
 use body_half::unary::{make_list, make_record};
 use decoder::decode::{Simple, TypeRow, type_at};
-use decoder::tables::Table;
+use decoder::rows::Rows;
 use lingua::errors::Error;
-use lingua::sizes::BODY_BYTES;
-
-// A body is kept in place r of an array of bodies.
-pub fn keep_body(bodies: &mut [u8], r: usize, body: [u8; BODY_BYTES])
-    requires { body_bytes * r + body_bytes ≤ length bodies.old }
-    ensures { bodies.new ≡ paste bodies.old (body_bytes * r) body body_bytes }
-{
-    flat::keep(bodies, r, body);
-}
 
 fn simple_body(s: Simple) -> Typed
     ensures { Types (Ok result) (ok (simple_meaning s)) 0 }
@@ -58,11 +47,13 @@ fn made_body(row: TypeRow, bodies: &[u8]) -> Result<Typed, Error>
 }
 
 // The body of type row r, from those of lower rows.
-fn row_body(rows: &[u8], t: Table, r: usize, bodies: &[u8]) -> Result<Typed, Error>
-    requires { RowReady rows.now t r bodies.now }
+fn row_body(rows: &Rows, r: usize, bodies: &[u8]) -> Result<Typed, Error>
+    requires { RowReady rows.now r bodies.now }
     ensures { Answers result (type_body rows.now r) }
 {
-    match type_at(rows, t.start + r) {
+    let bytes = rows.bytes();
+    let t = rows.types();
+    match type_at(bytes, t.start + r) {
         Some((_, row)) => made_body(row, bodies),
         None => Ok(scalar(BOOLEAN)),
     }
@@ -70,15 +61,15 @@ fn row_body(rows: &[u8], t: Table, r: usize, bodies: &[u8]) -> Result<Typed, Err
 
 // Rule 13: each type row's body is within the bounds. Bodies are made from the lowest row up, each once; if no row is wrong, the array holds
 // them all.
-pub fn type_wrong(rows: &[u8], t: Table, bodies: &mut [u8]) -> bool
-    requires table { IsTable rows.now type_section t }
+pub fn type_wrong(rows: &Rows, bodies: &mut [u8]) -> bool
     requires types_ready { TypesReady rows.now }
     requires bodies_len { length bodies.old ≡ type_bodies_length }
     ensures value { result ≡ type_wrong rows.now }
     ensures bodies_below { result ≡ false → BodiesBelow rows.now bodies.new (table_count rows.now type_section) }
 {
-    for r in 0..t.count {
-        let Ok(made) = row_body(rows, t, r, bodies) else {
+    let types = rows.types();
+    for r in 0..types.count {
+        let Ok(made) = row_body(rows, r, bodies) else {
             return true;
         };
         flat::keep(bodies, r, made.body);

@@ -5,4 +5,4 @@ use Rattle.laws.specs.Chains.{every_from_all}
 use Rattle.rules.proofs.parameters.procedures_fit.Goals as goal
 
 pub returns : goal.returns
-returns c = every_from_all (λ k. parameters_fit c.args.rows.now k) _ _ _ _ c.all.ensures.ran refl c.requires.are_tables.procedures (λ x b q k. search (rules, tests))
+returns c = every_from_all (λ k. parameters_fit c.args.rows.now k) _ _ _ _ c.all.ensures.ran refl c.procedures.ensures (λ x b q k. search (rules, tests))

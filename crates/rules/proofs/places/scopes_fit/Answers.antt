@@ -8,4 +8,4 @@ use Rattle.laws.specs.Chains.{every_from_all}
 use Rattle.rules.proofs.places.scopes_fit.Goals as goal
 
 pub returns : goal.returns
-returns c = every_from_all (λ k. all_of (λ r. not (reads true (expression_tree c.args.rows.now r))) (declared_roots c.args.rows.now k)) _ _ _ _ c.all.ensures.ran refl (omega arith) (λ x b q k. search (rules, tests))
+returns c = every_from_all (λ k. all_of (λ r. not (reads true (expression_tree c.args.rows.now r))) (declared_roots c.args.rows.now k)) _ _ _ _ c.all.ensures.ran refl (omega (arith, c.procedures.ensures)) (λ x b q k. search (rules, tests))

@@ -5,4 +5,4 @@ use Rattle.laws.specs.Chains.{every_from_all}
 use Rattle.rules.proofs.references.instructions_refer.Goals as goal
 
 pub returns : goal.returns
-returns c = every_from_all (λ k. instruction_refers c.args.rows.now k) _ _ _ _ c.all.ensures.ran refl c.requires.instructions.count (λ x b q k. search (rules, tests))
+returns c = every_from_all (λ k. instruction_refers c.args.rows.now k) _ _ _ _ c.all.ensures.ran refl c.instructions-instructions.ensures.count (λ x b q k. search (rules, tests))

@@ -5,4 +5,4 @@ use Rattle.laws.specs.Chains.{every_from_all}
 use Rattle.rules.proofs.references.scopes_refer.Goals as goal
 
 pub returns : goal.returns
-returns c = every_from_all (λ k. declarations_refer c.args.rows.now k) _ _ _ _ c.all.ensures.ran refl (omega arith) (λ x b q k. search (rules, tests))
+returns c = every_from_all (λ k. declarations_refer c.args.rows.now k) _ _ _ _ c.all.ensures.ran refl (omega (arith, c.procedures.ensures)) (λ x b q k. search (rules, tests))

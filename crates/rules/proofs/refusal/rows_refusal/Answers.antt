@@ -7,44 +7,32 @@ use Rattle.lingua.specs.Format.{File, profile}
 use Rattle.lingua.specs.Rules.{count_wrong, constant_wrong}
 use Rattle.rules.proofs.refusal.rows_refusal.Goals as goal
 
-pub form_wrong-requires : goal.form_wrong-requires
-form_wrong-requires c = c.requires.are_tables
-
 pub returns-then-form_wrong : goal.returns-then-form_wrong
 returns-then-form_wrong c =
     refused_judged (file_meaning c.args.file) c.args.rows.now (refused_6 (file_meaning c.args.file) c.args.rows.now c.form_wrong.ensures c.if-form_wrong.true)
 
 pub returns-then-count_wrong : goal.returns-then-count_wrong
 returns-then-count_wrong c =
-    refused_judged (file_meaning c.args.file) c.args.rows.now (refused_7 (file_meaning c.args.file) c.args.rows.now c.form_wrong.ensures (c.count_wrong.ensures c.args.rows.now c.requires.are_tables) c.if-form_wrong.false c.if-count_wrong.true)
+    refused_judged (file_meaning c.args.file) c.args.rows.now (refused_7 (file_meaning c.args.file) c.args.rows.now c.form_wrong.ensures c.count_wrong.ensures c.if-form_wrong.false c.if-count_wrong.true)
 
-pub name_wrong-requires-clause-are_tables : goal.name_wrong-requires-clause-are_tables
-name_wrong-requires-clause-are_tables c =
-    c.requires.are_tables
-
-pub name_wrong-requires-clause-few_procedures : goal.name_wrong-requires-clause-few_procedures
-name_wrong-requires-clause-few_procedures c =
-    (few_procedures_lem (file_meaning c.args.file) c.args.rows.now c.args.t c.requires.are_tables (sym (c.count_wrong.ensures c.args.rows.now c.requires.are_tables) ∙ c.if-count_wrong.false))
+pub name_wrong-requires : goal.name_wrong-requires
+name_wrong-requires c = few_procedures_lem (file_meaning c.args.file) c.args.rows.now (sym c.count_wrong.ensures ∙ c.if-count_wrong.false)
 
 pub returns-then-name_wrong : goal.returns-then-name_wrong
 returns-then-name_wrong c =
-    refused_judged (file_meaning c.args.file) c.args.rows.now (refused_8 (file_meaning c.args.file) c.args.rows.now c.form_wrong.ensures (c.count_wrong.ensures c.args.rows.now c.requires.are_tables) c.name_wrong.ensures c.if-form_wrong.false c.if-count_wrong.false c.if-name_wrong.true)
-
-pub constant_wrong-requires : goal.constant_wrong-requires
-constant_wrong-requires c = c.requires.are_tables
+    refused_judged (file_meaning c.args.file) c.args.rows.now (refused_8 (file_meaning c.args.file) c.args.rows.now c.form_wrong.ensures c.count_wrong.ensures c.name_wrong.ensures c.if-form_wrong.false c.if-count_wrong.false c.if-name_wrong.true)
 
 pub returns-then-constant_wrong : goal.returns-then-constant_wrong
 returns-then-constant_wrong c =
-    refused_judged (file_meaning c.args.file) c.args.rows.now (refused_9 (file_meaning c.args.file) c.args.rows.now c.form_wrong.ensures (c.count_wrong.ensures c.args.rows.now c.requires.are_tables) c.name_wrong.ensures c.constant_wrong.ensures c.if-form_wrong.false c.if-count_wrong.false c.if-name_wrong.false c.if-constant_wrong.true)
+    refused_judged (file_meaning c.args.file) c.args.rows.now (refused_9 (file_meaning c.args.file) c.args.rows.now c.form_wrong.ensures c.count_wrong.ensures c.name_wrong.ensures c.constant_wrong.ensures c.if-form_wrong.false c.if-count_wrong.false c.if-name_wrong.false c.if-constant_wrong.true)
 
 pub link_refusal-requires : goal.link_refusal-requires
 link_refusal-requires c =
     let e : file_meaning c.args.file ≡ profile = is_profile c.args.file c.in-Profile.is in
     record {
-      tables = c.requires.are_tables;
-      counts = subst (λ (f : File). count_wrong f c.args.rows.now ≡ false) e (sym (c.count_wrong.ensures c.args.rows.now c.requires.are_tables) ∙ c.if-count_wrong.false);
+      counts = subst (λ (f : File). count_wrong f c.args.rows.now ≡ false) e (sym c.count_wrong.ensures ∙ c.if-count_wrong.false);
       constants = subst (λ (f : File). constant_wrong f c.args.rows.now ≡ false) e (sym c.constant_wrong.ensures ∙ c.if-constant_wrong.false);
-      room = c.requires.bodies_len;
+      room = c.requires;
     }
 
 pub returns-in-Profile : goal.returns-in-Profile
@@ -52,7 +40,7 @@ returns-in-Profile c =
     record {
       refusal = c.link_refusal.ensures.refusal
           ∙ later_profile (file_meaning c.args.file) c.args.rows.now (is_profile c.args.file c.in-Profile.is)
-          ∙ refused_later (file_meaning c.args.file) c.args.rows.now c.form_wrong.ensures (c.count_wrong.ensures c.args.rows.now c.requires.are_tables) c.name_wrong.ensures c.constant_wrong.ensures c.if-form_wrong.false c.if-count_wrong.false c.if-name_wrong.false c.if-constant_wrong.false;
+          ∙ refused_later (file_meaning c.args.file) c.args.rows.now c.form_wrong.ensures c.count_wrong.ensures c.name_wrong.ensures c.constant_wrong.ensures c.if-form_wrong.false c.if-count_wrong.false c.if-name_wrong.false c.if-constant_wrong.false;
       held = λ e z. c.link_refusal.ensures.held z;
     }
 
@@ -60,6 +48,6 @@ pub returns-in-Limits : goal.returns-in-Limits
 returns-in-Limits c =
     record {
       refusal = later_limits (file_meaning c.args.file) c.args.rows.now (is_limits c.args.file c.in-Limits.is)
-          ∙ refused_later (file_meaning c.args.file) c.args.rows.now c.form_wrong.ensures (c.count_wrong.ensures c.args.rows.now c.requires.are_tables) c.name_wrong.ensures c.constant_wrong.ensures c.if-form_wrong.false c.if-count_wrong.false c.if-name_wrong.false c.if-constant_wrong.false;
+          ∙ refused_later (file_meaning c.args.file) c.args.rows.now c.form_wrong.ensures c.count_wrong.ensures c.name_wrong.ensures c.constant_wrong.ensures c.if-form_wrong.false c.if-count_wrong.false c.if-name_wrong.false c.if-constant_wrong.false;
       held = λ e z. only_profile c.args.file c.in-Limits.is e;
     }

@@ -9,4 +9,4 @@ use Rattle.rules.proofs.repeats.references_wrong.Goals as goal
 
 pub returns : goal.returns
 unfolding references_wrong
-returns c = ap not (every_from_all (λ r. on_call (instruction_row c.args.rows.now r) (λ k v w. all_different (given_references c.args.rows.now k w))) _ _ _ _ c.all.ensures.ran refl c.requires.tables.instructions.count (λ x b q k. search (rules, tests)))
+returns c = ap not (every_from_all (λ r. on_call (instruction_row c.args.rows.now r) (λ k v w. all_different (given_references c.args.rows.now k w))) _ _ _ _ c.all.ensures.ran refl c.instructions-instructions.ensures.count (λ x b q k. search (rules, tests)))

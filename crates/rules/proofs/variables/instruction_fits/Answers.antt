@@ -6,7 +6,7 @@ use Rattle.rules.proofs.Calling.{calls_of}
 use Rattle.rules.proofs.variables.instruction_fits.Goals as goal
 
 pub given_fit-requires : goal.given_fit-requires
-given_fit-requires c = calls_of c.args.rows.now c.args.t c.args.r c.instruction_in-row.result c.requires.scoped c.requires.r_lt_count c.instruction_in-row.ensures
+given_fit-requires c = calls_of _ _ _ c.requires.scoped c.requires.r_lt_count c.instruction_row-row.ensures
 
 pub returns-then-all_within : goal.returns-then-all_within
 unfolding variables_fit

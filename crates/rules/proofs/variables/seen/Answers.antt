@@ -3,4 +3,4 @@ use Rattle.rules.proofs.Refers.{seen_from}
 use Rattle.rules.proofs.variables.seen.Goals as goal
 
 pub returns : goal.returns
-returns c = λ rows tables. seen_from rows c.args.s c.scope_table.result (c.scope_table.ensures rows tables)
+returns c = seen_from c.args.rows.now c.args.s c.scope.result c.scope.ensures
