@@ -149,12 +149,12 @@ passed_on r h = let p = err_from_is_err_and r h in rw p.2 at p.1
 pub taken_by_file : (f : File) (file areas bodies : List ℕ) {e : Refusal} → refusal_number e ≡ lowest (file_rules f file) → TakenIs (Err e) f file areas bodies
 taken_by_file f file areas bodies {e} h = record { refusal = by_file f file (refusal_number e) h (some_refusal e); taken = λ t q. cc }
 
-module _ (f : File) (file areas bodies : List ℕ) (n : ℕ) (tables : Tables) (z : lowest (file_rules f file) ≡ 0) (g : Gathered n areas file) {A : Type 0} where
+module _ (f : File) (file areas bodies : List ℕ) (n : ℕ) (z : lowest (file_rules f file) ≡ 0) (g : Gathered n areas file) {A : Type 0} where
   pub refused_by_rows : {e : Refusal} → Judged {A = A} (Err e) f (take n areas) bodies → TakenIs (Err e) f file areas bodies
   refused_by_rows {e} h = record { refusal = by_rows f file (refusal_number e) z (h.refusal ∙ ap (λ (rows : List ℕ). lowest (row_rules f rows)) g.rows); taken = λ t q. cc }
 
-  pub taken_by_rows : {u : A} → AreTables (take n areas) tables → Judged (Ok u) f (take n areas) bodies → TakenIs (Ok (record { length = n; tables = tables })) f file areas bodies
-  taken_by_rows a h =
+  pub taken_by_rows : {u : A} {tables : Tables} → AreTables (take n areas) tables → Judged (Ok u) f (take n areas) bodies → TakenIs (Ok (record { length = n; tables = tables })) f file areas bodies
+  taken_by_rows {u} {tables} a h =
       let r : RowsTaken (record { length = n; tables = tables }) f file areas bodies = record {
         rows = g.rows;
         within = g.inside;

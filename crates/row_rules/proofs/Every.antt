@@ -26,11 +26,3 @@ module _ (a b c : Bool) where
 
   pub third_3 : a ≡ true → b ≡ true → not c ≡ not (a && b && c)
   third_3 p q = rw (p, q)
-
-pub and_left : (a b : Bool) → (a && b) ≡ true → a ≡ true
-and_left true b e = refl
-and_left false b e = e
-
-pub and_right : (a b : Bool) → (a && b) ≡ true → b ≡ true
-and_right true b e = e
-and_right false b e = absurd (let z : ◌≡◌ {A = ℕ} 0 1 = cc in omega arith)

@@ -23,7 +23,8 @@ use Rattle.decoder.specs.Tables.{IsTable}
 use Rattle.decoder.specs.Reads.{reads, reads_row, Marked}
 use Rattle.decoder.specs.declared.tables.Table.{Table}
 use Rattle.decoder.proofs.Counting.{order}
-use Rattle.row_rules.proofs.Every.{every_at, and_left, and_right}
+use Rattle.laws.specs.Outcomes.{and_left, and_right}
+use Rattle.row_rules.proofs.Every.{every_at}
 use Rattle.decoder.proofs.Short.{all_ext, all_append}
 use Rattle.rules.specs.Accepted.{rows_right, rows_refer_lem, own_roots_lem}
 use Rattle.rules.proofs.Usage.{joined_snoc}

@@ -3,7 +3,7 @@ use mathlib.Core.Path.{sym, ◌∙◌}
 use Rattle.lingua.specs.Answers.{file_meaning}
 use Rattle.lingua.specs.Format.{model_of}
 use Rattle.pair.proofs.Returns.{passed_on, some_refusal}
-use Rattle.pair.proofs.Pairs.{pair_own, models_wrong, pair_refused, pair_wrong, pair_done, taken_p, taken_l, rows_within, limits_within, rows_accepted, declarations_there, limits_read, bodies_there, profile_header, limits_header}
+use Rattle.pair.proofs.Pairs.{pair_own, models_wrong, pair_refused, pair_wrong, pair_done, taken_p, taken_l, rows_within, limits_within, rows_accepted, tables_there, limit_tables_there, limits_read, bodies_there, profile_header, limits_header}
 use Rattle.pair.proofs.take_pair.Goals as goal
 
 pub take-l-requires-clause-kind_in_bounds : goal.take-l-requires-clause-kind_in_bounds
@@ -30,30 +30,37 @@ pub returns-then-word16_at : goal.returns-then-word16_at
 unfolding model_of file_meaning
 returns-then-word16_at c = pair_refused _ _ _ (models_wrong _ _ _ _ _ _ _ _ (taken_p _ c.take-p.ensures c.in_ok-taken.ensures) (taken_l _ c.take-l.ensures c.in_ok-taken.ensures) (λ e. c.if-word16_at.true (c.word16_at.ensures ∙ e ∙ sym c.word16_at-2.ensures)))
 
-pub slice_bounds-limit_wrong-end : goal.slice_bounds-limit_wrong-end
+pub slice_bounds-with-end : goal.slice_bounds-with-end
 unfolding file_meaning
-slice_bounds-limit_wrong-end c = rows_within _ _ _ _ _ _ _ _ (taken_p _ c.take-p.ensures c.in_ok-taken.ensures) (taken_l _ c.take-l.ensures c.in_ok-taken.ensures)
+slice_bounds-with-end c = rows_within _ _ _ _ _ _ _ _ (taken_p _ c.take-p.ensures c.in_ok-taken.ensures) (taken_l _ c.take-l.ensures c.in_ok-taken.ensures)
 
-pub slice_bounds-limit_wrong-end-3 : goal.slice_bounds-limit_wrong-end-3
+pub slice_bounds-with-end-3 : goal.slice_bounds-with-end-3
 unfolding file_meaning
-slice_bounds-limit_wrong-end-3 c = limits_within _ _ _ _ _ _ _ _ (taken_p _ c.take-p.ensures c.in_ok-taken.ensures) (taken_l _ c.take-l.ensures c.in_ok-taken.ensures)
+slice_bounds-with-end-3 c = limits_within _ _ _ _ _ _ _ _ (taken_p _ c.take-p.ensures c.in_ok-taken.ensures) (taken_l _ c.take-l.ensures c.in_ok-taken.ensures)
+
+pub with-rows-requires : goal.with-rows-requires
+unfolding file_meaning
+with-rows-requires c = tables_there _ _ _ _ _ _ _ _ (taken_p _ c.take-p.ensures c.in_ok-taken.ensures) (taken_l _ c.take-l.ensures c.in_ok-taken.ensures)
+
+pub with-limit_rows-requires : goal.with-limit_rows-requires
+unfolding file_meaning
+with-limit_rows-requires c = limit_tables_there _ _ _ _ _ _ _ _ (taken_p _ c.take-p.ensures c.in_ok-taken.ensures) (taken_l _ c.take-l.ensures c.in_ok-taken.ensures)
 
 pub limit_wrong-requires-clause-declarations_known : goal.limit_wrong-requires-clause-declarations_known
 unfolding file_meaning
-limit_wrong-requires-clause-declarations_known c = record {
-  table = declarations_there _ _ _ _ _ _ _ _ (taken_p _ c.take-p.ensures c.in_ok-taken.ensures) (taken_l _ c.take-l.ensures c.in_ok-taken.ensures);
+limit_wrong-requires-clause-declarations_known c = rw c.with-rows.ensures (record {
   accepted = rows_accepted _ _ _ _ _ _ _ _ (taken_p _ c.take-p.ensures c.in_ok-taken.ensures) (taken_l _ c.take-l.ensures c.in_ok-taken.ensures);
   held = bodies_there _ _ _ _ _ _ _ _ (taken_p _ c.take-p.ensures c.in_ok-taken.ensures) (taken_l _ c.take-l.ensures c.in_ok-taken.ensures);
-}
+})
 
 pub limit_wrong-requires-clause-limits_read : goal.limit_wrong-requires-clause-limits_read
 unfolding file_meaning
-limit_wrong-requires-clause-limits_read c = limits_read _ _ _ _ _ _ _ _ (taken_p _ c.take-p.ensures c.in_ok-taken.ensures) (taken_l _ c.take-l.ensures c.in_ok-taken.ensures)
+limit_wrong-requires-clause-limits_read c = rw c.with-limit_rows.ensures (limits_read _ _ _ _ _ _ _ _ (taken_p _ c.take-p.ensures c.in_ok-taken.ensures) (taken_l _ c.take-l.ensures c.in_ok-taken.ensures))
 
 pub returns-then-limit_wrong : goal.returns-then-limit_wrong
 unfolding model_of file_meaning
-returns-then-limit_wrong c = pair_refused _ _ _ (pair_wrong _ _ _ _ _ _ _ _ (taken_p _ c.take-p.ensures c.in_ok-taken.ensures) (taken_l _ c.take-l.ensures c.in_ok-taken.ensures) _ c.limit_wrong.ensures.value (sym c.word16_at.ensures ∙ c.if-word16_at.false ∙ c.word16_at-2.ensures) c.if-limit_wrong.true)
+returns-then-limit_wrong c = pair_refused _ _ _ (pair_wrong _ _ _ _ _ _ _ _ (taken_p _ c.take-p.ensures c.in_ok-taken.ensures) (taken_l _ c.take-l.ensures c.in_ok-taken.ensures) _ (rw (c.with-rows.ensures, c.with-limit_rows.ensures) at c.limit_wrong.ensures.value) (sym c.word16_at.ensures ∙ c.if-word16_at.false ∙ c.word16_at-2.ensures) c.if-limit_wrong.true)
 
 pub returns : goal.returns
 unfolding model_of file_meaning
-returns c = pair_done _ _ _ _ _ _ _ _ (taken_p _ c.take-p.ensures c.in_ok-taken.ensures) (taken_l _ c.take-l.ensures c.in_ok-taken.ensures) _ c.limit_wrong.ensures.value (sym c.word16_at.ensures ∙ c.if-word16_at.false ∙ c.word16_at-2.ensures) _ c.limit_wrong.ensures.limits_owned c.if-limit_wrong.false
+returns c = pair_done _ _ _ _ _ _ _ _ (taken_p _ c.take-p.ensures c.in_ok-taken.ensures) (taken_l _ c.take-l.ensures c.in_ok-taken.ensures) _ (rw (c.with-rows.ensures, c.with-limit_rows.ensures) at c.limit_wrong.ensures.value) (sym c.word16_at.ensures ∙ c.if-word16_at.false ∙ c.word16_at-2.ensures) _ (rw (c.with-rows.ensures, c.with-limit_rows.ensures) at c.limit_wrong.ensures.limits_owned) c.if-limit_wrong.false

@@ -15,7 +15,7 @@ pub returns-in_err-file_refusal : goal.returns-in_err-file_refusal
 returns-in_err-file_refusal c = rw (passed_on _ c.from_residual.ensures.1) (taken_by_file (file_meaning c.args.kind) c.args.file.now c.args.areas.now c.args.bodies.now c.in_err-file_refusal.ensures)
 
 pub returns-in_err-rows_refusal : goal.returns-in_err-rows_refusal
-returns-in_err-rows_refusal c = rw (passed_on _ c.from_residual-in_err-rows_refusal.ensures.1) (refused_by_rows (file_meaning c.args.kind) c.args.file.now _ _ _ c.of-rows.result (sym c.in_ok-file_refusal.ensures) c.gather_rows-n.ensures c.in_err-rows_refusal.ensures)
+returns-in_err-rows_refusal c = rw (passed_on _ c.from_residual-in_err-rows_refusal.ensures.1) (refused_by_rows (file_meaning c.args.kind) c.args.file.now _ _ _ (sym c.in_ok-file_refusal.ensures) c.gather_rows-n.ensures (rw c.of-rows.ensures at c.in_err-rows_refusal.ensures))
 
 pub returns : goal.returns
-returns c = taken_by_rows (file_meaning c.args.kind) c.args.file.now _ _ _ _ (sym c.in_ok-file_refusal.ensures) c.gather_rows-n.ensures c.tables_of-tables.ensures c.in_ok-rows_refusal.ensures
+returns c = taken_by_rows (file_meaning c.args.kind) c.args.file.now _ _ _ (sym c.in_ok-file_refusal.ensures) c.gather_rows-n.ensures (rw c.of-rows.ensures at c.tables.ensures) (rw c.of-rows.ensures at c.in_ok-rows_refusal.ensures)
