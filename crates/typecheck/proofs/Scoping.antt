@@ -5,7 +5,7 @@ use Prim.Native.Nat.{ℕ, zero, suc, ◌+◌, ◌*◌, ◌≤◌, ◌<◌, ◌/�
 use native.Mathlib.Numerals.{add-one}
 use native.Mathlib.Omega.{arith}
 use lib.ListN.{get_or}
-use Rattle.lingua.specs.Numbers.{most_variables, most_procedures, expression_section, declaration_section, declaration_place, variable_table, scope_table}
+use Rattle.lingua.specs.Numbers.{most_variables, most_procedures, expression_section, declaration_place, variable_table, scope_table}
 use Rattle.lingua.specs.Outcome.{Outcome}
 use Rattle.lingua.specs.Body.{Body, boolean}
 use Rattle.lingua.specs.Run.{Declaration}
@@ -16,9 +16,8 @@ use Rattle.lingua.specs.References.{yoke_in}
 use Rattle.safety.specs.Constants.{ClosedYoke}
 use Rattle.safety.specs.Accepted.{AcceptedRows, few_variables, scope_root, scope_closed}
 use Rattle.safety.specs.ProfileScopes.{scope_declaration, scope_declarations_lem}
-use Rattle.decoder.specs.Tables.{IsTable, AreTables, OldSized}
+use Rattle.decoder.specs.Tables.{IsTable}
 use Rattle.decoder.specs.declared.tables.Table.{Table}
-use Rattle.decoder.specs.declared.tables.Tables.{Tables}
 use Rattle.scopes.specs.Marks.{InstructionScopes}
 use Rattle.rules.specs.Accepted.{counts}
 use Rattle.profile.specs.Variables.{scope_of, own_table, VariablesKnown}
@@ -33,18 +32,6 @@ use Rattle.typecheck.specs.Verdicts.{ScopeIs, procedure_bodies, Settles, declara
 -- ---- tables
 pub few_procedures_lem : (rows : List ℕ) → AcceptedRows rows → procedure_count rows ≤ most_procedures
 few_procedures_lem rows accepted = (counts rows accepted.counts).procedures.most
-
-pub sized : {rows bodies : List ℕ} {t : Tables} → Ready rows bodies → AreTables rows t → OldSized t
-sized {rows} ready is =
-    let c = counts rows ready.accepted.counts in
-    record {
-      declarations = omega (arith, pairs rows declaration_section _ is.declarations, c.variables.most);
-      types = omega (arith, is.types.count, c.types.most);
-      expressions = omega (arith, is.expressions.count, c.expressions.most);
-      some_instruction = omega (arith, is.instructions.count, c.instructions.least);
-      instructions = omega (arith, is.instructions.count, c.instructions.most);
-      procedures = omega (arith, is.procedures, c.procedures.most);
-    }
 
 -- a scope by its number
 pub known_scope : {rows bodies : List ℕ} {t : Table} → Ready rows bodies → (a : ℕ) → a ≤ procedure_count rows → IsTable rows (scope_table a) t → VariablesKnown rows t bodies

@@ -106,7 +106,7 @@ fn check_rows(rows: &Rows, bodies: &[u8], layout: &mut [u16]) -> Result<(), Erro
     ensures { Settles result layout.old layout.new (whole_check rows.now) }
 {
     check_scopes(rows, bodies, layout)?;
-    let scopes = instruction_scopes(rows.bytes(), rows.tables());
+    let scopes = instruction_scopes(rows);
     check_instructions(rows, &scopes, bodies, layout)
 }
 
