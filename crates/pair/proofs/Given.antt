@@ -21,14 +21,17 @@ unfolding room_for
 room_there areas others bodies a o b = record { for_rows = omega (arith, a); for_limits = omega (arith, o); for_bodies = b }
 
 module _ {prof lims areas others bodies : List ℕ} {p : Pair} (h : TakenPair p prof lims areas others bodies) where
-  pub rows_accepted : lowest (pair_rules prof lims) ≡ 0 → AcceptedRows (take p.rows areas)
+  pub rows_accepted : lowest (pair_rules prof lims) ≡ 0 → AcceptedRows (take p.profile.length areas)
   rows_accepted e = subst (λ (rows : List ℕ). AcceptedRows rows) (sym h.rows) (accepted_pair prof lims e)
 
-  pub tables_there : AreTables (take p.rows areas) p.tables
-  tables_there = subst (λ (rows : List ℕ). AreTables rows p.tables) (sym h.rows) h.tables
+  pub tables_there : AreTables (take p.profile.length areas) p.profile.tables
+  tables_there = subst (λ (rows : List ℕ). AreTables rows p.profile.tables) (sym h.rows) h.tables
 
-  pub limits_there : LimitsOwned (take p.rows areas) (take p.limits others) p.named p.owners
+  pub limit_tables_there : AreTables (take p.limits.length others) p.limits.tables
+  limit_tables_there = subst (λ (rows : List ℕ). AreTables rows p.limits.tables) (sym h.limits) h.limit_tables
+
+  pub limits_there : LimitsOwned (take p.profile.length areas) (take p.limits.length others) p.owners
   limits_there = owned_as (sym h.rows) (sym h.limits) h.limited
 
-  pub bodies_held : BodiesBelow (take p.rows areas) bodies (table_count (take p.rows areas) type_section)
+  pub bodies_held : BodiesBelow (take p.profile.length areas) bodies (table_count (take p.profile.length areas) type_section)
   bodies_held = subst (λ (rows : List ℕ). BodiesBelow rows bodies (table_count rows type_section)) (sym h.rows) h.held

@@ -1,5 +1,5 @@
 -- What makes the tests of form and counts: the bytes that a row uses, and what each test needs of a row. Assumes nothing.
-use mathlib.Core.Path.{◌≡◌, refl, sym, ap, ◌∙◌, subst}
+use mathlib.Core.Path.{◌≡◌, refl, sym, ap, ◌∙◌}
 use mathlib.Core.Bool.{Bool, true, false, not, ◌&&◌}
 use mathlib.Core.List.{List, [], ◌∷◌}
 use mathlib.Core.Logic.{⊎_elim}
@@ -24,10 +24,7 @@ use Rattle.decoder.specs.Tables.{IsTable}
 use Rattle.decoder.specs.declared.tables.Table.{Table}
 use Rattle.decoder.proofs.Counting.{order}
 
--- ---- a table by its own section
-pub own_section : (rows : List ℕ) (s : ℕ) (t : Table) → IsTable rows s t → IsTable rows t.section t
-own_section rows s t h = subst (λ (n : ℕ). IsTable rows n t) (sym h.section) h
-
+-- ---- pairs
 pub pairs_from : (rows : List ℕ) (s : ℕ) (t : Table) → IsTable rows s t → paired rows s ≡ (every_below t.count (λ r. eqb (kind_at rows (t.start + r)) (r % 2)) && eqb (t.count % 2) 0)
 unfolding paired row_in
 pairs_from rows s t h = rw (h.start, h.count)

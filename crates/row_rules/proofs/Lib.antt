@@ -1,4 +1,3 @@
-pub mod Every
 pub mod Forms
 pub mod Pairing
 pub mod Ranges

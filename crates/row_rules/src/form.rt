@@ -1,5 +1,5 @@
 // Rule 6: the form of rows, each by itself and in their order.
-ghost use Rattle.std.specs.Prelude.{◌≡◌, ◌+◌, ◌*◌, ◌≤◌, map, length, get_or};
+ghost use Rattle.std.specs.Prelude.{◌≡◌, ◌+◌, ◌*◌, ◌%◌, ◌≤◌, eqb, map, length, get_or};
 ghost use Rattle.std.proofs.Math.Option.{some, none};
 ghost use Rattle.lingua.specs.Answers.{file_meaning};
 ghost use Rattle.lingua.specs.Rows.{row_count, kind_at};
@@ -91,12 +91,20 @@ fn sections_ascend(rows: &[u8]) -> bool
     (0..count.saturating_sub(1)).all(|i| section_at(rows, i) <= section_at(rows, i + 1))
 }
 
-// Kinds 0 and 1 in turn, and a whole number of pairs. The table is that of the declarations, or that of the limits.
+// Kinds 0 and 1 in turn. The table is that of the declarations, or that of the limits.
+fn alternates(rows: &[u8], t: Table) -> bool
+    requires { IsTable rows.now t.section t }
+    ensures { result ≡ every_below t.count (λ r. eqb (kind_at rows.now (t.start + r)) (r % 2)) }
+{
+    (0..t.count).all(|r| kind_at(rows, t.start + r) as usize == r % 2)
+}
+
+// And a whole number of pairs.
 fn is_paired(rows: &[u8], t: Table) -> bool
     requires { IsTable rows.now t.section t }
     ensures { result ≡ paired rows.now t.section }
 {
-    (0..t.count).all(|r| kind_at(rows, t.start + r) as usize == r % 2) && t.count % 2 == 0
+    alternates(rows, t) && t.count % 2 == 0
 }
 
 pub fn form_wrong(file: FileKind, rows: &Rows) -> bool

@@ -1,22 +1,21 @@
 -- What is asked of a call: of its procedure's parameters, and of the variables that it gives. Assumes nothing.
-use mathlib.Core.Path.{◌≡◌, refl, sym, ap, ap₂, ◌∙◌}
+use mathlib.Core.Path.{◌≡◌, refl, sym, ap, ◌∙◌}
 use mathlib.Core.Bool.{Bool, true, false, ◌&&◌}
 use mathlib.Core.List.{List, ◌++◌}
-use Prim.Native.Nat.{ℕ, ◌+◌, ◌/◌, ◌≤◌, ◌<◌, min}
+use Prim.Native.Nat.{ℕ, ◌<◌, min}
 use native.Mathlib.Omega.{arith}
-use lib.Dec.{eqb, ltb, leb}
-use borrow.Author.Tests.{ltb-true, le-leb, lt-leb, eq-eqb, ne_eqb}
-use Rattle.lingua.specs.Numbers.{most_parameters, most_variables, most_procedures, instruction_section, variable_table}
-use Rattle.lingua.specs.Rows.{table_count, pair_count, procedure_count, value_count, reference_count, groups, instruction_row, InstructionRow as Row}
+use lib.Dec.{eqb, ltb}
+use borrow.Author.Tests.{ltb-true, eq-eqb, ne_eqb}
+use Rattle.lingua.specs.Numbers.{most_parameters, most_procedures, instruction_section}
+use Rattle.lingua.specs.Rows.{table_count, procedure_count, value_count, reference_count, groups, instruction_row, InstructionRow as Row}
 use Rattle.lingua.specs.Trees.{given_values, given_references}
-use Rattle.lingua.specs.References.{all_below, on_call, parameters_fit, bits_above, all_different}
-use Rattle.decoder.specs.Tables.{IsTable, IsProcedure}
+use Rattle.lingua.specs.References.{all_below, on_call, bits_above, all_different}
+use Rattle.decoder.specs.Tables.{IsProcedure}
 use Rattle.decoder.specs.Decoded.{instruction_meaning}
 use Rattle.decoder.specs.Mentions.{InstructionAlike}
 use Rattle.decoder.specs.declared.decode.InstructionRow.{InstructionRow}
 use Rattle.decoder.specs.declared.decode.InstructionRow.TheVariants as row
 use Rattle.decoder.specs.declared.tables.Procedure.{Procedure}
-use Rattle.decoder.specs.declared.tables.Table.{Table}
 use Rattle.decoder.proofs.Short.{all_append}
 use Rattle.rules.specs.Accepted.{own_call_lem}
 use Rattle.rules.specs.Calls.{Scoped, Calls}

@@ -1,6 +1,6 @@
 -- Which expression rows read: a tree reads where its row does or one of its operands' trees, so a mark for each row is right once
 -- those of the lower rows are. Carried by the trees' fuel not mattering. Assumes nothing.
-use mathlib.Core.Path.{◌≡◌, refl, sym, ap, ap₂, ◌∙◌, fun_ext}
+use mathlib.Core.Path.{◌≡◌, refl, sym, ap, ap₂, ◌∙◌}
 use mathlib.Core.Bool.{Bool, true, false, not, ◌&&◌, ◌||◌}
 use mathlib.Core.List.{List, [], ◌∷◌, ◌++◌}
 use mathlib.Core.Logic.{⊎_elim}
@@ -15,7 +15,7 @@ use Rattle.lingua.specs.Numbers.{type_section, expression_section, instruction_s
 use Rattle.lingua.specs.Value.{all_of}
 use Rattle.lingua.specs.Expression.{Expression}
 use Rattle.lingua.specs.Rows.{a_at, table_count, pair_count, detail_row, procedure_count, ExpressionRow, constant_row, variable_row, current_row, unary_row, binary_row, lazy_row, choice_row, all_list_row, unknown_expression, expression_row, operands, instruction_row, evaluated, yoke_root, yoke_set}
-use Rattle.lingua.specs.Trees.{below, lower, no_expression, expression_of, expression_in, expression_tree, tabulate_from, tabulate}
+use Rattle.lingua.specs.Trees.{below, lower, no_expression, expression_of, expression_tree, tabulate_from, tabulate}
 use Rattle.lingua.specs.Typing.{joined}
 use Rattle.lingua.specs.Format.{every_below}
 use Rattle.lingua.specs.References.{all_below, reads_variable, reads_current, yoke_in, declaration_refers, declarations_refer, reference_wrong, declared_roots, yoke_roots, plain_roots, place_wrong}
@@ -24,32 +24,11 @@ use Rattle.decoder.specs.Reads.{reads, reads_row, Marked}
 use Rattle.decoder.specs.declared.tables.Table.{Table}
 use Rattle.decoder.proofs.Counting.{order}
 use Rattle.laws.specs.Outcomes.{and_left, and_right}
-use Rattle.row_rules.proofs.Every.{every_at}
+use Rattle.safety.specs.Every.{below_true}
 use Rattle.decoder.proofs.Short.{all_ext, all_append}
 use Rattle.rules.specs.Accepted.{rows_right, rows_refer_lem, own_roots_lem}
+use Rattle.rules.specs.Unrolled.{expression_unrolled}
 use Rattle.rules.proofs.Usage.{joined_snoc}
-
--- ---- trees
-pub lower_same : {A : Type 0} (r : ℕ) (f g : ℕ → A) (o : A) → ((a : ℕ) → a < r → f a ≡ g a) → lower r f o ≡ lower r g o
-lower_same r f g o h = fun_ext (λ a. look a (ltb a r) refl)
-  where
-    look : (a : ℕ) (b : Bool) → ltb a r ≡ b → below b f o a ≡ below b g o a
-    look a true e = h a (ltb-true a r e)
-    look a false e = refl
-
-in_enough : (rows : List ℕ) (n m r : ℕ) → r < n → r < m → expression_in n rows r ≡ expression_in m rows r
-unfolding expression_in
-in_enough rows zero m r l k = absurd (not-suc-le-zero l)
-in_enough rows (suc n) zero r l k = absurd (not-suc-le-zero k)
-in_enough rows (suc n) (suc m) r l k =
-    ap (expression_of r (expression_row rows r))
-    (lower_same r (λ a. expression_in n rows a) (λ a. expression_in m rows a) (no_expression r) (λ a q. in_enough rows n m a (omega arith) (omega arith)))
-
-tree_node : (rows : List ℕ) (r : ℕ) → expression_tree rows r ≡ expression_of r (expression_row rows r) (lower r (λ a. expression_tree rows a) (no_expression r))
-unfolding expression_tree expression_in
-tree_node rows r =
-    ap (expression_of r (expression_row rows r))
-    (lower_same r (λ a. expression_in r rows a) (λ a. expression_in (suc a) rows a) (no_expression r) (λ a q. in_enough rows r (suc a) a q (omega arith)))
 
 -- ---- what reads
 one_reads : (a : Bool) → a ≡ not (not a && true)
@@ -93,7 +72,7 @@ reads_lower false rows r a false = refl
 
 reads_tree : (v : Bool) (rows : List ℕ) (r : ℕ) → reads v (expression_tree rows r) ≡ (reads_row v (expression_row rows r) || not (all_of (λ a. not (ltb a r && reads v (expression_tree rows a))) (operands (expression_row rows r))))
 reads_tree v rows r =
-    ap (reads v) (tree_node rows r)
+    ap (reads v) (expression_unrolled rows r)
     ∙ reads_of v r (expression_row rows r) (lower r (λ a. expression_tree rows a) (no_expression r))
     ∙ ap (λ (b : Bool). reads_row v (expression_row rows r) || not b) (all_ext (λ a. not (reads v (lower r (λ a. expression_tree rows a) (no_expression r) a))) (λ a. not (ltb a r && reads v (expression_tree rows a))) (operands (expression_row rows r)) (λ a. ap not (reads_lower v rows r a (ltb a r))))
 
@@ -130,9 +109,6 @@ module _ (rows : List ℕ) (v : Bool) (r : ℕ) (marks : List Bool) where
       same : k ≡ r → get_or (set marks r b) k false ≡ reads v (expression_tree rows k)
       same q = rw q (get_or-set_same marks r b false l ∙ e)
 
-  pub marked_to : (n : ℕ) → r ≡ n → Marked rows v r marks → Marked rows v n marks
-  marked_to n e h = rw e at h
-
 -- what is asked of the marks of rows below n is asked of their trees
 pub roots_read : (rows : List ℕ) (v : Bool) (n : ℕ) (marks : List Bool) → Marked rows v n marks → (xs : List ℕ) → all_below n xs ≡ true → all_of (λ a. not (ltb a n && get_or marks a false)) xs ≡ all_of (λ a. not (reads v (expression_tree rows a))) xs
 unfolding all_of
@@ -163,9 +139,9 @@ module _ (rows : List ℕ) (h : reference_wrong rows ≡ false) where
   unfolding declarations_refer declaration_refers pair_count
   declared_below s t d i ls ld =
       and_right (ltb (a_at rows (detail_row rows (scope_table s) d)) (table_count rows type_section)) (all_below (table_count rows expression_section) (yoke_root (yoke_in rows (scope_table s) d)))
-      (every_at (λ d. declaration_refers rows (scope_table s) d) (table_count rows (scope_table s) / 2) d
-      (every_at (λ s. declarations_refer rows s) (suc (procedure_count rows)) s (rows_refer_lem rows (rows_right rows h)).scopes (omega arith))
-      (omega (arith, i.count)))
+      (below_true (table_count rows (scope_table s) / 2) (λ d. declaration_refers rows (scope_table s) d)
+      (below_true (suc (procedure_count rows)) (λ s. declarations_refer rows s) (rows_refer_lem rows (rows_right rows h)).scopes s (omega arith))
+      d (omega (arith, i.count)))
 
   both_below : (i : ℕ) → i < table_count rows instruction_section → (all_below (table_count rows expression_section) (evaluated (instruction_row rows i)) && all_below (table_count rows expression_section) (yoke_set (instruction_row rows i))) ≡ true
   both_below i l = sym (all_append (λ r. ltb r (table_count rows expression_section)) (evaluated (instruction_row rows i)) (yoke_set (instruction_row rows i))) ∙ own_roots_lem rows (rows_right rows h) i l

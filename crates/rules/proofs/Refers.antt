@@ -1,16 +1,15 @@
 -- References as the code asks them: a row's own numbers against the tables' counts. Assumes nothing.
-use mathlib.Core.Path.{◌≡◌, sym, ap, ◌∙◌}
+use mathlib.Core.Path.{◌≡◌}
 use mathlib.Core.Bool.{◌&&◌}
 use mathlib.Core.List.{List}
 use Prim.Native.Nat.{ℕ, ◌+◌, ◌*◌, ◌/◌}
 use lib.Dec.{ltb}
 use Rattle.lingua.specs.Numbers.{type_section, expression_section, scope_table}
-use Rattle.lingua.specs.Rows.{a_at, b_at, row_in, detail_row, table_count, pair_count, procedure_count, instruction_row, parts, evaluated, yoke_root, yoke_set}
+use Rattle.lingua.specs.Rows.{a_at, b_at, row_in, detail_row, table_count, pair_count, yoke_root}
 use Rattle.lingua.specs.Format.{every_below}
-use Rattle.lingua.specs.References.{all_below, on_call, yoke_in, declaration_refers, declarations_refer, instruction_refers, variables_seen}
+use Rattle.lingua.specs.References.{all_below, yoke_in, declaration_refers, declarations_refer, variables_seen}
 use Rattle.decoder.specs.Tables.{IsTable}
 use Rattle.decoder.specs.declared.tables.Table.{Table}
-use Rattle.decoder.proofs.Short.{all_append}
 
 -- ---- a scope's table
 module _ (rows : List ℕ) (s : ℕ) (own : Table) (h : IsTable rows (scope_table s) own) where
@@ -22,10 +21,6 @@ module _ (rows : List ℕ) (s : ℕ) (own : Table) (h : IsTable rows (scope_tabl
   pub seen_from : own.count / 2 ≡ variables_seen rows s
   unfolding variables_seen pair_count
   seen_from = rw h.count
-
--- what a scope's variables are, asked of the number that the code has of it
-pub seen_to : (rows xs : List ℕ) {n s m : ℕ} → n ≡ variables_seen rows s → s ≡ m → all_below (variables_seen rows m) xs ≡ all_below n xs
-seen_to rows xs e q = ap (λ (k : ℕ). all_below k xs) (sym (e ∙ ap (variables_seen rows) q))
 
 pub yoke_in_lem : (rows : List ℕ) (s : ℕ) (t : Table) (d : ℕ) → IsTable rows s t → yoke_in rows s d ≡ b_at rows (t.start + (2 * d + 1))
 unfolding yoke_in detail_row row_in

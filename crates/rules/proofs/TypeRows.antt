@@ -153,9 +153,6 @@ module _ {rows bodies : List ℕ} {r : ℕ} (h : RowReady rows r bodies) {row : 
   unknown_answers o e f = row_answers o (λ look p. answered o (type_body_of row look) (ok boolean) 0 (ap (λ (x : TypeRow). type_body_of x look) (sym e)) f)
 
 -- ---- the rows one after another
-pub none_yet : (rows bodies : List ℕ) → length bodies ≡ type_bodies_length → BodiesBelow rows bodies 0
-none_yet rows bodies l = record { long = l; each = λ p h. absurd (let k : ⊥ = omega arith in k) }
-
 pub one_more : (rows bodies after : List ℕ) (r : ℕ) (t : Typed) → r < most_types → BodiesBelow rows bodies r → Answers (Ok t) (type_body rows r)
     → after ≡ paste bodies (96 * r) t.body 96 → BodiesBelow rows after (r + 1)
 one_more rows bodies after r t few held given q =
@@ -186,6 +183,3 @@ pub none_wrong : (rows bodies : List ℕ) (r : ℕ) → BodiesBelow rows bodies 
 unfolding type_wrong
 none_wrong rows bodies r held l =
     ap not (sym (every_all (table_count rows type_section) (λ k. is_ok (type_body rows k)) (λ k q. let h = held.each k (omega arith) in is_ok_lem (type_body rows k) h.body h.is)))
-
-pub all_held : (rows bodies : List ℕ) (r : ℕ) → BodiesBelow rows bodies r → table_count rows type_section ≤ r → BodiesBelow rows bodies (table_count rows type_section)
-all_held rows bodies r held l = record { long = held.long; each = λ p q. held.each p (omega arith) }

@@ -16,7 +16,7 @@ use Rattle.lingua.specs.Trees.{tabulate_from, tabulate}
 use Rattle.lingua.specs.Typing.{joined}
 use Rattle.lingua.specs.Format.{every_below}
 use Rattle.lingua.specs.Numbers.{expression_section, instruction_section, scope_table}
-use Rattle.lingua.specs.Rows.{table_count, pair_count, procedure_count, InstructionRow, expression_row, instruction_row, operands, evaluated, yoke_root, yoke_set}
+use Rattle.lingua.specs.Rows.{table_count, pair_count, procedure_count, expression_row, instruction_row, operands, evaluated, yoke_root, yoke_set}
 use Rattle.lingua.specs.References.{occurrences, yoke_in, declared_roots, yoke_roots, plain_roots, expression_uses}
 use Rattle.decoder.specs.Tables.{IsTable}
 use Rattle.decoder.specs.declared.tables.Table.{Table}

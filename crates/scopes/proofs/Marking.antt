@@ -7,7 +7,6 @@ use mathlib.Core.List.Memᴰ.{append_left as in_left}
 use mathlib.Core.List.Memᴰ.{append_right as in_right}
 use mathlib.Core.List.Memᴰ.{eq_of_singleton as in_one}
 use mathlib.Core.List.Memᴰ.{head as here}
-use mathlib.Core.List.Memᴰ.{not-nil as none_in}
 use mathlib.Core.List.Memᴰ.{tail as there}
 use mathlib.Core.List.{List, [], ◌∷◌, ◌++◌, Memᴰ as In}
 use Prim.Native.Nat.{ℕ, zero, suc, ◌≤◌, ◌<◌}
@@ -34,9 +33,6 @@ marked_one t x s v l h =
   where
     same : get_or (set t x v) x 0 ≡ v
     same = get_or-set_same t x v 0 l
-
-pub marked_none : (t : List ℕ) (s : ℕ) → Marked [] s t t
-marked_none t s = record { long = refl; nearer = λ x. near_same (get_or t x 0); marks = λ x m. absurd (none_in m); one = λ x. inl refl }
 
 pub marked_more : {xs ys : List ℕ} {s : ℕ} {t u v : List ℕ} → Marked xs s t u → Marked ys s u v → Marked (xs ++ ys) s t v
 marked_more {xs} {ys} {s} {t} {u} {v} h k =

@@ -1,5 +1,5 @@
 -- `instructions_once` meets its contract: all rows but the last are asked. Assumes nothing.
-use mathlib.Core.Path.{refl, ap, ◌∙◌}
+use mathlib.Core.Path.{ap, ◌∙◌}
 use mathlib.Core.List.{List, [], ◌∷◌, ◌++◌}
 use Prim.Native.Nat.{ℕ, pred}
 use Rattle.lingua.specs.Numbers.{instruction_section}

@@ -2,12 +2,8 @@
 use Rattle.std.proofs.Common.{ap, sym, ◌∙◌, ◌++◌, take, List, ℕ}
 use Rattle.std.proofs.Common.{append_assoc}
 use Rattle.std.proofs.lemmas.List.{take_more, take_all}
-use mathlib.Core.List.{append-nil}
 use Rattle.rules.proofs.Usage.{counted_to}
 use Rattle.rules.proofs.uses.note_all.Goals as goal
-
-pub loop-x-init : goal.loop-x-init
-loop-x-init c = λ xs h. counted_to h (sym (append-nil xs))
 
 pub loop-x-preserved : goal.loop-x-preserved
 loop-x-preserved c = λ xs h.
