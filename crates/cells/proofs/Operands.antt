@@ -59,9 +59,6 @@ lies_above h = record { cells = h.cells; fit = h.fit }
 pub lies_behind : {above : List ℤ} {b : Body} {x : Value} (s rest : List ℤ) → body_cells ≤ length s → Lies above 0 b x → Lies (drop body_cells (take body_cells s ++ (above ++ rest))) 0 b x
 lies_behind s rest long h = let k = lies_second s long (lies_front rest h) in record { cells = k.cells; fit = k.fit }
 
-pub both_long : (s above rest : List ℤ) → body_cells ≤ length s → body_cells ≤ length above → body_cells + body_cells ≤ length (take body_cells s ++ (above ++ rest))
-both_long s above rest h k = omega (arith, length-append (take body_cells s) (above ++ rest), length-append above rest, length-take-le body_cells s h)
-
 -- ---- what the operations ask
 pub lies_counted : {s : List ℤ} {b : Body} {x : Value} (w : ℕ) → size b ≡ w → size (list_of b) ≤ body_cells → Lies s 0 (list_of b) x → Counted s w
 lies_counted {s} {b} {x} w z small h = record {

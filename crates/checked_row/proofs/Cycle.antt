@@ -22,24 +22,24 @@ use Rattle.decoder.specs.declared.decode.ExpressionRow.{ExpressionRow as CodeRow
 use Rattle.decoder.specs.declared.decode.ExpressionRow.TheVariants as code
 use Rattle.decoder.specs.Decoded.{connective}
 use Rattle.profile.specs.Row.{RowSays}
-use Rattle.profile.specs.Facts.{RowFacts, row_facts, row_tree, row_tree_lem, settled_by_lem}
+use Rattle.profile.specs.Facts.{RowFacts, says_as, row_facts, row_tree, row_tree_lem, settled_by_lem}
 use Rattle.run.specs.Reached.{Lent}
 use Rattle.checked_row.specs.declared.answer.Evaluated.{Evaluated}
 use Rattle.checked_row.specs.Meaning.{World, Gives}
 use Rattle.checked_row.proofs.Giving.{gives_as, told_boolean}
 
--- ---- what a row says
-module _ {rows : List ℕ} {m : Lent} {vs : List Variable} {row : ℕ} (w : World rows m vs) (l : row < table_count rows expression_section) where
-  pub facts : {d : CodeRow} → RowSays rows row d → RowFacts rows row d
-  facts {d} s = row_facts rows w.accepted row l d s
+-- ---- what a row says, once it is told which kind of row it is
+module _ {rows : List ℕ} {m : Lent} {vs : List Variable} {row : ℕ} (w : World rows m vs) (l : row < table_count rows expression_section) {c : CodeRow} where
+  pub facts : {d : CodeRow} → c ≡ d → RowSays rows row c → RowFacts rows row d
+  facts {d} e s = row_facts rows w.accepted row l d (says_as e s)
 
   -- a variable's number is below 16, whosever the variable is
-  pub few_named : {n : ℕ} → RowSays rows row (code.Variable n) → n < most_variables
+  pub few_named : {n : ℕ} → c ≡ code.Variable n → RowSays rows row c → n < most_variables
   unfolding RowFacts
-  few_named s = omega (arith, facts s, few_variables rows w.accepted (expression_scope rows row) (use_at_most rows row))
+  few_named e s = omega (arith, facts e s, few_variables rows w.accepted (expression_scope rows row) (use_at_most rows row))
 
-  pub by_row : {d : CodeRow} {r : Result Evaluated Error} {stack : List ℤ} (x : Composite) → RowSays rows row d → Gives r stack (eval (row_tree rows row d) (contents vs) x) → Gives r stack (eval (expression_tree rows row) (contents vs) x)
-  by_row {d} {r} {stack} x s g = gives_as (ap (λ (e : Expression). eval e (contents vs) x) (sym (row_tree_lem rows row d s (facts s)))) g
+  pub by_row : {d : CodeRow} {r : Result Evaluated Error} {stack : List ℤ} (x : Composite) → c ≡ d → RowSays rows row c → Gives r stack (eval (row_tree rows row d) (contents vs) x) → Gives r stack (eval (expression_tree rows row) (contents vs) x)
+  by_row {d} x e s g = gives_as (ap (λ (f : Expression). eval f (contents vs) x) (sym (row_tree_lem rows row d (says_as e s) (facts e s)))) g
 
 -- ---- tests
 tested : (o : Outcome Composite) (g : Bool → Outcome Composite) → (o >>= λ x. truth_or boolean_expected x >>= λ t. g t) ≡ ((o >>= truth_or boolean_expected) >>= g)

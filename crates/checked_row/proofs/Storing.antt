@@ -109,6 +109,14 @@ module _ {variables : List ℕ} {cells : List ℤ} {states : List ℕ} {vs : Lis
       few_nodes = (h.holdable n lt).few_nodes;
     }
 
+    -- the body's cells lie within the variable's
+    pub cells_within : (body : List ℕ) → body ≡ take body_bytes (drop (body_bytes * n) variables) → {m : ℕ} → ((b : Body) → Holds body b → m ≡ size b)
+        → (body_cells * n + m ≤ length cells) × (m ≤ body_cells)
+    cells_within body e q =
+        let b = present_held body e in
+        let z = q (present_body (variable_at vs n)) b in
+        (omega (arith, cells_room (memory_of h) n lt, z, b.few_cells), omega (arith, z, b.few_cells))
+
     -- of the value that is there
     pub value_held : (x : Composite) → (variable_at vs n).content ≡ some x → (body : List ℕ) → body ≡ take body_bytes (drop (body_bytes * n) variables) → Holds body x.body
     value_held x q body e = subst (λ (b : Body). Holds body b) (sym (present_is (variable_at vs n) x q)) (present_held body e)

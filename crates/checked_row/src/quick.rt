@@ -37,7 +37,8 @@ fn simple_tag(first: u8) -> Option<u8>
     Some(first)
 }
 
-// The tag of a leaf's simple body, its cell at the stack's front; none of any other row.
+// The tag of a leaf's simple body, its cell at the stack's front; none of any other row. Drawn in at both operands, it takes no call.
+#[inline(always)]
 fn leaf(
     row: usize,
     rows: &Rows,

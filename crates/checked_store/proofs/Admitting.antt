@@ -32,6 +32,7 @@ use Rattle.run.proofs.Parts
 use Rattle.run.proofs.Admitting.{admits_error, admits_fault}
 use Rattle.checked_row.specs.Meaning.{Current, Gives}
 use Rattle.checked_store.specs.Meaning.{Bounds, Running}
+use Rattle.checked_row.proofs.Giving.{gives_as}
 use Rattle.checked_row.proofs.Storing.{memory_of}
 
 -- ---- the cell of a number or of a count
@@ -80,8 +81,8 @@ module _ {rows : List ℕ} {limits cells : List ℤ} {states bodies : List ℕ} 
   pub yoke_there : {k : ℕ} → k ≡ yoke_at states n → k ≤ table_count rows expression_section
   yoke_there e = omega (arith, e, Parts.yoke_there (memory_of h.world.stored) n lt (h.yokes n lt))
 
-  pub own_yoke : {k : ℕ} → k ≡ yoke_at states n → (x : Composite) → eval_yoke (yoke_tree rows k) (contents vs) x ≡ eval_yoke (variable_at vs n).yoke (contents vs) x
-  own_yoke e x = ap (λ (y : Yoke). eval_yoke y (contents vs) x) (ap (yoke_tree rows) e ∙ Parts.own_yoke (memory_of h.world.stored) n lt (h.yokes n lt))
+  pub own_yoke : {k : ℕ} → k ≡ yoke_at states n → (x : Composite) {y : Result Evaluated Error} {s : List ℤ} → Gives y s (eval_yoke (yoke_tree rows k) (contents vs) x) → Gives y s (eval_yoke (variable_at vs n).yoke (contents vs) x)
+  own_yoke e x g = gives_as (ap (λ (y : Yoke). eval_yoke y (contents vs) x) (ap (yoke_tree rows) e ∙ Parts.own_yoke (memory_of h.world.stored) n lt (h.yokes n lt))) g
 
 -- ---- the checks without a yoke
 pub held_own : {bodies : List ℕ} {limits : List ℤ} {n : ℕ} {v : Variable} → Bounds bodies limits n v → {body : List ℕ} → body ≡ take body_bytes (drop (body_bytes * n) bodies) → Holds body (present_body v)
@@ -90,7 +91,7 @@ held_own {v = v} b e = subst (λ (l : List ℕ). Holds l (present_body v)) (sym 
 pub no_yoke : {rows : List ℕ} {limits cells : List ℤ} {states bodies : List ℕ} {vs : List Variable} → Running rows limits (lent cells states bodies) vs → (n : ℕ) → n < length vs → {k : ℕ} → k ≡ yoke_at states n → k ≡ 0 → (variable_at vs n).yoke ≡ always
 no_yoke {rows} h n lt {k} e z = sym (Parts.own_yoke (memory_of h.world.stored) n lt (h.yokes n lt)) ∙ ap (yoke_tree rows) (sym e) ∙ always_is rows k z
 
-module _ (vs : List Variable) (v : Variable) (x : Composite) (free : v.yoke ≡ always) (b : Bool) (same : b ≡ coherent (present_body v) x.body) where
+module _ (vs : List Variable) (v : Variable) (x : Composite) (free : v.yoke ≡ always) {b : Bool} (same : b ≡ coherent (present_body v) x.body) where
   free_is : admitted vs v x ≡ (require b no_coherence >> require (within v.limit (as_whole x.value)) yoke_not_satisfied)
   unfolding admitted eval_yoke truth_or is_boolean as_truth
   free_is =
@@ -100,7 +101,7 @@ module _ (vs : List Variable) (v : Variable) (x : Composite) (free : v.yoke ≡ 
   pub free_other_body : b ≡ false → Admits no_coherence (admitted vs v x)
   free_other_body f = admits_error (λ e. omega arith) (free_is ∙ ap (λ (c : Bool). require c no_coherence >> require (within v.limit (as_whole x.value)) yoke_not_satisfied) f)
 
-  module _ (f : b ≡ true) (c : Bool) (in-limit : c ≡ within v.limit (as_whole x.value)) where
+  module _ (f : b ≡ true) {c : Bool} (in-limit : c ≡ within v.limit (as_whole x.value)) where
     free_within : admitted vs v x ≡ require c yoke_not_satisfied
     free_within =
         free_is
@@ -119,37 +120,37 @@ module _ (vs : List Variable) (v : Variable) (x : Composite) {y : Result Evaluat
   unfolding admitted
   yoke_error e f = admits_fault e (ap (λ (o : Outcome Composite). o >>= λ w. require (coherent (present_body v) x.body) no_coherence >> (truth_or yoke_expected w >>= λ t. require (t && within v.limit (as_whole x.value)) yoke_not_satisfied)) (g.error e f))
 
-  module _ (u : Evaluated) (z : y ≡ Ok u) (b : Bool) (same : b ≡ coherent (present_body v) x.body) where
-    reached : admitted vs v x ≡ (require b no_coherence >> (truth_or yoke_expected (g.answer u z).value >>= λ t. require (t && within v.limit (as_whole x.value)) yoke_not_satisfied))
+  module _ {u : Evaluated} (z : y ≡ Ok u) {b : Bool} (same : b ≡ coherent (present_body v) x.body) where
+    reached : admitted vs v x ≡ (require b no_coherence >> (truth_or yoke_expected (g.answer _ z).value >>= λ t. require (t && within v.limit (as_whole x.value)) yoke_not_satisfied))
     unfolding admitted
     reached =
-        ap (λ (o : Outcome Composite). o >>= λ w. require (coherent (present_body v) x.body) no_coherence >> (truth_or yoke_expected w >>= λ t. require (t && within v.limit (as_whole x.value)) yoke_not_satisfied)) (g.answer u z).is
-        ∙ ap (λ (c : Bool). require c no_coherence >> (truth_or yoke_expected (g.answer u z).value >>= λ t. require (t && within v.limit (as_whole x.value)) yoke_not_satisfied)) (sym same)
+        ap (λ (o : Outcome Composite). o >>= λ w. require (coherent (present_body v) x.body) no_coherence >> (truth_or yoke_expected w >>= λ t. require (t && within v.limit (as_whole x.value)) yoke_not_satisfied)) (g.answer _ z).is
+        ∙ ap (λ (c : Bool). require c no_coherence >> (truth_or yoke_expected (g.answer _ z).value >>= λ t. require (t && within v.limit (as_whole x.value)) yoke_not_satisfied)) (sym same)
 
     pub other_body : b ≡ false → Admits no_coherence (admitted vs v x)
-    other_body f = admits_error (λ e. omega arith) (reached ∙ ap (λ (c : Bool). require c no_coherence >> (truth_or yoke_expected (g.answer u z).value >>= λ t. require (t && within v.limit (as_whole x.value)) yoke_not_satisfied)) f)
+    other_body f = admits_error (λ e. omega arith) (reached ∙ ap (λ (c : Bool). require c no_coherence >> (truth_or yoke_expected (g.answer _ z).value >>= λ t. require (t && within v.limit (as_whole x.value)) yoke_not_satisfied)) f)
 
     module _ (f : b ≡ true) where
       asked : admitted vs v x ≡ ((eval_yoke v.yoke (contents vs) x >>= truth_or yoke_expected) >>= λ t. require (t && within v.limit (as_whole x.value)) yoke_not_satisfied)
       asked =
           reached
-          ∙ ap (λ (c : Bool). require c no_coherence >> (truth_or yoke_expected (g.answer u z).value >>= λ t. require (t && within v.limit (as_whole x.value)) yoke_not_satisfied)) f
-          ∙ ap (λ (o : Outcome Composite). (o >>= truth_or yoke_expected) >>= λ t. require (t && within v.limit (as_whole x.value)) yoke_not_satisfied) (sym (g.answer u z).is)
+          ∙ ap (λ (c : Bool). require c no_coherence >> (truth_or yoke_expected (g.answer _ z).value >>= λ t. require (t && within v.limit (as_whole x.value)) yoke_not_satisfied)) f
+          ∙ ap (λ (o : Outcome Composite). (o >>= truth_or yoke_expected) >>= λ t. require (t && within v.limit (as_whole x.value)) yoke_not_satisfied) (sym (g.answer _ z).is)
 
       pub no_truth : (e : Error) → fail (error_number e) ≡ (eval_yoke v.yoke (contents vs) x >>= truth_or yoke_expected) → Admits (error_number e) (admitted vs v x)
       no_truth e q = admits_fault e (asked ∙ sym (ap (λ (o : Outcome Bool). o >>= λ t. require (t && within v.limit (as_whole x.value)) yoke_not_satisfied) q))
 
-      told_is : (h : Bool) → ok h ≡ (eval_yoke v.yoke (contents vs) x >>= truth_or yoke_expected) → admitted vs v x ≡ require (h && within v.limit (as_whole x.value)) yoke_not_satisfied
-      told_is h e = asked ∙ sym (ap (λ (o : Outcome Bool). o >>= λ t. require (t && within v.limit (as_whole x.value)) yoke_not_satisfied) e)
+      told_is : {h : Bool} → ok h ≡ (eval_yoke v.yoke (contents vs) x >>= truth_or yoke_expected) → admitted vs v x ≡ require (h && within v.limit (as_whole x.value)) yoke_not_satisfied
+      told_is e = asked ∙ sym (ap (λ (o : Outcome Bool). o >>= λ t. require (t && within v.limit (as_whole x.value)) yoke_not_satisfied) e)
 
-      pub not_satisfied : (h : Bool) → ok h ≡ (eval_yoke v.yoke (contents vs) x >>= truth_or yoke_expected) → h ≡ false → Admits yoke_not_satisfied (admitted vs v x)
-      not_satisfied h e q = admits_error (λ k. omega arith) (told_is h e ∙ ap (λ (t : Bool). require (t && within v.limit (as_whole x.value)) yoke_not_satisfied) q)
+      pub not_satisfied : {h : Bool} → ok h ≡ (eval_yoke v.yoke (contents vs) x >>= truth_or yoke_expected) → h ≡ false → Admits yoke_not_satisfied (admitted vs v x)
+      not_satisfied e q = admits_error (λ k. omega arith) (told_is e ∙ ap (λ (t : Bool). require (t && within v.limit (as_whole x.value)) yoke_not_satisfied) q)
 
-      within_is : (h : Bool) → ok h ≡ (eval_yoke v.yoke (contents vs) x >>= truth_or yoke_expected) → h ≡ true → (c : Bool) → c ≡ within v.limit (as_whole x.value) → admitted vs v x ≡ require c yoke_not_satisfied
-      within_is h e q c w = told_is h e ∙ ap (λ (t : Bool). require (t && within v.limit (as_whole x.value)) yoke_not_satisfied) q ∙ ap (λ (t : Bool). require t yoke_not_satisfied) (sym w)
+      within_is : {h : Bool} → ok h ≡ (eval_yoke v.yoke (contents vs) x >>= truth_or yoke_expected) → h ≡ true → {c : Bool} → c ≡ within v.limit (as_whole x.value) → admitted vs v x ≡ require c yoke_not_satisfied
+      within_is e q w = told_is e ∙ ap (λ (t : Bool). require (t && within v.limit (as_whole x.value)) yoke_not_satisfied) q ∙ ap (λ (t : Bool). require t yoke_not_satisfied) (sym w)
 
-      pub out_of_limits : (h : Bool) → ok h ≡ (eval_yoke v.yoke (contents vs) x >>= truth_or yoke_expected) → h ≡ true → (c : Bool) → c ≡ within v.limit (as_whole x.value) → c ≡ false → Admits yoke_not_satisfied (admitted vs v x)
-      out_of_limits h e q c w k = admits_error (λ j. omega arith) (within_is h e q c w ∙ ap (λ (t : Bool). require t yoke_not_satisfied) k)
+      pub out_of_limits : {h : Bool} → ok h ≡ (eval_yoke v.yoke (contents vs) x >>= truth_or yoke_expected) → h ≡ true → {c : Bool} → c ≡ within v.limit (as_whole x.value) → c ≡ false → Admits yoke_not_satisfied (admitted vs v x)
+      out_of_limits e q w k = admits_error (λ j. omega arith) (within_is e q w ∙ ap (λ (t : Bool). require t yoke_not_satisfied) k)
 
-      pub passes : (h : Bool) → ok h ≡ (eval_yoke v.yoke (contents vs) x >>= truth_or yoke_expected) → h ≡ true → (c : Bool) → c ≡ within v.limit (as_whole x.value) → c ≡ true → Admits 0 (admitted vs v x)
-      passes h e q c w k = record { answer = λ j. within_is h e q c w ∙ ap (λ (t : Bool). require t yoke_not_satisfied) k; error = λ j. absurd (j refl) }
+      pub passes : {h : Bool} → ok h ≡ (eval_yoke v.yoke (contents vs) x >>= truth_or yoke_expected) → h ≡ true → {c : Bool} → c ≡ within v.limit (as_whole x.value) → c ≡ true → Admits 0 (admitted vs v x)
+      passes e q w k = record { answer = λ j. within_is e q w ∙ ap (λ (t : Bool). require t yoke_not_satisfied) k; error = λ j. absurd (j refl) }

@@ -18,7 +18,7 @@ use Rattle.lingua.specs.Erased.{values_of, eval_erased}
 use Rattle.cells.specs.Stack.{Lies, Leaves}
 use Rattle.cells.proofs.Elements.{list_size}
 use Rattle.cells.proofs.Operands.{leaves_as}
-use Rattle.cells.proofs.Walking.{counted, Walked, counted_elements, some_cell, walks, element_at, element_lies, gathered_more, gathered_all}
+use Rattle.cells.proofs.Walking.{counted, Walked, counted_elements, some_cell, walks, turn_room, element_at, element_lies, gathered_more, gathered_all}
 use Rattle.std.specs.Prelude as std
 use Rattle.lingua.specs.declared.errors.Error.{Error}
 use Rattle.run.specs.Reached.{Tells}
@@ -73,6 +73,13 @@ module _ {rows : List ℕ} {layout : List ℕ} {cells : List ℤ} {states : List
   module _ (i at : ℕ) (p : at ≡ 1 + i * width) (l : i < counted now) where
     more : i < count_values (as_items x)
     more = omega (arith, l, counted_elements h.lies)
+
+    -- it lies within the current value, which is small
+    pub element_within : (at + width ≤ length now) × (at + width ≤ body_cells)
+    element_within =
+        let k = list_walks in
+        let t = turn_room i (counted now) at width p l k.few in
+        (omega (arith, t, k.long), omega (arith, t, k.room))
 
     element_current : Current (take (at + width - at) (drop at now)) c (element_at x i)
     element_current = record { lies = element_lies h.lies i at width h.width_is p more; small = omega (arith, list_size c, h.small) }

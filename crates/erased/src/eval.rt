@@ -55,31 +55,15 @@ pub fn eval(
         }
         ExpressionRow::Binary(o, a, b) => {
             let x = eval(a, rows, layout, memory, current, &mut *stack);
-            let quick = leaf(
-                b,
-                rows,
-                layout,
-                memory,
-                current,
-                &mut stack[BODY_CELLS..],
-            );
-            if let Some(y) = quick {
-                return binary(o, x, y, layout, row, a, b, stack);
-            }
-            let y = eval(
-                b,
-                rows,
-                layout,
-                memory,
-                current,
-                &mut stack[BODY_CELLS..],
-            );
+            let above = &mut stack[BODY_CELLS..];
+            let y = match leaf(b, rows, layout, memory, current, &mut *above) {
+                Some(told) => told,
+                None => eval(b, rows, layout, memory, current, above),
+            };
             binary(o, x, y, layout, row, a, b, stack)
         }
         ExpressionRow::Lazy(settling, a, b) => {
-            lazy(
-                row, rows, layout, memory, settling, a, b, current, stack,
-            )
+            lazy(row, rows, layout, memory, settling, a, b, current, stack)
         }
         ExpressionRow::Choice(a, b, d) => {
             choice(row, rows, layout, memory, a, b, d, current, stack)
@@ -89,6 +73,8 @@ pub fn eval(
 }
 
 // Kinds 11 and 12: the second operand is evaluated unless the first settles the result.
+// What eval is lent goes on to lazy and choice one by one: a struct of it would be made for each such row and taken apart at once. The clauses ask for
+// the row.
 #[cycle(all_choice_eval_lazy)]
 fn lazy(
     row: usize,

@@ -46,6 +46,11 @@ pub record Meant (rows layout : List ℕ) (cells : List ℤ) (states : List ℕ)
   pub ready : Ready rows layout cells states now (row_tree rows row d)
   pub evaluates : (n : ℕ) (s : List ℤ) → Evaluates rows layout cells states now (row_tree rows row d) n s → Evaluates rows layout cells states now (expression_tree rows row) n s
 
+-- the results of two operands, the second 64 cells further up the stack
+pub record Placed (rows layout : List ℕ) (cells : List ℤ) (states : List ℕ) (now : List ℤ) (a b n m : ℕ) (stack : List ℤ) : Type 0 where
+  pub first : Evaluates rows layout cells states now (expression_tree rows a) n stack
+  pub second : Evaluates rows layout cells states now (expression_tree rows b) m (drop body_cells stack)
+
 module _ {rows : List ℕ} {layout : List ℕ} {cells : List ℤ} {states : List ℕ} {now : List ℤ} where
   -- ---- what a row says: which rows it names, what is asked of its tree, and that what this gives the row's expression gives
   module _ {row : ℕ} (r : Ready rows layout cells states now (expression_tree rows row)) (l : row < table_count rows expression_section) {d e : CodeRow} (q : d ≡ e) (h : RowSays rows row d) where
@@ -133,38 +138,40 @@ module _ {rows : List ℕ} {layout : List ℕ} {cells : List ℤ} {states : List
     pub binary_second_lem : {o : Binary} → Ready rows layout cells states now (binary row o (expression_tree rows a) (expression_tree rows b)) → Ready rows layout cells states now (expression_tree rows b)
     binary_second_lem r = ready_with r (binary_passed r.passed).passed_other
 
-    -- the first operand stays, whatever was tried above it
-    pub first_under : (s above rest : List ℤ) → body_cells ≤ length s → {n : ℕ} → Evaluates rows layout cells states now (expression_tree rows a) n s → Evaluates rows layout cells states now (expression_tree rows a) n (take body_cells s ++ (above ++ rest))
-    first_under s above rest long h = record {
-      leaves = λ ds vs cur g x w c d. first_stays above rest (sizes w a (omega arith) c d).small long (h.leaves ds vs cur g x w c d);
+    -- the first operand stays, whatever was evaluated above it
+    pub placed : (s above rest : List ℤ) → body_cells ≤ length s → {n m i : ℕ} {stack : List ℤ} → Evaluates rows layout cells states now (expression_tree rows a) n s → Evaluates rows layout cells states now (expression_tree rows b) m above
+        → i ≡ m → stack ≡ take body_cells s ++ (above ++ rest) → Placed rows layout cells states now a b n i stack
+    placed s above rest long {n} {m} {stack = stack} h k p q =
+        subst (λ (j : ℕ). Placed rows layout cells states now a b n j stack) (sym p)
+        (subst (λ (z : List ℤ). Placed rows layout cells states now a b n m z) (sym q)
+        (record {
+          first = record { leaves = λ ds vs cur g x w c d. first_stays above rest (sizes w a (omega arith) c d).small long (h.leaves ds vs cur g x w c d) };
+          second = record { leaves = λ ds vs cur g x w c d. second_lies s above rest long (k.leaves ds vs cur g x w c d) };
+        }))
+
+    pub has_binary : {o : Binary} {n m : ℕ} {s : List ℤ} → Placed rows layout cells states now a b n m s → Ready rows layout cells states now (binary row o (expression_tree rows a) (expression_tree rows b)) → HasBinary layout o row a b n m s
+    has_binary h r =
+        let u = binary_passed r.passed in
+        record {
+          operand = u.operand;
+          other = u.other;
+          given = r.result;
+          numbers = binary_numbers r.world r.is u;
+          outcome = _;
+          leaves = operand_leaves r h.first u.passed;
+          other_outcome = _;
+          other_leaves = operand_leaves r h.second u.passed_other;
+        }
+
+    pub binary_evaluates : {o : Binary} {n m i : ℕ} {s after : List ℤ} → Placed rows layout cells states now a b n m s
+        → ((c d g : Body) (p q : Result Value) → BinaryRow layout o row a b c d g → Leaves n s c p → Leaves m (drop body_cells s) d q → Leaves i after g (p >>= λ x. q >>= λ y. binary_value o x y))
+        → Evaluates rows layout cells states now (binary row o (expression_tree rows a) (expression_tree rows b)) i after
+    unfolding eval_erased
+    binary_evaluates h f = record {
+      leaves = λ ds vs cur g x w c d.
+          let u = binary_passed d in
+          f u.operand u.other g _ _ (binary_numbers w c u) (h.first.leaves ds vs cur u.operand x w c u.passed) (h.second.leaves ds vs cur u.other x w c u.passed_other);
     }
-
-    module _ (s above rest : List ℤ) (long : body_cells ≤ length s) {n m : ℕ} (h : Evaluates rows layout cells states now (expression_tree rows a) n s) (k : Evaluates rows layout cells states now (expression_tree rows b) m above) where
-      pub has_binary : {o : Binary} → Ready rows layout cells states now (binary row o (expression_tree rows a) (expression_tree rows b)) → HasBinary layout o row a b n m (take body_cells s ++ (above ++ rest))
-      has_binary r =
-          let u = binary_passed r.passed in
-          let z = binary_numbers r.world r.is u in
-          record {
-            operand = u.operand;
-            other = u.other;
-            given = r.result;
-            numbers = z;
-            outcome = _;
-            leaves = first_stays above rest z.small long (operand_leaves r h u.passed);
-            other_outcome = _;
-            other_leaves = second_lies s above rest long (operand_leaves r k u.passed_other);
-          }
-
-      pub binary_evaluates : {o : Binary} {i : ℕ} {after : List ℤ}
-          → ((c d g : Body) (p q : Result Value) → BinaryRow layout o row a b c d g → Leaves n (take body_cells s ++ (above ++ rest)) c p → Leaves m (drop body_cells (take body_cells s ++ (above ++ rest))) d q → Leaves i after g (p >>= λ x. q >>= λ y. binary_value o x y))
-          → Evaluates rows layout cells states now (binary row o (expression_tree rows a) (expression_tree rows b)) i after
-      unfolding eval_erased
-      binary_evaluates f = record {
-        leaves = λ ds vs cur g x w c d.
-            let u = binary_passed d in
-            let z = binary_numbers w c u in
-            f u.operand u.other g _ _ z (first_stays above rest z.small long (h.leaves ds vs cur u.operand x w c u.passed)) (second_lies s above rest long (k.leaves ds vs cur u.other x w c u.passed_other));
-      }
 
 -- ---- tests
 tested : {A : Type 0} (o : Result Value) (g : Bool → Result A) → (o >>= λ x. g (as_truth x)) ≡ (truth_in o >>= g)

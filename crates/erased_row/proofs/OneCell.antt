@@ -1,15 +1,14 @@
 -- A leaf of one cell, put at the stack's front: the same as its cells copied there. Assumes nothing.
-use mathlib.Core.Path.{◌≡◌, refl, sym, ap, subst, ◌∙◌}
+use mathlib.Core.Path.{◌≡◌, refl, subst}
 use Rattle.std.specs.Prelude as std
 use Rattle.lingua.specs.declared.errors.Error.{Error}
 use Rattle.lingua.specs.Faults.{number_of}
 use mathlib.Core.Bool.{true}
 use mathlib.Core.List.{List}
-use Prim.Native.Nat.{ℕ, ◌+◌, ◌*◌, ◌<◌}
+use Prim.Native.Nat.{ℕ, ◌*◌, ◌<◌}
 use native.Mathlib.Omega.{arith}
 use lib.IntN.{ℤ, pos}
-use lib.ListN.{length, get_or, set, drop, length-drop}
-use lib.Seq.{get_or-drop, paste, paste-zero, paste-suc}
+use lib.ListN.{length, get_or, set}
 use Rattle.lingua.specs.Numbers.{body_cells}
 use Rattle.lingua.specs.Errors.{not_filled}
 use Rattle.lingua.specs.Outcome.{ok, or_fail}
@@ -21,6 +20,7 @@ use Rattle.lingua.specs.Typing.{Bodies}
 use Rattle.lingua.specs.Erased.{values_of}
 use Rattle.cells.specs.Stack.{Leaves}
 use Rattle.run.specs.Memory.{Memory}
+use Rattle.run.proofs.Copying.{one_cell}
 use Rattle.run.proofs.Parts.{cells_room}
 use Rattle.erased_row.specs.Meaning.{Current, Evaluates, EvaluatesUnless}
 use Rattle.erased_row.proofs.Storing.{current_room, leaves_current, filled_there, leaves_filled}
@@ -34,13 +34,6 @@ module _ {rows : List ℕ} {layout : List ℕ} {cells : List ℤ} {states : List
   left_over = record { evaluates = λ b q. let k : ⊥ = cc in absurd k }
 
 -- ---- the cell
-one_cell : (s from : List ℤ) (at n : ℕ) (z : ℤ) → z ≡ get_or from at (pos 0) → n ≡ 1 → 0 < length s → at < length from → set s 0 z ≡ paste s 0 (drop at from) n
-one_cell s from at n z e f h k =
-    ap (λ (x : ℤ). set s 0 x) (e ∙ ap (λ (j : ℕ). get_or from j (pos 0)) (let j : at ≡ at + 0 = omega arith in j) ∙ sym (get_or-drop at from 0 (pos 0)))
-    ∙ ap (λ (x : List ℤ). set x 0 (get_or (drop at from) 0 (pos 0))) (paste-zero s 0 (drop at from))
-    ∙ paste-suc s 0 (drop at from) 0 (pos 0) (omega arith) (omega (arith, length-drop at from))
-    ∙ ap (λ (m : ℕ). paste s 0 (drop at from) m) (let m : 1 ≡ n = omega (arith, f) in m)
-
 pub current_cell : {current : List ℤ} {b : Body} {x : Value} → Current current b x → 1 ≡ size b → 0 < length current
 current_cell h m = omega (arith, (current_room 1 h m).0)
 

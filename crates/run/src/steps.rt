@@ -72,15 +72,12 @@ pub fn has_error(m: Status, n: usize) -> bool
 pub fn cleared(m: Status) -> Status
     ensures { result ≡ record { error = None; left = m.left; out = m.out } }
 {
-    Status {
-        error: None,
-        ..m
-    }
+    Status { error: None, ..m }
 }
 
 // How a run ended, and the steps that it took of its budget.
 pub fn ended(m: Status, budget: u16) -> RunEnd
-    requires left_le_budget { m.left ≤ budget }
+    requires { m.left ≤ budget }
     ensures { (vs : List Variable) (os : List (List Variable)) → run_meaning (Ok result) ≡ answered (ending_of budget (progress_of m.out (state_of m vs) os)) }
 {
     let steps = budget - m.left;

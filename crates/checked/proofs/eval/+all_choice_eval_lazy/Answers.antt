@@ -13,7 +13,6 @@ use Rattle.lingua.specs.Evaluation.{eval as meaning, truth_or}
 use Rattle.profile.specs.Facts.{RowFacts, row_tree}
 use Rattle.profile.specs.Known.{row_known}
 use Rattle.checked_row.proofs.Giving.{gives_error, gives_as}
-use Rattle.profile.specs.Facts.{says_as}
 use Rattle.cells.proofs.Walking.{counted_elements, element_at}
 use Rattle.checked_row.proofs.Stacking.{first_stays, second_lies}
 use Rattle.checked_row.proofs.Seeing.{sees_none}
@@ -98,16 +97,16 @@ eval-expression_row-says-requires-clause-known_expression t c = row_known _ c.re
 
 pub eval-constant-requires-clause-constant_row : goal.eval-constant-requires-clause-constant_row
 unfolding RowFacts
-eval-constant-requires-clause-constant_row t c = (facts c.requires.ready.world c.requires.here (says_as c.in-Constant.is c.expression_row-says.ensures), omega (arith, c.requires.room))
+eval-constant-requires-clause-constant_row t c = (facts c.requires.ready.world c.requires.here c.in-Constant.is c.expression_row-says.ensures, omega (arith, c.requires.room))
 
 pub eval-fetch-requires-clause-has_stored : goal.eval-fetch-requires-clause-has_stored
 eval-fetch-requires-clause-has_stored t c =
-    let w = c.requires.ready.world in record { store = c.requires.ready.store; stored = w.stored; there = few_named w c.requires.here (says_as c.in-Variable.is c.expression_row-says.ensures) }
+    let w = c.requires.ready.world in record { store = c.requires.ready.store; stored = w.stored; there = few_named w c.requires.here c.in-Variable.is c.expression_row-says.ensures }
 
 pub eval-eval-x-requires : goal.eval-eval-x-requires
 unfolding RowFacts
 eval-eval-x-requires t c =
-    let f = facts c.requires.ready.world c.requires.here (says_as c.in-Unary.is c.expression_row-says.ensures) in
+    let f = facts c.requires.ready.world c.requires.here c.in-Unary.is c.expression_row-says.ensures in
     (omega (arith, c.decreases, f), record { ready = c.requires.ready; here = omega (arith, f, c.requires.here); room = omega (arith, c.requires.room, f) })
 
 pub eval-unary-requires-clause-given : goal.eval-unary-requires-clause-given
@@ -116,29 +115,29 @@ eval-unary-requires-clause-given t c = let r = c.requires.ready in record { outc
 pub eval-pair-quick-requires : goal.eval-pair-quick-requires
 unfolding RowFacts
 eval-pair-quick-requires t c =
-    let f = facts c.requires.ready.world c.requires.here (says_as c.in-Binary.is c.expression_row-says.ensures) in record { asked = record { ready = c.requires.ready; here = omega (arith, f.0, c.requires.here); room = omega (arith, c.requires.room, f.0) }; asked_2 = record { ready = c.requires.ready; here = omega (arith, f.1, c.requires.here); room = simp length-drop (omega (arith, c.requires.room, f.1)) } }
+    let f = facts c.requires.ready.world c.requires.here c.in-Binary.is c.expression_row-says.ensures in record { asked = record { ready = c.requires.ready; here = omega (arith, f.0, c.requires.here); room = omega (arith, c.requires.room, f.0) }; asked_2 = record { ready = c.requires.ready; here = omega (arith, f.1, c.requires.here); room = simp length-drop (omega (arith, c.requires.room, f.1)) } }
 
 pub eval-returns-in_err-tag-in-Binary : goal.eval-returns-in_err-tag-in-Binary
 unfolding row_tree meaning
 eval-returns-in_err-tag-in-Binary t c = λ vs x w h.
     rw (passed _ _ c.from_residual.ensures.1)
-    (by_row w c.requires.here x (says_as c.in-Binary.is c.expression_row-says.ensures) (quick_failed _ _ _ _ c.in_err-tag-in-Binary.was (c.in-Some.ensures vs x w h)))
+    (by_row w c.requires.here x c.in-Binary.is c.expression_row-says.ensures (quick_failed _ _ _ _ c.in_err-tag-in-Binary.was (c.in-Some.ensures vs x w h)))
 
 pub eval-returns-in-Some : goal.eval-returns-in-Some
 unfolding row_tree meaning
 eval-returns-in-Some t c = λ vs x w h.
-    rw c.simple_value.ensures (by_row w c.requires.here x (says_as c.in-Binary.is c.expression_row-says.ensures) (quick_simple _ _ _ _ c.in_ok-tag-in-Binary.was (c.in-Some.ensures vs x w h)))
+    rw c.simple_value.ensures (by_row w c.requires.here x c.in-Binary.is c.expression_row-says.ensures (quick_simple _ _ _ _ c.in_ok-tag-in-Binary.was (c.in-Some.ensures vs x w h)))
 
 pub eval-eval-x-requires-in-Binary : goal.eval-eval-x-requires-in-Binary
 unfolding RowFacts
 eval-eval-x-requires-in-Binary t c =
-    let f = facts c.requires.ready.world c.requires.here (says_as c.in-Binary.is c.expression_row-says.ensures) in
+    let f = facts c.requires.ready.world c.requires.here c.in-Binary.is c.expression_row-says.ensures in
     (omega (arith, c.decreases, f.0), record { ready = c.requires.ready; here = omega (arith, f.0, c.requires.here); room = omega (arith, c.requires.room, f.0, c.pair-quick.auto.stack) })
 
 pub eval-eval-y-requires : goal.eval-eval-y-requires
 unfolding RowFacts
 eval-eval-y-requires t c =
-    let f = facts c.requires.ready.world c.requires.here (says_as c.in-Binary.is c.expression_row-says.ensures) in
+    let f = facts c.requires.ready.world c.requires.here c.in-Binary.is c.expression_row-says.ensures in
     (omega (arith, c.decreases, f.1), record { ready = c.requires.ready; here = omega (arith, f.1, c.requires.here); room = simp (length-take, length-drop) (omega (arith, c.requires.room, f.1, c.eval-x-in-Binary.auto.stack, c.pair-quick.auto.stack)) })
 
 pub eval-binary-requires-clause-given : goal.eval-binary-requires-clause-given
@@ -156,55 +155,55 @@ eval-binary-requires-clause-given_2 t c =
 pub eval-lazy-requires : goal.eval-lazy-requires
 unfolding RowFacts
 eval-lazy-requires t c =
-    let f = facts c.requires.ready.world c.requires.here (says_as c.in-Lazy.is c.expression_row-says.ensures) in
+    let f = facts c.requires.ready.world c.requires.here c.in-Lazy.is c.expression_row-says.ensures in
     (omega (arith, c.decreases), (c.requires, (f.0, f.1)))
 
 pub eval-choice-requires : goal.eval-choice-requires
 unfolding RowFacts
 eval-choice-requires t c =
-    let f = facts c.requires.ready.world c.requires.here (says_as c.in-Choice.is c.expression_row-says.ensures) in
+    let f = facts c.requires.ready.world c.requires.here c.in-Choice.is c.expression_row-says.ensures in
     (omega (arith, c.decreases), (c.requires, (f.0, f.1, f.2)))
 
 pub eval-all-requires : goal.eval-all-requires
 unfolding RowFacts
 eval-all-requires t c =
-    let f = facts c.requires.ready.world c.requires.here (says_as c.in-AllList.is c.expression_row-says.ensures) in
+    let f = facts c.requires.ready.world c.requires.here c.in-AllList.is c.expression_row-says.ensures in
     (omega (arith, c.decreases), (c.requires, f))
 
 pub eval-returns-in-Constant : goal.eval-returns-in-Constant
 unfolding row_tree meaning
-eval-returns-in-Constant t c = λ vs x w h. by_row w c.requires.here x (says_as c.in-Constant.is c.expression_row-says.ensures) c.constant.ensures
+eval-returns-in-Constant t c = λ vs x w h. by_row w c.requires.here x c.in-Constant.is c.expression_row-says.ensures c.constant.ensures
 
 pub eval-returns-in-Variable : goal.eval-returns-in-Variable
 unfolding row_tree meaning
-eval-returns-in-Variable t c = λ vs x w h. by_row w c.requires.here x (says_as c.in-Variable.is c.expression_row-says.ensures) (c.fetch.ensures vs w.stored)
+eval-returns-in-Variable t c = λ vs x w h. by_row w c.requires.here x c.in-Variable.is c.expression_row-says.ensures (c.fetch.ensures vs w.stored)
 
 pub eval-returns-in-Current : goal.eval-returns-in-Current
 unfolding row_tree meaning
-eval-returns-in-Current t c = λ vs x w h. by_row w c.requires.here x (says_as c.in-Current.is c.expression_row-says.ensures) (c.copied.ensures x h)
+eval-returns-in-Current t c = λ vs x w h. by_row w c.requires.here x c.in-Current.is c.expression_row-says.ensures (c.copied.ensures x h)
 
 pub eval-returns-in-Unary : goal.eval-returns-in-Unary
 unfolding row_tree meaning
-eval-returns-in-Unary t c = λ vs x w h. by_row w c.requires.here x (says_as c.in-Unary.is c.expression_row-says.ensures) (c.unary.ensures _ (c.eval-x.ensures vs x w h))
+eval-returns-in-Unary t c = λ vs x w h. by_row w c.requires.here x c.in-Unary.is c.expression_row-says.ensures (c.unary.ensures _ (c.eval-x.ensures vs x w h))
 
 pub eval-returns-in_default : goal.eval-returns-in_default
 unfolding row_tree meaning
 eval-returns-in_default t c = λ vs x w h.
     let long : 64 ≤ length c.eval-x-in-Binary.new.stack = omega (arith, c.requires.room, c.eval-x-in-Binary.auto.stack, c.pair-quick.auto.stack) in
-    by_row w c.requires.here x (says_as c.in-Binary.is c.expression_row-says.ensures)
+    by_row w c.requires.here x c.in-Binary.is c.expression_row-says.ensures
     (c.binary.ensures _ _ (first_stays c.eval-y.new.stack _ long (c.eval-x-in-Binary.ensures vs x w h)) (second_lies c.eval-x-in-Binary.new.stack c.eval-y.new.stack _ long (c.eval-y.ensures vs x w h)))
 
 pub eval-returns-in-Lazy : goal.eval-returns-in-Lazy
 unfolding row_tree
-eval-returns-in-Lazy t c = λ vs x w h. by_row w c.requires.here x (says_as c.in-Lazy.is c.expression_row-says.ensures) (c.lazy.ensures vs x w h)
+eval-returns-in-Lazy t c = λ vs x w h. by_row w c.requires.here x c.in-Lazy.is c.expression_row-says.ensures (c.lazy.ensures vs x w h)
 
 pub eval-returns-in-Choice : goal.eval-returns-in-Choice
 unfolding row_tree
-eval-returns-in-Choice t c = λ vs x w h. by_row w c.requires.here x (says_as c.in-Choice.is c.expression_row-says.ensures) (c.choice.ensures vs x w h)
+eval-returns-in-Choice t c = λ vs x w h. by_row w c.requires.here x c.in-Choice.is c.expression_row-says.ensures (c.choice.ensures vs x w h)
 
 pub eval-returns-in-AllList : goal.eval-returns-in-AllList
 unfolding row_tree
-eval-returns-in-AllList t c = λ vs x w h. by_row w c.requires.here x (says_as c.in-AllList.is c.expression_row-says.ensures) (c.all.ensures vs x w h)
+eval-returns-in-AllList t c = λ vs x w h. by_row w c.requires.here x c.in-AllList.is c.expression_row-says.ensures (c.all.ensures vs x w h)
 
 pub lazy-returns-in_err-first : goal.lazy-returns-in_err-first
 lazy-returns-in_err-first t c = λ vs x w h.

@@ -2,8 +2,7 @@
 use mathlib.Core.Path.{refl, sym, ◌∙◌}
 use native.Mathlib.Omega.{arith}
 use Rattle.checked_row.proofs.Giving.{gives_error}
-use Rattle.run.proofs.Parts.{cells_room}
-use Rattle.checked_row.proofs.Storing.{memory_of, flag_there, filled_there, body_room, present_held, not_filled_is, gives_variable}
+use Rattle.checked_row.proofs.Storing.{flag_there, filled_there, body_room, present_held, cells_within, not_filled_is, gives_variable}
 use Rattle.checked_row.proofs.leaves.fetch.Goals as goal
 
 pub is_filled-requires : goal.is_filled-requires
@@ -27,17 +26,13 @@ pub copy-requires-clause-n_in_bounds : goal.copy-requires-clause-n_in_bounds
 copy-requires-clause-n_in_bounds c =
     let h = c.requires.has_stored in
     let lt = filled_there h.stored _ (sym c.is_filled.ensures ∙ c.if-not-is_filled.false) in
-    let b = present_held h.stored _ lt _ c.taken-body.ensures in
-    let m = (c.measure_body-m.ensures _ b).is_cells in
-    (omega (arith, cells_room (memory_of h.stored) _ lt, m, b.few_cells))
+    (cells_within h.stored _ lt _ c.taken-body.ensures (λ b k. (c.measure_body-m.ensures b k).is_cells)).0
 
 pub copy-requires-clause-n_in_bounds_2 : goal.copy-requires-clause-n_in_bounds_2
 copy-requires-clause-n_in_bounds_2 c =
     let h = c.requires.has_stored in
     let lt = filled_there h.stored _ (sym c.is_filled.ensures ∙ c.if-not-is_filled.false) in
-    let b = present_held h.stored _ lt _ c.taken-body.ensures in
-    let m = (c.measure_body-m.ensures _ b).is_cells in
-    (omega (arith, m, b.few_cells, c.requires.body_cells_in_bounds))
+    omega (arith, (cells_within h.stored _ lt _ c.taken-body.ensures (λ b k. (c.measure_body-m.ensures b k).is_cells)).1, c.requires.body_cells_in_bounds)
 
 pub returns : goal.returns
 returns c = λ vs h.

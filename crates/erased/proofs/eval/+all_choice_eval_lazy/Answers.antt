@@ -1,20 +1,19 @@
-use mathlib.Core.Path.{refl}
-use mathlib.Core.List.{◌++◌}
-use Prim.Native.Nat.{◌+◌, ◌-◌, ◌*◌, ◌≤◌}
+use mathlib.Core.Path.{refl, ap}
+use Prim.Native.Nat.{◌≤◌}
 use native.Mathlib.Omega.{arith}
-use lib.ListN.{length, take, drop, length-append, length-take, length-drop}
+use lib.ListN.{length, length-take, length-drop}
+use Rattle.lingua.specs.Faults.{number_of}
 use Rattle.lingua.specs.Trees.{expression_tree}
 use Rattle.profile.specs.Facts.{RowFacts, row_tree}
 use Rattle.profile.specs.Known.{row_known}
 use Rattle.erased_row.proofs.Telling.{sees_none}
 use Rattle.erased_row.proofs.Passing.{layout_room}
-use Rattle.cells.proofs.Operands.{both_long}
-use Rattle.cells.proofs.Walking.{turn_room}
 use Rattle.laws.specs.Faults.{passed_on}
 use Rattle.erased_row.proofs.Leaving.{no_zero}
-use Rattle.erased.proofs.Walking.{ready_listed, list_cell, list_walks, element_ready, sees_more, all_evaluates}
-use Rattle.erased_row.proofs.Cycle.{meant, variable_few, constant_evaluates, has_variable, variable_evaluates, has_current, current_evaluates, unary_ready, has_unary, unary_evaluates, binary_first, binary_second_lem, first_under, has_binary, binary_evaluates, lazy_next, lazy_error, lazy_settled, lazy_second, choice_first, choice_other, choice_error, choice_yes, choice_no}
+use Rattle.erased.proofs.Walking.{ready_listed, list_cell, list_walks, element_within, element_ready, sees_more, all_evaluates}
+use Rattle.erased_row.proofs.Cycle.{meant, variable_few, constant_evaluates, has_variable, variable_evaluates, has_current, current_evaluates, unary_ready, has_unary, unary_evaluates, binary_first, binary_second_lem, placed, has_binary, binary_evaluates, lazy_next, lazy_error, lazy_settled, lazy_second, choice_first, choice_other, choice_error, choice_yes, choice_no}
 use Rattle.erased.proofs.eval.+all_choice_eval_lazy.Goals as goal
+use Rattle.erased.proofs.eval.+all_choice_eval_lazy.Goals.{eval-in-Some, eval-in-None}
 
 pub all-second_at-width-requires : goal.all-second_at-width-requires
 all-second_at-width-requires t c = layout_room c.requires.ready.world c.requires.a_lt_row.1
@@ -31,29 +30,19 @@ pub all-loop-i-init : goal.all-loop-i-init
 all-loop-i-init t c = (refl, λ ds vs d x l. sees_none)
 
 pub all-overflow_mul-at : goal.all-overflow_mul-at
-all-overflow_mul-at t c =
-    let k = list_walks (ready_listed _ c.second_at-width.ensures c.requires.ready).listed in
-    omega (arith, turn_room c.loop-i.i _ (1 + c.loop-i.i * c.second_at-width.result) _ refl c.loop-i-test.true k.few, k.room, k.long)
+all-overflow_mul-at t c = omega (arith, element_within (ready_listed _ c.second_at-width.ensures c.requires.ready).listed c.loop-i.i _ refl c.loop-i-test.true)
 
 pub all-overflow_add-at : goal.all-overflow_add-at
-all-overflow_add-at t c =
-    let k = list_walks (ready_listed _ c.second_at-width.ensures c.requires.ready).listed in
-    omega (arith, turn_room c.loop-i.i _ (1 + c.loop-i.i * c.second_at-width.result) _ refl c.loop-i-test.true k.few, k.room, k.long)
+all-overflow_add-at t c = omega (arith, element_within (ready_listed _ c.second_at-width.ensures c.requires.ready).listed c.loop-i.i _ refl c.loop-i-test.true)
 
 pub all-overflow_add-at-in-loop-i : goal.all-overflow_add-at-in-loop-i
-all-overflow_add-at-in-loop-i t c =
-    let k = list_walks (ready_listed _ c.second_at-width.ensures c.requires.ready).listed in
-    omega (arith, turn_room c.loop-i.i _ (1 + c.loop-i.i * c.second_at-width.result) _ refl c.loop-i-test.true k.few, k.room, k.long)
+all-overflow_add-at-in-loop-i t c = omega (arith, element_within (ready_listed _ c.second_at-width.ensures c.requires.ready).listed c.loop-i.i _ refl c.loop-i-test.true)
 
 pub all-offset_bounds-current-at : goal.all-offset_bounds-current-at
-all-offset_bounds-current-at t c =
-    let k = list_walks (ready_listed _ c.second_at-width.ensures c.requires.ready).listed in
-    omega (arith, turn_room c.loop-i.i _ (1 + c.loop-i.i * c.second_at-width.result) _ refl c.loop-i-test.true k.few, k.room, k.long)
+all-offset_bounds-current-at t c = omega (arith, element_within (ready_listed _ c.second_at-width.ensures c.requires.ready).listed c.loop-i.i _ refl c.loop-i-test.true)
 
 pub all-slice_bounds-eval-end : goal.all-slice_bounds-eval-end
-all-slice_bounds-eval-end t c =
-    let k = list_walks (ready_listed _ c.second_at-width.ensures c.requires.ready).listed in
-    omega (arith, turn_room c.loop-i.i _ (1 + c.loop-i.i * c.second_at-width.result) _ refl c.loop-i-test.true k.few, k.room, k.long)
+all-slice_bounds-eval-end t c = omega (arith, element_within (ready_listed _ c.second_at-width.ensures c.requires.ready).listed c.loop-i.i _ refl c.loop-i-test.true)
 
 pub all-eval-x-requires : goal.all-eval-x-requires
 all-eval-x-requires t c =
@@ -123,9 +112,9 @@ eval-eval-x-requires-in-Binary t c =
     let m = meant c.requires.ready c.requires.row_lt_count c.in-Binary.is c.expression_row-says.ensures in
     (omega (arith, c.decreases, m.facts.0), (binary_first c.requires.row_lt_count m.facts.0 m.facts.1 m.ready, (omega (arith, m.facts.0, c.requires.row_lt_count), omega (arith, c.requires.row_in_bounds, m.facts.0))))
 
-pub eval-leaf-quick-requires : goal.eval-leaf-quick-requires
+pub eval-leaf-requires : goal.eval-leaf-requires
 unfolding RowFacts row_tree
-eval-leaf-quick-requires t c =
+eval-leaf-requires t c =
     let m = meant c.requires.ready c.requires.row_lt_count c.in-Binary.is c.expression_row-says.ensures in
     record { ready = binary_second_lem c.requires.row_lt_count m.facts.0 m.facts.1 m.ready; row_lt_count = omega (arith, m.facts.1, c.requires.row_lt_count); row_in_bounds = simp (length-take, length-drop) (omega (arith, c.requires.row_in_bounds, m.facts.1, c.eval-x-in-Binary.auto.stack)) }
 
@@ -134,31 +123,34 @@ unfolding RowFacts row_tree
 eval-binary-requires t c =
     let m = meant c.requires.ready c.requires.row_lt_count c.in-Binary.is c.expression_row-says.ensures in
     let long : 64 ≤ length c.eval-x-in-Binary.new.stack = omega (arith, c.requires.row_in_bounds, c.eval-x-in-Binary.auto.stack) in
-    record { has_binary = has_binary c.requires.row_lt_count m.facts.0 m.facts.1 c.eval-x-in-Binary.new.stack c.leaf-quick.new.stack _ long c.eval-x-in-Binary.ensures (c.leaf-quick.ensures.evaluates _ c.in-Some.is) m.ready; row_in_bounds = (layout_room c.requires.ready.world c.requires.row_lt_count, layout_room c.requires.ready.world (omega (arith, m.facts.0, c.requires.row_lt_count)), layout_room c.requires.ready.world (omega (arith, m.facts.1, c.requires.row_lt_count))); body_cells_in_bounds = both_long c.eval-x-in-Binary.new.stack c.leaf-quick.new.stack _ long (omega (arith, c.requires.row_in_bounds, c.eval-x-in-Binary.auto.stack, simp (length-take, length-drop) at c.leaf-quick.auto.stack)) }
+    record {
+      has_binary = has_binary c.requires.row_lt_count m.facts.0 m.facts.1
+          (elim c.match-leaf.branch [
+            | eval-in-Some w ↦ placed c.requires.row_lt_count m.facts.0 m.facts.1 _ _ _ long c.eval-x-in-Binary.ensures (c.leaf.ensures.evaluates _ w.in-Some.is) (ap number_of w.y-is) w.stack-is
+            | eval-in-None w ↦ placed c.requires.row_lt_count m.facts.0 m.facts.1 _ _ _ long c.eval-x-in-Binary.ensures w.eval-y.ensures (ap number_of w.y-is) w.stack-is
+          ])
+          m.ready;
+      row_in_bounds = (layout_room c.requires.ready.world c.requires.row_lt_count, layout_room c.requires.ready.world (omega (arith, m.facts.0, c.requires.row_lt_count)), layout_room c.requires.ready.world (omega (arith, m.facts.1, c.requires.row_lt_count)));
+      body_cells_in_bounds = omega (arith, c.requires.row_in_bounds, m.facts.1, c.eval-x-in-Binary.auto.stack, c.match-leaf.auto.stack);
+    }
 
-pub eval-returns-in-Some : goal.eval-returns-in-Some
+pub eval-returns-after-leaf : goal.eval-returns-after-leaf
 unfolding RowFacts row_tree
-eval-returns-in-Some t c =
+eval-returns-after-leaf t c =
     let m = meant c.requires.ready c.requires.row_lt_count c.in-Binary.is c.expression_row-says.ensures in
     let long : 64 ≤ length c.eval-x-in-Binary.new.stack = omega (arith, c.requires.row_in_bounds, c.eval-x-in-Binary.auto.stack) in
-    m.evaluates _ _ (binary_evaluates c.requires.row_lt_count m.facts.0 m.facts.1 c.eval-x-in-Binary.new.stack c.leaf-quick.new.stack _ long c.eval-x-in-Binary.ensures (c.leaf-quick.ensures.evaluates _ c.in-Some.is) c.binary.ensures)
+    m.evaluates _ _ (binary_evaluates c.requires.row_lt_count m.facts.0 m.facts.1
+    (elim c.match-leaf.branch [
+      | eval-in-Some w ↦ placed c.requires.row_lt_count m.facts.0 m.facts.1 _ _ _ long c.eval-x-in-Binary.ensures (c.leaf.ensures.evaluates _ w.in-Some.is) (ap number_of w.y-is) w.stack-is
+      | eval-in-None w ↦ placed c.requires.row_lt_count m.facts.0 m.facts.1 _ _ _ long c.eval-x-in-Binary.ensures w.eval-y.ensures (ap number_of w.y-is) w.stack-is
+    ])
+    c.binary.ensures)
 
 pub eval-eval-y-requires : goal.eval-eval-y-requires
 unfolding RowFacts row_tree
 eval-eval-y-requires t c =
     let m = meant c.requires.ready c.requires.row_lt_count c.in-Binary.is c.expression_row-says.ensures in
-    (omega (arith, c.decreases, m.facts.1), (binary_second_lem c.requires.row_lt_count m.facts.0 m.facts.1 m.ready, (omega (arith, m.facts.1, c.requires.row_lt_count), simp (length-append, length-take, length-drop) (omega (arith, c.requires.row_in_bounds, m.facts.1, c.eval-x-in-Binary.auto.stack, simp (length-take, length-drop) at c.leaf-quick.auto.stack)))))
-
-pub eval-binary-requires-in-Binary : goal.eval-binary-requires-in-Binary
-unfolding RowFacts row_tree
-eval-binary-requires-in-Binary t c =
-    let m = meant c.requires.ready c.requires.row_lt_count c.in-Binary.is c.expression_row-says.ensures in
-    let low : 64 ≤ length c.eval-x-in-Binary.new.stack = omega (arith, c.requires.row_in_bounds, c.eval-x-in-Binary.auto.stack) in
-    let tried = take 64 c.eval-x-in-Binary.new.stack ++ (c.leaf-quick.new.stack ++ drop (length c.eval-x-in-Binary.new.stack - 64) (drop 64 c.eval-x-in-Binary.new.stack)) in
-    let both = both_long c.eval-x-in-Binary.new.stack c.leaf-quick.new.stack (drop (length c.eval-x-in-Binary.new.stack - 64) (drop 64 c.eval-x-in-Binary.new.stack)) low (omega (arith, c.requires.row_in_bounds, c.eval-x-in-Binary.auto.stack, simp (length-take, length-drop) at c.leaf-quick.auto.stack)) in
-    let long : 64 ≤ length tried = omega (arith, both) in
-    let first = first_under c.requires.row_lt_count m.facts.0 m.facts.1 c.eval-x-in-Binary.new.stack c.leaf-quick.new.stack _ low c.eval-x-in-Binary.ensures in
-    record { has_binary = has_binary c.requires.row_lt_count m.facts.0 m.facts.1 tried c.eval-y.new.stack _ long first c.eval-y.ensures m.ready; row_in_bounds = (layout_room c.requires.ready.world c.requires.row_lt_count, layout_room c.requires.ready.world (omega (arith, m.facts.0, c.requires.row_lt_count)), layout_room c.requires.ready.world (omega (arith, m.facts.1, c.requires.row_lt_count))); body_cells_in_bounds = both_long tried c.eval-y.new.stack _ long (omega (arith, both, simp (length-take, length-drop) at c.eval-y.auto.stack)) }
+    (omega (arith, c.decreases, m.facts.1), (binary_second_lem c.requires.row_lt_count m.facts.0 m.facts.1 m.ready, (omega (arith, m.facts.1, c.requires.row_lt_count), omega (arith, c.requires.row_in_bounds, m.facts.1, c.eval-x-in-Binary.auto.stack, simp (length-take, length-drop) at c.leaf.auto.stack))))
 
 pub eval-lazy-requires : goal.eval-lazy-requires
 unfolding RowFacts row_tree
@@ -201,17 +193,6 @@ unfolding RowFacts row_tree
 eval-returns-in-Unary t c =
     let m = meant c.requires.ready c.requires.row_lt_count c.in-Unary.is c.expression_row-says.ensures in
     m.evaluates _ _ (unary_evaluates c.requires.row_lt_count m.facts c.eval-x.ensures c.unary.ensures)
-
-pub eval-returns-in_default : goal.eval-returns-in_default
-unfolding RowFacts row_tree
-eval-returns-in_default t c =
-    let m = meant c.requires.ready c.requires.row_lt_count c.in-Binary.is c.expression_row-says.ensures in
-    let low : 64 ≤ length c.eval-x-in-Binary.new.stack = omega (arith, c.requires.row_in_bounds, c.eval-x-in-Binary.auto.stack) in
-    let tried = take 64 c.eval-x-in-Binary.new.stack ++ (c.leaf-quick.new.stack ++ drop (length c.eval-x-in-Binary.new.stack - 64) (drop 64 c.eval-x-in-Binary.new.stack)) in
-    let both = both_long c.eval-x-in-Binary.new.stack c.leaf-quick.new.stack (drop (length c.eval-x-in-Binary.new.stack - 64) (drop 64 c.eval-x-in-Binary.new.stack)) low (omega (arith, c.requires.row_in_bounds, c.eval-x-in-Binary.auto.stack, simp (length-take, length-drop) at c.leaf-quick.auto.stack)) in
-    let long : 64 ≤ length tried = omega (arith, both) in
-    let first = first_under c.requires.row_lt_count m.facts.0 m.facts.1 c.eval-x-in-Binary.new.stack c.leaf-quick.new.stack _ low c.eval-x-in-Binary.ensures in
-    m.evaluates _ _ (binary_evaluates c.requires.row_lt_count m.facts.0 m.facts.1 tried c.eval-y.new.stack _ long first c.eval-y.ensures c.binary-in-Binary.ensures)
 
 pub eval-returns-in-Lazy : goal.eval-returns-in-Lazy
 unfolding row_tree
