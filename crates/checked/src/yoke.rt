@@ -14,6 +14,7 @@ use crate::eval::eval;
 use body::make::simple;
 use body::walk::BOOLEAN;
 use checked_row::answer::{CurrentValue, Evaluated, boolean, truth_of};
+use checked_row::sight::Sight;
 use decoder::rows::Rows;
 use lingua::errors::Error;
 use run::memory::Memory;
@@ -35,7 +36,12 @@ pub fn eval_yoke(
     if y == 0 {
         return Ok(boolean(true, stack));
     }
-    eval(y - 1, rows, memory, current, stack)
+    let sight = Sight {
+        rows,
+        memory,
+        current,
+    };
+    eval(y - 1, &sight, stack)
 }
 
 // Outside yokes there is no current value, and a Boolean stands for it.
@@ -56,7 +62,12 @@ pub fn eval_plain(
         cells: &cells,
         body: simple(BOOLEAN),
     };
-    eval(row, rows, memory, &none, stack)
+    let sight = Sight {
+        rows,
+        memory,
+        current: &none,
+    };
+    eval(row, &sight, stack)
 }
 
 // A test's value.

@@ -3,6 +3,7 @@
 #![tactic(auto)]
 
 pub mod answer; // answer.rt: what evaluation gives
+pub mod sight; // sight.rt: what an expression sees
 pub mod leaves; // leaves.rt: constants, variables and the current value
 pub mod quick; // quick.rt: an operation on two leaves at once
 pub mod operate; // operate.rt: an operation on evaluated operands

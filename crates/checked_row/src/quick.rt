@@ -10,21 +10,18 @@ ghost use Rattle.lingua.specs.Trees.{expression_tree};
 ghost use Rattle.lingua.specs.Operations.{binary_meaning};
 ghost use Rattle.lingua.specs.Evaluation.{eval as meaning, apply_binary};
 ghost use Rattle.body.specs.Encode.{Holds};
-ghost use Rattle.run.specs.Lending.{lent_in};
-ghost use Rattle.checked_row.specs.Meaning.{World, Current, Asked, Gives, Given, simple_evaluated, IsSimple, SimpleGives, QuickGives};
+ghost use Rattle.checked_row.specs.Meaning.{WorldSeen, CurrentSeen, Asked, Gives, Given, simple_evaluated, IsSimple, SimpleGives, QuickGives};
 
-use crate::answer::CurrentValue;
+use crate::sight::Sight;
 use body::make::simple;
 use body::walk::WORD;
 use body_half::operation::simple_binary;
 use decoder::decode::ExpressionRow;
-use decoder::rows::Rows;
 use lingua::errors::Error;
 use lingua::operations::BinaryOperation;
 use lingua::sizes::{BODY_BYTES, BODY_CELLS};
 use profile::constants::{constant_body, constant_cell};
 use profile::row::expression_row;
-use run::memory::Memory;
 use run::words::is_filled;
 
 // The tag of a simple body by its first byte, none of any other.
@@ -39,17 +36,14 @@ fn simple_tag(first: u8) -> Option<u8>
 
 // The tag of a leaf's simple body, its cell at the stack's front; none of any other row. Drawn in at both operands, it takes no call.
 #[inline(always)]
-fn leaf(
-    row: usize,
-    rows: &Rows,
-    memory: &Memory,
-    current: &CurrentValue,
-    stack: &mut [i64],
-) -> Option<u8>
-    requires { Asked row rows.now (lent_in memory.now) current.now.cells.now current.now.body stack.old }
-    ensures { (vs : List Variable) (x : Composite) → World rows.now (lent_in memory.now) vs → Current current.now.cells.now current.now.body x
-        → SimpleGives result stack.new (meaning (expression_tree rows.now row) (contents vs) x) }
+fn leaf(row: usize, sight: &Sight, stack: &mut [i64]) -> Option<u8>
+    requires { Asked row sight.now stack.old }
+    ensures { (vs : List Variable) (x : Composite) → WorldSeen sight.now vs → CurrentSeen sight.now x
+        → SimpleGives result stack.new (meaning (expression_tree sight.now.rows.now row) (contents vs) x) }
 {
+    let rows = sight.rows;
+    let memory = sight.memory;
+    let current = sight.current;
     let says = expression_row(rows, row);
     match says {
         ExpressionRow::Constant(_) => {
@@ -94,17 +88,15 @@ pub fn pair(
     o: BinaryOperation,
     a: usize,
     b: usize,
-    rows: &Rows,
-    memory: &Memory,
-    current: &CurrentValue,
+    sight: &Sight,
     stack: &mut [i64],
 ) -> Option<Result<u8, Error>>
-    requires asked { Asked a rows.now (lent_in memory.now) current.now.cells.now current.now.body stack.old }
-    requires asked_2 { Asked b rows.now (lent_in memory.now) current.now.cells.now current.now.body (drop body_cells stack.old) }
-    ensures { (vs : List Variable) (x : Composite) → World rows.now (lent_in memory.now) vs → Current current.now.cells.now current.now.body x
-        → QuickGives result stack.new (bind (meaning (expression_tree rows.now a) (contents vs) x) (λ u. bind (meaning (expression_tree rows.now b) (contents vs) x) (λ v. apply_binary (binary_meaning o) u v))) }
+    requires asked { Asked a sight.now stack.old }
+    requires asked_2 { Asked b sight.now (drop body_cells stack.old) }
+    ensures { (vs : List Variable) (x : Composite) → WorldSeen sight.now vs → CurrentSeen sight.now x
+        → QuickGives result stack.new (bind (meaning (expression_tree sight.now.rows.now a) (contents vs) x) (λ u. bind (meaning (expression_tree sight.now.rows.now b) (contents vs) x) (λ v. apply_binary (binary_meaning o) u v))) }
 {
-    let p = leaf(a, rows, memory, current, &mut *stack)?;
-    let q = leaf(b, rows, memory, current, &mut stack[BODY_CELLS..])?;
+    let p = leaf(a, sight, &mut *stack)?;
+    let q = leaf(b, sight, &mut stack[BODY_CELLS..])?;
     apply(o, p, q, stack)
 }

@@ -84,13 +84,13 @@ choice-returns-in_err-truth_of t c = λ vs x w h. rw (passed _ _ c.from_residual
 
 pub choice-returns-then-branch : goal.choice-returns-then-branch
 choice-returns-then-branch t c = λ vs x w h.
-    let told : ok true ≡ (meaning (expression_tree c.args.rows.now c.args.test) (contents vs) x >>= truth_or boolean_expected) = rw c.if-branch.true at (c.in_ok-truth_of.ensures _ (c.eval-x.ensures vs x w h)) in
-    gives_as (choice_told c.args.row _ (expression_tree c.args.rows.now c.args.a) (expression_tree c.args.rows.now c.args.b) (contents vs) x true told) (c.eval.ensures vs x w h)
+    let told : ok true ≡ (meaning (expression_tree c.args.sight.now.rows.now c.args.test) (contents vs) x >>= truth_or boolean_expected) = rw c.if-branch.true at (c.in_ok-truth_of.ensures _ (c.eval-x.ensures vs x w h)) in
+    gives_as (choice_told c.args.row _ (expression_tree c.args.sight.now.rows.now c.args.a) (expression_tree c.args.sight.now.rows.now c.args.b) (contents vs) x true told) (c.eval.ensures vs x w h)
 
 pub choice-returns : goal.choice-returns
 choice-returns t c = λ vs x w h.
-    let told : ok false ≡ (meaning (expression_tree c.args.rows.now c.args.test) (contents vs) x >>= truth_or boolean_expected) = rw c.if-branch.false at (c.in_ok-truth_of.ensures _ (c.eval-x.ensures vs x w h)) in
-    gives_as (choice_told c.args.row _ (expression_tree c.args.rows.now c.args.a) (expression_tree c.args.rows.now c.args.b) (contents vs) x false told) (c.eval-2.ensures vs x w h)
+    let told : ok false ≡ (meaning (expression_tree c.args.sight.now.rows.now c.args.test) (contents vs) x >>= truth_or boolean_expected) = rw c.if-branch.false at (c.in_ok-truth_of.ensures _ (c.eval-x.ensures vs x w h)) in
+    gives_as (choice_told c.args.row _ (expression_tree c.args.sight.now.rows.now c.args.a) (expression_tree c.args.sight.now.rows.now c.args.b) (contents vs) x false told) (c.eval-2.ensures vs x w h)
 
 pub eval-expression_row-says-requires-clause-known_expression : goal.eval-expression_row-says-requires-clause-known_expression
 eval-expression_row-says-requires-clause-known_expression t c = row_known _ c.requires.ready.world.accepted _ c.requires.here
@@ -208,19 +208,19 @@ eval-returns-in-AllList t c = λ vs x w h. by_row w c.requires.here x c.in-AllLi
 pub lazy-returns-in_err-first : goal.lazy-returns-in_err-first
 lazy-returns-in_err-first t c = λ vs x w h.
     rw (passed _ _ c.from_residual.ensures.1)
-    (gives_error _ (lazy_error c.args.row c.args.settling (expression_tree c.args.rows.now c.args.a) (expression_tree c.args.rows.now c.args.b) (contents vs) x _ (sym (c.in_err-first.ensures _ (c.eval-x.ensures vs x w h)))))
+    (gives_error _ (lazy_error c.args.row c.args.settling (expression_tree c.args.sight.now.rows.now c.args.a) (expression_tree c.args.sight.now.rows.now c.args.b) (contents vs) x _ (sym (c.in_err-first.ensures _ (c.eval-x.ensures vs x w h)))))
 
 pub lazy-returns-then-first-settling : goal.lazy-returns-then-first-settling
 lazy-returns-then-first-settling t c = λ vs x w h.
     let e = c.eval-x.ensures vs x w h in
-    lazy_settled c.args.row c.args.settling (expression_tree c.args.rows.now c.args.a) (expression_tree c.args.rows.now c.args.b) (contents vs) x _ (c.in_ok-first.ensures _ e) e c.if-first-settling.true
+    lazy_settled c.args.row c.args.settling (expression_tree c.args.sight.now.rows.now c.args.a) (expression_tree c.args.sight.now.rows.now c.args.b) (contents vs) x _ (c.in_ok-first.ensures _ e) e c.if-first-settling.true
 
 pub lazy-returns-in_err-truth_of : goal.lazy-returns-in_err-truth_of
 lazy-returns-in_err-truth_of t c = λ vs x w h.
     rw (passed _ _ c.from_residual-in_err-truth_of.ensures.1)
-    (gives_error _ (lazy_second_error c.args.row c.args.settling (expression_tree c.args.rows.now c.args.a) (expression_tree c.args.rows.now c.args.b) (contents vs) x _ (c.in_ok-first.ensures _ (c.eval-x.ensures vs x w h)) c.if-first-settling.false _ (sym (c.in_err-truth_of.ensures _ (c.eval-y.ensures vs x w h)))))
+    (gives_error _ (lazy_second_error c.args.row c.args.settling (expression_tree c.args.sight.now.rows.now c.args.a) (expression_tree c.args.sight.now.rows.now c.args.b) (contents vs) x _ (c.in_ok-first.ensures _ (c.eval-x.ensures vs x w h)) c.if-first-settling.false _ (sym (c.in_err-truth_of.ensures _ (c.eval-y.ensures vs x w h)))))
 
 pub lazy-returns : goal.lazy-returns
 lazy-returns t c = λ vs x w h.
     let e = c.eval-y.ensures vs x w h in
-    lazy_second_told c.args.row c.args.settling (expression_tree c.args.rows.now c.args.a) (expression_tree c.args.rows.now c.args.b) (contents vs) x _ (c.in_ok-first.ensures _ (c.eval-x.ensures vs x w h)) c.if-first-settling.false _ e (c.in_ok-truth_of.ensures _ e)
+    lazy_second_told c.args.row c.args.settling (expression_tree c.args.sight.now.rows.now c.args.a) (expression_tree c.args.sight.now.rows.now c.args.b) (contents vs) x _ (c.in_ok-first.ensures _ (c.eval-x.ensures vs x w h)) c.if-first-settling.false _ e (c.in_ok-truth_of.ensures _ e)

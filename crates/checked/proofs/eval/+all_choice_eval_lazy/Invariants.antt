@@ -27,4 +27,4 @@ abbrev pub decreases-lazy : goal.decreases-lazy
 decreases-lazy l = 2 * l.row
 
 abbrev pub invariant-all-loop-i : goal.invariant-all-loop-i
-invariant-all-loop-i l = (vs : List Variable) (b : Body) (x : Value) → World l.rows (lent_in l.memory) vs → Holds l.inner b → Lies l.current.cells.now 0 (list_of b) x → Sees l.seen (map (λ v. meaning (expression_tree l.rows l.a) (contents vs) (composite b v)) (take l.i (value_list (as_items x))))
+invariant-all-loop-i l = (vs : List Variable) (b : Body) (x : Value) → World l.sight.rows.now (lent_in l.sight.memory.now) vs → Holds l.inner b → Lies l.sight.current.now.cells.now 0 (list_of b) x → Sees l.seen (map (λ v. meaning (expression_tree l.sight.rows.now l.a) (contents vs) (composite b v)) (take l.i (value_list (as_items x))))

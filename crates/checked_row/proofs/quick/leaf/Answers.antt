@@ -53,7 +53,7 @@ unfolding row_tree meaning RowFacts
 returns-in_ok-tag-in-Constant c = λ vs x w h.
     let f = facts w c.requires.here c.in-Constant.is c.expression_row-says.ensures in
     by_row w c.requires.here x c.in-Constant.is c.expression_row-says.ensures
-    (constant_simple c.args.rows.now c.args.row c.args.stack.now _ _ _ f (cell_as (sym (cell_back _ c.constant_cell.type_inv)) c.constant_cell.ensures) (omega (arith, c.requires.room)) c.constant_body-own.ensures (c.in_ok-tag-in-Constant.ensures _ _ c.constant_body-own.ensures refl))
+    (constant_simple c.args.sight.now.rows.now c.args.row c.args.stack.now _ _ _ f (cell_as (sym (cell_back _ c.constant_cell.type_inv)) c.constant_cell.ensures) (omega (arith, c.requires.room)) c.constant_body-own.ensures (c.in_ok-tag-in-Constant.ensures _ _ c.constant_body-own.ensures refl))
 
 pub returns-in_ok-tag-in-Variable : goal.returns-in_ok-tag-in-Variable
 unfolding row_tree meaning
@@ -61,7 +61,7 @@ returns-in_ok-tag-in-Variable c = λ vs x w h.
     let filled = sym c.is_filled.ensures ∙ c.if-not-is_filled.false in
     let lt = filled_there w.stored _ filled in
     by_row w c.requires.here x c.in-Variable.is c.expression_row-says.ensures
-    (variable_simple w.stored _ lt c.args.stack.now _ _ filled (c.in_ok-tag-in-Variable.ensures _ _ (present_held w.stored _ lt _ refl) (own_first c.args.memory.now.bodies.now c.in-Variable.n)) (cell_back _ (omega arith)) (omega (arith, c.requires.room)))
+    (variable_simple w.stored _ lt c.args.stack.now _ _ filled (c.in_ok-tag-in-Variable.ensures _ _ (present_held w.stored _ lt _ refl) (own_first c.args.sight.now.memory.now.bodies.now c.in-Variable.n)) (cell_back _ (omega arith)) (omega (arith, c.requires.room)))
 
 pub returns-in_ok-tag-in-Current : goal.returns-in_ok-tag-in-Current
 unfolding row_tree meaning
