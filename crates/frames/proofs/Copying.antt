@@ -1,12 +1,12 @@
 -- Copies one after the other: where a loop over them stands in the definition, from the first copy on. Assumes nothing.
 use mathlib.Core.Path.{◌≡◌, refl, sym, ap, ◌∙◌, subst}
 use mathlib.Core.Bool.{Bool, true, false, true≢false, false≢true}
-use Rattle.std.specs.Prelude.{Result as CodeResult, Ok, Err, is_err}
+use Rattle.std.specs.Prelude.{Result as CodeResult, Ok, Err, is_err, is_some}
 use Rattle.lingua.specs.declared.errors.Error.{Error}
-use Rattle.lingua.specs.Faults.{number_of}
+use Rattle.lingua.specs.Faults.{error_number, number_of}
 use Rattle.laws.specs.Faults.{error_some}
 use mathlib.Core.List.{List, [], ◌∷◌}
-use Prim.Native.Nat.{ℕ, zero, suc, ◌+◌, ◌<◌}
+use Prim.Native.Nat.{ℕ, suc, ◌+◌, ◌<◌}
 use native.Mathlib.Numerals.{add-one}
 use native.Mathlib.Omega.{arith}
 use lib.IntN.{ℤ}
@@ -20,9 +20,19 @@ use Rattle.lingua.specs.Run.{State, Profile, settled, clean_only, copied_out}
 use Rattle.safety.specs.Accepted.{length_groups}
 use Rattle.run.specs.declared.steps.Status.{Status}
 use Rattle.run.specs.Statuses.{state_of, recorded}
-use Rattle.run.specs.Reached.{Lent, Going}
+use Rattle.run.specs.Reached.{Lent}
+use Rattle.run.specs.Acting.{some_recorded, none_recorded}
 use Rattle.frames.specs.declared.way.Way.{Way}
 use Rattle.frames.specs.Meaning.{Context, Holds, Facing, Pair, HasFacing, Copies, AllPairs, AllBack, CopiesIn, CopiesOut}
+
+-- ---- an error, and none, as a number
+pub fault_number : {A : Type 0} (r : CodeResult A Error) → is_err r ≡ true → number_of r ≡ 0 → ⊥
+fault_number (Ok a) e z = absurd (false≢true e)
+fault_number (Err x) e z = error_some x z
+
+pub no_fault_number : {A : Type 0} (r : CodeResult A Error) → is_err r ≡ false → number_of r ≡ 0
+no_fault_number (Ok a) e = refl
+no_fault_number (Err x) e = absurd (true≢false e)
 
 -- ---- the groups of a field, from one on
 groups_at : (count field i : ℕ) → i < count → drop i (groups count field) ≡ get_or (groups count field) i 0 ∷ drop (suc i) (groups count field)
@@ -55,27 +65,17 @@ module _ (row : ℕ) (vs : List Variable) where
   one_back m n ns s e =
       ap (λ (b : Bool). clean_only b s (λ t. copied_out assigned row vs (suc m) ns (settled t row (copied assigned vs m t.store n)))) (eq-eqb s.error 0 e)
 
-  module _ (us : List Variable) (m n : ℕ) (ns : List ℕ) (s : Status) (e : s.error ≡ 0) where
+  module _ (us : List Variable) (m n : ℕ) (ns : List ℕ) (s : Status) (e : is_some s.error ≡ false) where
     out_stored : (next : List Variable) → copied assigned vs m us n ≡ ok next
         → copied_out assigned row vs m (n ∷ ns) (state_of s us) ≡ copied_out assigned row vs (suc m) ns (state_of s next)
     out_stored next q =
-        one_back m n ns (state_of s us) e ∙ ap (λ (o : Result (List Variable)). copied_out assigned row vs (suc m) ns (settled (state_of s us) row o)) q
+        one_back m n ns (state_of s us) (none_recorded s.error e) ∙ ap (λ (o : Result (List Variable)). copied_out assigned row vs (suc m) ns (settled (state_of s us) row o)) q
 
-    out_failed : (r : ℕ) → (r ≡ 0 → ⊥) → copied assigned vs m us n ≡ fail r → copied_out assigned row vs m (n ∷ ns) (state_of s us) ≡ state_of (recorded s r row) us
-    out_failed zero h q = absurd (h refl)
-    out_failed (suc r) h q =
-        one_back m n ns (state_of s us) e
+    out_failed : (error : Error) → copied assigned vs m us n ≡ fail (error_number error) → copied_out assigned row vs m (n ∷ ns) (state_of s us) ≡ state_of (recorded s (Err error) row) us
+    out_failed error q =
+        one_back m n ns (state_of s us) (none_recorded s.error e)
         ∙ ap (λ (o : Result (List Variable)). copied_out assigned row vs (suc m) ns (settled (state_of s us) row o)) q
-        ∙ none_back (suc m) ns (state_of (recorded s (suc r) row) us) h
-
--- what is recorded of an error
-recorded_error : (s : Status) (r p : ℕ) → (r ≡ 0 → ⊥) → (recorded s r p).error ≡ r
-recorded_error s zero p h = absurd (h refl)
-recorded_error s (suc r) p h = refl
-
-recorded_out : (s : Status) (r p : ℕ) → (recorded s r p).out ≡ s.out
-recorded_out s zero p = refl
-recorded_out s (suc r) p = refl
+        ∙ none_back (suc m) ns (state_of (recorded s (Err error) row) us) (error_some error)
 
 -- ---- the store that memory holds by now
 -- with what holds of it
@@ -184,7 +184,7 @@ GoingOut w from c l₀ l row field count first s i =
     Copying w from c l₀ l (λ p a b vs ws. AllBack w p a b vs ws field count first)
     (λ vs ws us. copied_out assigned row vs first (groups count field) (state_of s ws) ≡ copied_out assigned row vs (first + i) (drop i (groups count field)) (state_of s us))
 
-module _ {w : Way} {from : Lent} {c : Context} {l₀ : Lent} (row field count first : ℕ) {s : Status} (going : Going s) where
+module _ {w : Way} {from : Lent} {c : Context} {l₀ : Lent} (row field count first : ℕ) (s : Status) where
   pub out_first : GoingOut w from c l₀ l₀ row field count first s 0
   out_first = record {
     each = λ p a b limits vs ws g u.
@@ -192,10 +192,10 @@ module _ {w : Way} {from : Lent} {c : Context} {l₀ : Lent} (row field count fi
   }
 
   -- the body failed
-  pub out_none : (s.error ≡ 0 → ⊥) → CopiesOut w from c l₀ l₀ row field count first s s
+  pub out_none : is_some s.error ≡ true → CopiesOut w from c l₀ l₀ row field count first s s
   out_none h = record {
     back = λ p a b limits vs ws g u.
-        record { store = ws; is = none_back row vs first (groups count field) (state_of s ws) h; holds = g.takes; clean = going.clean; same_out = refl };
+        record { store = ws; is = none_back row vs first (groups count field) (state_of s ws) (some_recorded s.error h); holds = g.takes; same_out = refl };
   }
 
   module _ {l : Lent} (i : ℕ) (h : GoingOut w from c l₀ l row field count first s i) where
@@ -208,7 +208,6 @@ module _ {w : Way} {from : Lent} {c : Context} {l₀ : Lent} (row field count fi
             store = q.store;
             is = q.is ∙ ap (λ (ns : List ℕ). copied_out assigned row vs (first + i) ns (state_of s q.store)) (groups_end count field i e);
             holds = q.holds;
-            clean = going.clean;
             same_out = refl;
           };
     }
@@ -226,31 +225,26 @@ module _ {w : Way} {from : Lent} {c : Context} {l₀ : Lent} (row field count fi
           → HasFacing w from c l space (λ p a b vs us. Pair w p a b vs us (first + i) n)
       out_facing f e = facing_now h out_one f e
 
-      module _ {after : Lent} {r : ℕ} (k : Copies w from c l after (first + i) n r) (clean : s.error ≡ 0) where
-        pub out_more : r ≡ 0 → GoingOut w from c l₀ after row field count first s (i + 1)
+      module _ {after : Lent} (r : CodeResult (Unit {0}) Error) (k : Copies w from c l after (first + i) n (number_of r)) (clean : is_some s.error ≡ false) where
+        pub out_more : is_err r ≡ false → GoingOut w from c l₀ after row field count first s (i + 1)
         out_more z =
-            stored_now h out_one k z (λ vs ws us next q e. q ∙ out_left vs us ∙ out_stored row vs us (first + i) n (drop (suc i) (groups count field)) s clean next e ∙ turned vs next)
+            stored_now h out_one k (no_fault_number r z) (λ vs ws us next q e. q ∙ out_left vs us ∙ out_stored row vs us (first + i) n (drop (suc i) (groups count field)) s clean next e ∙ turned vs next)
           where
             turned : (vs next : List Variable)
                 → copied_out assigned row vs (suc (first + i)) (drop (suc i) (groups count field)) (state_of s next) ≡ copied_out assigned row vs (first + (i + 1)) (drop (i + 1) (groups count field)) (state_of s next)
             turned vs next = rw (add-one i) (ap (λ (j : ℕ). copied_out assigned row vs j (drop (suc i) (groups count field)) (state_of s next)) (omega arith))
 
         -- the error of the one that failed is recorded at the call's row
-        pub out_stops : (t : Status) → (r ≡ 0 → ⊥) → t ≡ recorded s r row → CopiesOut w from c l₀ after row field count first s t
-        out_stops t z same =
-            let f : Copying w from c l₀ after (λ p a b vs ws. AllBack w p a b vs ws field count first) (λ vs ws us. copied_out assigned row vs first (groups count field) (state_of s ws) ≡ state_of (recorded s r row) us) =
-            failed_now h out_one k z (λ vs ws us q e. q ∙ out_left vs us ∙ out_failed row vs us (first + i) n (drop (suc i) (groups count field)) s clean r z e) in
-            subst (λ (x : Status). CopiesOut w from c l₀ after row field count first s x) (sym same) (record {
-              back = λ p a b limits vs ws g u.
-                  let q = f.each p a b limits vs ws g u in
-                  record { store = q.store; is = q.is; holds = q.holds; clean = λ e. absurd (z (sym (recorded_error s r row z) ∙ e)); same_out = recorded_out s r row };
-            })
-
--- ---- an error, and none, as a number
-pub fault_number : {A : Type 0} (r : CodeResult A Error) → is_err r ≡ true → number_of r ≡ 0 → ⊥
-fault_number (Ok a) e z = absurd (false≢true e)
-fault_number (Err x) e z = error_some x z
-
-pub no_fault_number : {A : Type 0} (r : CodeResult A Error) → is_err r ≡ false → number_of r ≡ 0
-no_fault_number (Ok a) e = refl
-no_fault_number (Err x) e = absurd (true≢false e)
+        pub out_stops : (t : Status) → is_err r ≡ true → t ≡ recorded s r row → CopiesOut w from c l₀ after row field count first s t
+        out_stops t z same = subst (λ (x : Status). CopiesOut w from c l₀ after row field count first s x) (sym same) (stops r k z)
+          where
+            stops : (x : CodeResult (Unit {0}) Error) → Copies w from c l after (first + i) n (number_of x) → is_err x ≡ true → CopiesOut w from c l₀ after row field count first s (recorded s x row)
+            stops (Ok u) one e = absurd (true≢false (sym e))
+            stops (Err x) one e =
+                let f : Copying w from c l₀ after (λ p a b vs ws. AllBack w p a b vs ws field count first) (λ vs ws us. copied_out assigned row vs first (groups count field) (state_of s ws) ≡ state_of (recorded s (Err x) row) us) =
+                failed_now h out_one one (error_some x) (λ vs ws us q e. q ∙ out_left vs us ∙ out_failed row vs us (first + i) n (drop (suc i) (groups count field)) s clean x e) in
+                record {
+                  back = λ p a b limits vs ws g u.
+                      let q = f.each p a b limits vs ws g u in
+                      record { store = q.store; is = q.is; holds = q.holds; same_out = refl };
+                }

@@ -13,7 +13,6 @@ use Rattle.lingua.specs.Run.{Profile}
 use Rattle.lingua.specs.Typing.{scope_bodies}
 use Rattle.lingua.specs.Evaluation.{eval_test}
 use Rattle.lingua.specs.Trees.{expression_tree}
-use Rattle.decoder.specs.declared.tables.Table.{Table}
 use Rattle.std.specs.Prelude.{Bool, Result}
 use Rattle.lingua.specs.declared.errors.Error.{Error}
 use Rattle.run.specs.Reached.{Lent, lent, Holding, Settles, Tells}
@@ -43,11 +42,11 @@ module _ {w : Way} where
     unfolding HoldsBy
     checked_in {p} {a} {c} {l} {vs} h = subst (λ (k : Way). HoldsBy k p a c l vs) e h.by
 
-    pub checked_running : {p : Profile} {a : ℕ} {c : Context} {l : Lent} {vs : List Variable} → Holds w p a c l vs → CheckedRunning c.rows c.expressions c.limits l vs
+    pub checked_running : {p : Profile} {a : ℕ} {c : Context} {l : Lent} {vs : List Variable} → Holds w p a c l vs → CheckedRunning c.rows c.limits l vs
     checked_running h = (checked_in h).running
 
     -- the scope stays, with as many variables
-    checked_again : {p : Profile} {a : ℕ} {c : Context} {l after : Lent} {vs ws : List Variable} → Holds w p a c l vs → length ws ≡ length vs → CheckedRunning c.rows c.expressions c.limits after ws
+    checked_again : {p : Profile} {a : ℕ} {c : Context} {l after : Lent} {vs ws : List Variable} → Holds w p a c l vs → length ws ≡ length vs → CheckedRunning c.rows c.limits after ws
         → Holds w p a c after ws
     unfolding HoldsBy
     checked_again {p} {a} {c} {l} {after} {vs} {ws} h k g = record {
@@ -57,17 +56,17 @@ module _ {w : Way} where
     }
 
     pub checked_stores : {c : Context} {l after : Lent} {r : ℕ} (P : ℕ → Type 0) (f : List Variable → Outcome (List Variable)) → ((vs ws : List Variable) → f vs ≡ ok ws → length ws ≡ length vs)
-        → ((a : ℕ) (vs : List Variable) → P a → CheckedRunning c.rows c.expressions c.limits l vs → length vs ≡ pair_count c.rows (scope_table a)
-        → Settles r (CheckedRunning c.rows c.expressions c.limits) l after (f vs)) → Stores w c l after r P f
+        → ((a : ℕ) (vs : List Variable) → P a → CheckedRunning c.rows c.limits l vs → length vs ≡ pair_count c.rows (scope_table a)
+        → Settles r (CheckedRunning c.rows c.limits) l after (f vs)) → Stores w c l after r P f
     checked_stores P f long h = record { settles = λ p a vs q k. settles_as (λ ws is g. checked_again k (long vs ws is) g) (h a vs q (checked_running k) k.count) }
 
-    pub checked_tells : {c : Context} {l : Lent} {n : ℕ} {r : Result Bool Error} → ((vs : List Variable) → CheckedRunning c.rows c.expressions c.limits l vs → Tells r (eval_test (expression_tree c.rows n) (contents vs)))
+    pub checked_tells : {c : Context} {l : Lent} {n : ℕ} {r : Result Bool Error} → ((vs : List Variable) → CheckedRunning c.rows c.limits l vs → Tells r (eval_test (expression_tree c.rows n) (contents vs)))
         → TellsTest w c l n r
     checked_tells h = record { tells = λ p a vs q k. h vs (checked_running k) }
 
     pub checked_copies : {from : Lent} {c : Context} {to after : Lent} {n m r : ℕ}
-        → ((vs ws : List Variable) → Stored from.bodies from.cells from.states vs → CheckedRunning c.rows c.expressions c.limits to ws → m < length ws
-        → Settles r (CheckedRunning c.rows c.expressions c.limits) to after (copied assigned vs n ws m)) → Copies w from c to after n m r
+        → ((vs ws : List Variable) → Stored from.bodies from.cells from.states vs → CheckedRunning c.rows c.limits to ws → m < length ws
+        → Settles r (CheckedRunning c.rows c.limits) to after (copied assigned vs n ws m)) → Copies w from c to after n m r
     checked_copies {n = n} {m} h = record {
       settles = λ p a b limits vs ws f q.
           settles_as (λ us is g. checked_again f.takes (copied_long vs n ws m us is) g) (h vs ws (checked_running f.gives).world.stored (checked_running f.takes) q.to);
@@ -79,7 +78,7 @@ module _ {w : Way} where
         record { store = f.given; stored = s; there = omega (arith, s.few, f.property.from) }
 
     pub checked_takes : {from : Lent} {c : Context} {to : Lent} {room n m : ℕ} → HasFacing w from c to room (λ p a b vs ws. Pair w p a b vs ws n m)
-        → CheckedHas c.rows c.expressions c.limits to m
+        → CheckedHas c.rows c.limits to m
     checked_takes f = record { store = f.taken; running = checked_running f.facing.takes; there = f.property.to }
 
   -- ---- the erased way, whose code speaks of memory without bodies
@@ -90,21 +89,21 @@ module _ {w : Way} where
 
     module _ {cells : List ℤ} {states bodies : List ℕ} where
       pub erased_running : {p : Profile} {a : ℕ} {c : Context} {vs : List Variable} → Holds w p a c (lent cells states bodies) vs
-          → ErasedRunning p a c.rows c.expressions c.layout c.limits (lent cells states []) vs
+          → ErasedRunning p a c.rows c.layout c.limits (lent cells states []) vs
       erased_running {p} {a} {c} {vs} h =
           let q = erased_in h in
-          subst (λ (b : List ℕ). ErasedRunning p a c.rows c.expressions c.layout c.limits (lent cells states b) vs) q.no_bodies q.running
+          subst (λ (b : List ℕ). ErasedRunning p a c.rows c.layout c.limits (lent cells states b) vs) q.no_bodies q.running
 
-      pub erased_standing : {c : Context} {room : ℕ} {P : ℕ → Type 0} → Standing w c (lent cells states bodies) room P → ErasedHas c.rows c.expressions c.layout c.limits (lent cells states []) P
+      pub erased_standing : {c : Context} {room : ℕ} {P : ℕ → Type 0} → Standing w c (lent cells states bodies) room P → ErasedHas c.rows c.layout c.limits (lent cells states []) P
       erased_standing s = record { profile = s.profile; scope = s.scope; store = s.store; running = erased_running s.holds; of_scope = s.of_scope }
 
-      pub under_standing : {rows : List ℕ} {t : Table} {layout : List ℕ} {room : ℕ} {P : ℕ → Type 0} → StandsUnder w rows t layout (lent cells states bodies) room P → HasStore rows t layout (lent cells states []) P
+      pub under_standing : {rows layout : List ℕ} {room : ℕ} {P : ℕ → Type 0} → StandsUnder w rows layout (lent cells states bodies) room P → HasStore rows layout (lent cells states []) P
       under_standing s = record { limits = s.limits; has = erased_standing s.standing }
 
       -- the scope stays, with as many variables, and there are still no bodies
       module _ {cells' : List ℤ} {states' : List ℕ} where
         erased_again : {p : Profile} {a : ℕ} {c : Context} {vs ws : List Variable} → Holds w p a c (lent cells states bodies) vs → length ws ≡ length vs
-            → ErasedRunning p a c.rows c.expressions c.layout c.limits (lent cells' states' []) ws → Holds w p a c (lent cells' states' []) ws
+            → ErasedRunning p a c.rows c.layout c.limits (lent cells' states' []) ws → Holds w p a c (lent cells' states' []) ws
         unfolding HoldsBy
         erased_again {p} {a} {c} {vs} {ws} h k g = record {
           by = subst (λ (u : Way). HoldsBy u p a c (lent cells' states' []) ws) (sym e) (record { no_bodies = refl; running = g });
@@ -112,36 +111,39 @@ module _ {w : Way} where
           count = k ∙ h.count;
         }
 
-        erased_settles : {p : Profile} {a : ℕ} {c : Context} {vs : List Variable} {r : ℕ} (o : Outcome (List Variable)) → Holds w p a c (lent cells states bodies) vs → ((ws : List Variable) → o ≡ ok ws → length ws ≡ length vs)
-            → Settles r (ErasedRunning p a c.rows c.expressions c.layout c.limits) (lent cells states []) (lent cells' states' []) o
-            → Settles r (Holds w p a c) (lent cells states bodies) (lent cells' states' bodies) o
-        erased_settles {p} {a} {c} {vs} {r} o k long h =
-            subst (λ (b : List ℕ). Settles r (Holds w p a c) (lent cells states b) (lent cells' states' b) o) (sym (erased_in k).no_bodies)
-            (settles_as (λ ws is g. erased_again k (long ws is) g) h)
+      module _ {cells' : List ℤ} {states' bodies' : List ℕ} where
+        erased_settles : {p : Profile} {a : ℕ} {c : Context} {vs : List Variable} {r : ℕ} (o : Outcome (List Variable)) → bodies' ≡ bodies → Holds w p a c (lent cells states bodies) vs
+            → ((ws : List Variable) → o ≡ ok ws → length ws ≡ length vs)
+            → Settles r (ErasedRunning p a c.rows c.layout c.limits) (lent cells states []) (lent cells' states' []) o
+            → Settles r (Holds w p a c) (lent cells states bodies) (lent cells' states' bodies') o
+        erased_settles {p} {a} {c} {vs} {r} o same k long h =
+            subst (λ (b : List ℕ). Settles r (Holds w p a c) (lent cells states bodies) (lent cells' states' b) o) (sym same)
+            (subst (λ (b : List ℕ). Settles r (Holds w p a c) (lent cells states b) (lent cells' states' b) o) (sym (erased_in k).no_bodies)
+            (settles_as (λ ws is g. erased_again k (long ws is) g) h))
 
-        pub erased_stores : {c : Context} {r : ℕ} (P : ℕ → Type 0) (f : List Variable → Outcome (List Variable)) → ((vs ws : List Variable) → f vs ≡ ok ws → length ws ≡ length vs)
-            → ((p : Profile) (a : ℕ) (vs : List Variable) → ErasedRunning p a c.rows c.expressions c.layout c.limits (lent cells states []) vs → P a
-            → Settles r (ErasedRunning p a c.rows c.expressions c.layout c.limits) (lent cells states []) (lent cells' states' []) (f vs))
-            → Stores w c (lent cells states bodies) (lent cells' states' bodies) r P f
-        erased_stores P f long h = record { settles = λ p a vs q k. erased_settles (f vs) k (long vs) (h p a vs (erased_running k) q) }
+        pub erased_stores : {c : Context} {r : ℕ} (P : ℕ → Type 0) (f : List Variable → Outcome (List Variable)) → ((vs ws : List Variable) → f vs ≡ ok ws → length ws ≡ length vs) → bodies' ≡ bodies
+            → ((p : Profile) (a : ℕ) (vs : List Variable) → ErasedRunning p a c.rows c.layout c.limits (lent cells states []) vs → P a
+            → Settles r (ErasedRunning p a c.rows c.layout c.limits) (lent cells states []) (lent cells' states' []) (f vs))
+            → Stores w c (lent cells states bodies) (lent cells' states' bodies') r P f
+        erased_stores P f long same h = record { settles = λ p a vs q k. erased_settles (f vs) same k (long vs) (h p a vs (erased_running k) q) }
 
         -- a reading is asked of the profile's variables alone
-        pub erased_reads : {c : Context} {r : ℕ} (f : List Variable → Outcome (List Variable)) → ((vs ws : List Variable) → f vs ≡ ok ws → length ws ≡ length vs)
-            → ((p : Profile) (vs : List Variable) → ErasedRunning p 0 c.rows c.expressions c.layout c.limits (lent cells states []) vs
-            → Settles r (ErasedRunning p 0 c.rows c.expressions c.layout c.limits) (lent cells states []) (lent cells' states' []) (f vs))
-            → Stores w c (lent cells states bodies) (lent cells' states' bodies) r (λ a. a ≡ 0) f
-        erased_reads {c} {r} f long h = erased_stores (λ a. a ≡ 0) f long (λ p a vs k z.
-            subst (λ (b : ℕ). Settles r (ErasedRunning p b c.rows c.expressions c.layout c.limits) (lent cells states []) (lent cells' states' []) (f vs)) (sym z)
-            (h p vs (subst (λ (b : ℕ). ErasedRunning p b c.rows c.expressions c.layout c.limits (lent cells states []) vs) z k)))
+        pub erased_reads : {c : Context} {r : ℕ} (f : List Variable → Outcome (List Variable)) → ((vs ws : List Variable) → f vs ≡ ok ws → length ws ≡ length vs) → bodies' ≡ bodies
+            → ((p : Profile) (vs : List Variable) → ErasedRunning p 0 c.rows c.layout c.limits (lent cells states []) vs
+            → Settles r (ErasedRunning p 0 c.rows c.layout c.limits) (lent cells states []) (lent cells' states' []) (f vs))
+            → Stores w c (lent cells states bodies) (lent cells' states' bodies') r (λ a. a ≡ 0) f
+        erased_reads {c} {r} f long same h = erased_stores (λ a. a ≡ 0) f long same (λ p a vs k z.
+            subst (λ (b : ℕ). Settles r (ErasedRunning p b c.rows c.layout c.limits) (lent cells states []) (lent cells' states' []) (f vs)) (sym z)
+            (h p vs (subst (λ (b : ℕ). ErasedRunning p b c.rows c.layout c.limits (lent cells states []) vs) z k)))
 
       pub erased_tells : {c : Context} {n : ℕ} {r : Result Bool Error}
-          → ((p : Profile) (a : ℕ) (vs : List Variable) → ErasedRunning p a c.rows c.expressions c.layout c.limits (lent cells states []) vs → TestRow c.rows a n
+          → ((p : Profile) (a : ℕ) (vs : List Variable) → ErasedRunning p a c.rows c.layout c.limits (lent cells states []) vs → TestRow c.rows a n
           → Tells r (eval_test (expression_tree c.rows n) (contents vs))) → TellsTest w c (lent cells states bodies) n r
       erased_tells h = record { tells = λ p a vs q k. h p a vs (erased_running k) q }
 
     module _ {values : List ℤ} {flags present : List ℕ} {cells : List ℤ} {states bodies : List ℕ} {c : Context} {n m : ℕ} where
       pub erased_facing : {room : ℕ} → HasFacing w (lent values flags present) c (lent cells states bodies) room (λ p a b vs ws. Pair w p a b vs ws n m)
-          → HasCopy c.rows c.expressions c.layout values flags n c.limits (lent cells states []) m
+          → HasCopy c.rows c.layout values flags n c.limits (lent cells states []) m
       erased_facing f = record {
         profile = f.profile;
         from = f.source;
@@ -157,14 +159,14 @@ module _ {w : Way} where
         same = f.property.may e;
       }
 
-      pub erased_copies : {cells' : List ℤ} {states' : List ℕ} {r : ℕ}
-          → ((p : Profile) (a b : ℕ) (limits : List ℤ) (theirs : List ℕ) (vs ws : List Variable) → ErasedRunning p a c.rows c.expressions c.layout limits (lent values flags theirs) vs → n < length vs
-          → ErasedRunning p b c.rows c.expressions c.layout c.limits (lent cells states []) ws → m < length ws → scope_bodies p a n ≡ scope_bodies p b m
-          → Settles r (ErasedRunning p b c.rows c.expressions c.layout c.limits) (lent cells states []) (lent cells' states' []) (copied assigned vs n ws m))
-          → Copies w (lent values flags present) c (lent cells states bodies) (lent cells' states' bodies) n m r
-      erased_copies h = record {
+      pub erased_copies : {cells' : List ℤ} {states' bodies' : List ℕ} {r : ℕ} → bodies' ≡ bodies
+          → ((p : Profile) (a b : ℕ) (limits : List ℤ) (theirs : List ℕ) (vs ws : List Variable) → ErasedRunning p a c.rows c.layout limits (lent values flags theirs) vs → n < length vs
+          → ErasedRunning p b c.rows c.layout c.limits (lent cells states []) ws → m < length ws → scope_bodies p a n ≡ scope_bodies p b m
+          → Settles r (ErasedRunning p b c.rows c.layout c.limits) (lent cells states []) (lent cells' states' []) (copied assigned vs n ws m))
+          → Copies w (lent values flags present) c (lent cells states bodies) (lent cells' states' bodies') n m r
+      erased_copies kept h = record {
         settles = λ p a b limits vs ws f q.
-            erased_settles (copied assigned vs n ws m) f.takes (copied_long vs n ws m)
+            erased_settles (copied assigned vs n ws m) kept f.takes (copied_long vs n ws m)
             (h p a b limits present vs ws (erased_in f.gives).running q.from (erased_running f.takes) q.to (q.may e));
       }
 

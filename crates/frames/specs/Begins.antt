@@ -101,17 +101,16 @@ module _ {rows lims : List ℕ} {a : ℕ} {kept cells : List ℤ} {states : List
       let bounds = formed_bounds (scope_formed rows accepted a s.there n (declared i)) in
       subst (λ (v : Variable). Holdable (present_body v)) (sym (start_at rows lims a s.there n (declared i))) (record { few_cells = bounds.few_cells; few_nodes = bounds.few_nodes })
 
-  pub checked_begins : (p : Profile) (e : Table) → IsTable rows expression_section e → {layout present : List ℕ} → layout ≡ [] → present ≡ bodies_in (scope_start rows lims a)
-      → Holds way.Checked p a (context rows e layout kept) (lent cells states present) (scope_start rows lims a)
+  pub checked_begins : (p : Profile) → {layout present : List ℕ} → layout ≡ [] → present ≡ bodies_in (scope_start rows lims a)
+      → Holds way.Checked p a (context rows layout kept) (lent cells states present) (scope_start rows lims a)
   unfolding HoldsBy
-  checked_begins p e table q b =
+  checked_begins p q b =
       record {
         by = record {
           no_layout = q;
           running = record {
             world = record {
               accepted = accepted;
-              table = table;
               stored = record {
                 cells_are = s.cells_are;
                 states_are = s.states_are;
@@ -131,19 +130,18 @@ module _ {rows lims : List ℕ} {a : ℕ} {kept cells : List ℤ} {states : List
       }
 
   -- ---- with the layout table, of a profile that the type check passed; what has a limit is reckoned with
-  pub erased_begins : (e : Table) → IsTable rows expression_section e → {layout : List ℕ} → length layout ≡ layout_length → TypedProfile (HoldsIn layout) (profile_of rows lims)
+  pub erased_begins : {layout : List ℕ} → length layout ≡ layout_length → TypedProfile (HoldsIn layout) (profile_of rows lims)
       → ((r : ℕ) → r < table_count rows instruction_section → DerivedRow (HoldsIn layout) (λ k. scope_bodies (profile_of rows lims) (suc k)) (scope_bodies (profile_of rows lims) (instruction_scope rows r)) (instruction_tree rows r))
       → ((n : ℕ) (b : Limit) → n < length (scope_start rows lims a) → (variable_at (scope_start rows lims a) n).limit ≡ some b → is_quantity (scope_bodies (profile_of rows lims) a n) ≡ true)
-      → Holds way.Erased (profile_of rows lims) a (context rows e layout kept) (lent cells states []) (scope_start rows lims a)
+      → Holds way.Erased (profile_of rows lims) a (context rows layout kept) (lent cells states []) (scope_start rows lims a)
   unfolding HoldsBy
-  erased_begins e table long typed derived numbers =
+  erased_begins long typed derived numbers =
       record {
         by = record {
           no_bodies = refl;
           running = record {
             world = record {
               accepted = accepted;
-              table = table;
               long = long;
               cells_are = s.cells_are;
               states_are = s.states_are;
@@ -169,21 +167,21 @@ module _ {rows lims : List ℕ} {a : ℕ} {kept cells : List ℤ} {states : List
 
 -- ---- a call's
 -- under other limits it may be called as well
-pub callable_under : (w : Way) {p : Profile} {c : Context} {types heads : List ℕ} (limits : List ℤ) → Callable w p c types heads → Callable w p (context c.rows c.expressions c.layout limits) types heads
+pub callable_under : (w : Way) {p : Profile} {c : Context} {types : List ℕ} (limits : List ℤ) → Callable w p c types → Callable w p (context c.rows c.layout limits) types
 unfolding CallableBy
-callable_under way.Checked limits k = record { by = k.by; heads_are = k.heads_are }
-callable_under way.Erased limits k = record { by = k.by; heads_are = k.heads_are }
+callable_under way.Checked limits k = record { by = k.by }
+callable_under way.Erased limits k = record { by = k.by }
 
 -- procedure k is called from where the variables of some scope lie in memory
-pub frame_begins : (w : Way) {p : Profile} {a : ℕ} {c : Context} {types heads : List ℕ} {l : Lent} {vs : List Variable} → Callable w p c types heads → Holds w p a c l vs
+pub frame_begins : (w : Way) {p : Profile} {a : ℕ} {c : Context} {types : List ℕ} {l : Lent} {vs : List Variable} → Callable w p c types → Holds w p a c l vs
     → (k : ℕ) → k < procedure_count c.rows → (t : Table) → IsTable c.rows (variable_table k) t
     → {limits cells : List ℤ} {states bodies : List ℕ} → limits ≡ replicate limit_cells_length (pos 0) → cells ≡ replicate cells_length (pos 0) → Fresh w c.rows t states bodies
-    → Holds w p (suc k) (context c.rows c.expressions c.layout limits) (lent cells states bodies) (begun (procedure_at (procedures_in c.rows) k).variables)
+    → Holds w p (suc k) (context c.rows c.layout limits) (lent cells states bodies) (begun (procedure_at (procedures_in c.rows) k).variables)
 unfolding HoldsBy FreshBy CallableBy begun profile_of
 frame_begins way.Checked {p} {c = c} callable h k i t is {limits} {cells} {states} {bodies} e z f =
     let running = h.by.running in
     let accepted = running.world.accepted in
-    checked_begins accepted (procedure_starts c.rows [] k i accepted t is e z f.yokes) p c.expressions running.world.table h.by.no_layout
+    checked_begins accepted (procedure_starts c.rows [] k i accepted t is e z f.yokes) p h.by.no_layout
     (start_bodies c.rows [] (suc k) i t is f.present)
 frame_begins way.Erased {p} {c = c} callable h k i t is {limits} {cells} {states} {bodies} e z f =
     let passed = callable.by in
@@ -191,9 +189,9 @@ frame_begins way.Erased {p} {c = c} callable h k i t is {limits} {cells} {states
     let accepted = running.world.accepted in
     let lims = passed.limits in
     let same = passed.is in
-    subst (λ (b : List ℕ). Holds way.Erased p (suc k) (context c.rows c.expressions c.layout limits) (lent cells states b) (scope_start c.rows lims (suc k))) (sym f.present)
-    (subst (λ (q : Profile). Holds way.Erased q (suc k) (context c.rows c.expressions c.layout limits) (lent cells states []) (scope_start c.rows lims (suc k))) (sym same)
-    (erased_begins accepted (procedure_starts c.rows lims k i accepted t is e z f.yokes) c.expressions running.world.table running.world.long
+    subst (λ (b : List ℕ). Holds way.Erased p (suc k) (context c.rows c.layout limits) (lent cells states b) (scope_start c.rows lims (suc k))) (sym f.present)
+    (subst (λ (q : Profile). Holds way.Erased q (suc k) (context c.rows c.layout limits) (lent cells states []) (scope_start c.rows lims (suc k))) (sym same)
+    (erased_begins accepted (procedure_starts c.rows lims k i accepted t is e z f.yokes) running.world.long
     (subst (λ (q : Profile). TypedProfile (HoldsIn c.layout) q) same passed.typed)
     (subst
     (λ (q : Profile). (r : ℕ) → r < table_count c.rows instruction_section → DerivedRow (HoldsIn c.layout) (λ j. scope_bodies q (suc j)) (scope_bodies q (instruction_scope c.rows r)) (instruction_tree c.rows r))

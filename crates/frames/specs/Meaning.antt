@@ -1,10 +1,10 @@
 -- What is done to the variables of the profile or of an open call, in each of the two ways to run: what is asked of their memory, and what it
 -- holds afterwards. Assumes nothing: these are definitions.
 use Rattle.std.specs.Prelude.{◌≡◌, Bool, Result, List, [], ℕ, ◌+◌, ◌*◌, ◌/◌, ◌≤◌, ◌<◌, ℤ, length, get_or, replicate}
-use Rattle.lingua.specs.Numbers.{body_cells, most_procedures, variable_bodies_length, type_section, header_table, scope_table}
+use Rattle.lingua.specs.Numbers.{body_cells, variable_bodies_length, type_section, expression_section, scope_table}
 use Rattle.lingua.specs.Errors.{no_error}
 use Rattle.lingua.specs.Outcome.{Result as Outcome, fail}
-use Rattle.lingua.specs.Rows.{table_start, table_count, pair_count, procedure_count, groups}
+use Rattle.lingua.specs.Rows.{table_count, pair_count, procedure_count, groups}
 use Rattle.lingua.specs.Store.{Variable, contents, assigned, copied, copied_in}
 use Rattle.lingua.specs.Evaluation.{eval_test}
 use Rattle.lingua.specs.Run.{State, Procedure, Profile, copied_out}
@@ -25,26 +25,24 @@ use Rattle.frames.specs.declared.way.Way.{Way}
 use Rattle.frames.specs.declared.way.Way.TheVariants as way
 
 -- ---- what is given
--- what a run reads and does not change: the profile's rows with the table of its expressions, the layout table, and the limits of the
--- variables that are looked at
+-- what a run reads and does not change: the profile's rows, the layout table, and the limits of the variables that are looked at
 pub record Context : Type 0 where
   pub rows : List ℕ
-  pub expressions : Table
   pub layout : List ℕ
   pub limits : List ℤ
 
-abbrev pub context : List ℕ → Table → List ℕ → List ℤ → Context
-context rows t layout limits = record { rows = rows; expressions = t; layout = layout; limits = limits }
+abbrev pub context : List ℕ → List ℕ → List ℤ → Context
+context rows layout limits = record { rows = rows; layout = layout; limits = limits }
 
 -- the checked run has the present bodies, and no layout table
 pub record CheckedIn (c : Context) (l : Lent) (vs : List Variable) : Type 0 where
   pub no_layout : c.layout ≡ []
-  pub running : CheckedRunning c.rows c.expressions c.limits l vs
+  pub running : CheckedRunning c.rows c.limits l vs
 
 -- the erased run has the layout table, and no body; it knows the scope of a passed profile
 pub record ErasedIn (p : Profile) (a : ℕ) (c : Context) (l : Lent) (vs : List Variable) : Type 0 where
   pub no_bodies : l.bodies ≡ []
-  pub running : ErasedRunning p a c.rows c.expressions c.layout c.limits l vs
+  pub running : ErasedRunning p a c.rows c.layout c.limits l vs
 
 unfoldable pub HoldsBy : Way → Profile → ℕ → Context → Holding
 HoldsBy way.Checked p a c l vs = CheckedIn c l vs
@@ -63,12 +61,12 @@ pub record Standing (w : Way) (c : Context) (l : Lent) (room : ℕ) (P : ℕ →
   pub store : List Variable
   pub holds : Holds w profile scope c l store
   pub of_scope : P scope
-  pub enough : body_cells * (c.expressions.count + 1) ≤ room
+  pub enough : body_cells * (table_count c.rows expression_section + 1) ≤ room
 
 -- the same under some limits, where they are not asked
-pub record StandsUnder (w : Way) (rows : List ℕ) (t : Table) (layout : List ℕ) (l : Lent) (room : ℕ) (P : ℕ → Type 0) : Type 0 where
+pub record StandsUnder (w : Way) (rows : List ℕ) (layout : List ℕ) (l : Lent) (room : ℕ) (P : ℕ → Type 0) : Type 0 where
   pub limits : List ℤ
-  pub standing : Standing w (context rows t layout limits) l room P
+  pub standing : Standing w (context rows layout limits) l room P
 
 -- ---- what differs between the ways
 -- a store, in a scope with a property: the new one in memory, or the error and the memory as it was
@@ -86,7 +84,7 @@ MayGive w p a n b m = w ≡ way.Erased → scope_bodies p a n ≡ scope_bodies p
 
 -- two memories of a run, from and to, with their variables; the limits of the first are not asked
 pub record Facing (w : Way) (p : Profile) (a b : ℕ) (limits : List ℤ) (from : Lent) (vs : List Variable) (c : Context) (to : Lent) (ws : List Variable) : Type 0 where
-  pub gives : Holds w p a (context c.rows c.expressions c.layout limits) from vs
+  pub gives : Holds w p a (context c.rows c.layout limits) from vs
   pub takes : Holds w p b c to ws
 
 -- one pair of variables that may be copied
@@ -105,7 +103,7 @@ pub record HasFacing (w : Way) (from : Lent) (c : Context) (to : Lent) (room : �
   pub taken : List Variable
   pub facing : Facing w profile source target limits from given c to taken
   pub property : P profile source target given taken
-  pub enough : body_cells * (c.expressions.count + 1) ≤ room
+  pub enough : body_cells * (table_count c.rows expression_section + 1) ≤ room
 
 -- variable n of the one is assigned to variable m of the other
 pub record Copies (w : Way) (from : Lent) (c : Context) (to after : Lent) (n m r : ℕ) : Type 0 where
@@ -132,7 +130,6 @@ pub record CameBack (w : Way) (p : Profile) (b : ℕ) (c : Context) (after : Len
   pub store : List Variable
   pub is : s ≡ state_of r store
   pub holds : Holds w p b c after store
-  pub clean : r.error ≡ no_error → r.place ≡ 0
   pub same_out : r.out ≡ m.out
 
 pub record CopiesOut (w : Way) (from : Lent) (c : Context) (to after : Lent) (row field count first : ℕ) (m r : Status) : Type 0 where
@@ -140,12 +137,6 @@ pub record CopiesOut (w : Way) (from : Lent) (c : Context) (to after : Lent) (ro
       → CameBack w p b c after m r (copied_out assigned row vs first (groups count field) (state_of m ws))
 
 -- ---- procedures
--- where they begin, and where the last one's rows end
-pub record HeadsOf (rows heads : List ℕ) : Type 0 where
-  pub few : procedure_count rows ≤ most_procedures
-  pub long : length heads ≡ 9
-  pub each : (k : ℕ) → k ≤ most_procedures → get_or heads k 0 ≡ table_start rows (header_table k)
-
 -- as the definition has them
 abbrev pub procedures_in : List ℕ → List Procedure
 procedures_in rows = tabulate (procedure_count rows) (λ k. procedure_of rows k)
@@ -163,9 +154,8 @@ unfoldable pub CallableBy : Way → Profile → Context → List ℕ → Type 0
 CallableBy way.Checked p c types = TypesKept c.rows types
 CallableBy way.Erased p c types = WhollyPassed p c.rows c.layout
 
-pub record Callable (w : Way) (p : Profile) (c : Context) (types heads : List ℕ) : Type 0 where
+pub record Callable (w : Way) (p : Profile) (c : Context) (types : List ℕ) : Type 0 where
   pub by : CallableBy w p c types
-  pub heads_are : HeadsOf c.rows heads
 
 -- ---- a call's variables at its start
 -- room for the bodies, zeros yet, and those of the type rows; the erased run has neither

@@ -1,9 +1,9 @@
 // The area for calls: where a call stays open, its variables are kept at the area's front.
 ghost use Rattle.std.specs.Prelude.{◌≡◌, ◌≤◌, length};
 ghost use Rattle.run.specs.Reached.{onto};
-ghost use Rattle.frames.specs.Lending.{SameSlices};
+ghost use Rattle.run.specs.Lending.{SameSlices};
 
-use crate::memory::Memory;
+use run::memory::Memory;
 
 // One part of them, to the front.
 fn keep<T: Copy>(from: &[T], area: &mut [T])

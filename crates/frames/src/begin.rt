@@ -3,13 +3,14 @@ ghost use Rattle.std.specs.Prelude.{◌≡◌, replicate};
 ghost use Rattle.lingua.specs.Numbers.{states_length};
 ghost use Rattle.safety.specs.Accepted.{AcceptedRows};
 ghost use Rattle.profile.specs.Variables.{HasScope};
+ghost use Rattle.run.specs.Lending.{SameSlices};
 ghost use Rattle.frames.specs.Meaning.{BeginsBy, Fresh};
-ghost use Rattle.frames.specs.Lending.{SameSlices};
 
-use crate::memory::{Context, Memory};
+use crate::context::Context;
 use crate::way::Way;
 use decoder::tables::Table;
 use run::bodies::keep_bodies;
+use run::memory::Memory;
 use run::start::keep_yokes;
 
 pub fn begin(context: &Context, t: Table, types: &[u8], own: &mut Memory)

@@ -2,14 +2,15 @@
 ghost use Rattle.std.specs.Prelude.{◌≤◌, length};
 ghost use Rattle.lingua.specs.Numbers.{most_parameters};
 ghost use Rattle.lingua.specs.Faults.{number_of};
-ghost use Rattle.run.specs.Reached.{Going};
+ghost use Rattle.run.specs.Lending.{lent_in, SameSlices};
 ghost use Rattle.frames.specs.Meaning.{HasFacing, AllPairs, AllBack, CopiesIn, CopiesOut};
-ghost use Rattle.frames.specs.Lending.{context_of, lent_in, SameSlices};
+ghost use Rattle.frames.specs.Lending.{context_of};
 
+use crate::context::Context;
 use crate::leaves::copy;
-use crate::memory::{Context, Memory};
 use decoder::groups::group;
-use lingua::errors::{Error, NO_ERROR};
+use lingua::errors::Error;
+use run::memory::Memory;
 use run::steps::{Status, settled};
 
 // The variables of a field, one after the other, to the variables from first on; the first error ends it.
@@ -47,11 +48,10 @@ pub fn copies_out(
 ) -> Status
     requires has_facing { HasFacing context.now.way (lent_in own.now) (context_of context.now) (lent_in memory.old) (length stack.old) (λ p a b vs ws. AllBack context.now.way p a b vs ws field count first) }
     requires count_le_most_parameters { (count ≤ most_parameters) × (first ≤ most_parameters) }
-    requires going { Going m }
     ensures copies { CopiesOut context.now.way (lent_in own.now) (context_of context.now) (lent_in memory.old) (lent_in memory.new) row field count first m result }
     ensures same_slices { SameSlices memory.old memory.new }
 {
-    if m.error != NO_ERROR {
+    if m.error.is_some() {
         return m;
     }
     for i in 0..count {

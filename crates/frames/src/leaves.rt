@@ -1,26 +1,26 @@
 // What differs between the two ways to run: how a value is stored, a yoke changed, a test asked, a reading taken and a variable copied.
 ghost use Rattle.std.specs.Prelude.{◌≡◌, true, List, ◌+◌, ◌*◌, ◌<◌, ◌≤◌, ℤ, length};
-ghost use Rattle.lingua.specs.Numbers.{body_cells, declaration_section, type_section};
+ghost use Rattle.lingua.specs.Numbers.{body_cells, declaration_section, expression_section};
 ghost use Rattle.lingua.specs.Outcome.{◌>>=◌ as bind};
-ghost use Rattle.lingua.specs.Rows.{pair_count};
+ghost use Rattle.lingua.specs.Rows.{table_count, pair_count};
 ghost use Rattle.lingua.specs.Refusal.{is_quantity_variable};
 ghost use Rattle.lingua.specs.Evaluation.{eval as meaning, no_current};
 ghost use Rattle.lingua.specs.Faults.{number_of};
 ghost use Rattle.lingua.specs.Store.{Variable, contents, assigned, yoke_changed, reading_taken};
 ghost use Rattle.lingua.specs.Trees.{expression_tree, yoke_tree};
-ghost use Rattle.decoder.specs.Tables.{IsTable};
 ghost use Rattle.run.specs.Memory.{reading};
+ghost use Rattle.run.specs.Lending.{lent_in, SameSlices};
 ghost use Rattle.checked_row.specs.Meaning.{World, HasWorld, Gives};
 ghost use Rattle.erased_row.specs.Meaning.{TestRow};
 ghost use Rattle.erased_store.specs.Meaning.{AssignRow, YokeRow};
 ghost use Rattle.frames.specs.Meaning.{Standing, StandsUnder, Stores, TellsTest, HasFacing, Pair, Copies};
-ghost use Rattle.frames.specs.Lending.{context_of, under_limits, lent_in, SameSlices};
+ghost use Rattle.frames.specs.Lending.{context_of, under_limits};
 
-use crate::memory::{Context, Memory};
+use crate::context::Context;
 use crate::way::Way;
 use checked_row::answer::Evaluated;
-use decoder::tables::Table;
 use lingua::errors::Error;
+use run::memory::Memory;
 
 // What expression row e gives in the checked run.
 fn evaluated(
@@ -29,21 +29,13 @@ fn evaluated(
     e: usize,
     stack: &mut [i64],
 ) -> Result<Evaluated, Error>
-    requires has_world { HasWorld context.now.rows.now context.now.expressions memory.now.bodies.now memory.now.cells.now memory.now.states.now }
-    requires e_lt_count { e < context.now.expressions.count }
+    requires has_world { HasWorld context.now.rows.now (lent_in memory.now) }
+    requires e_lt_count { e < table_count context.now.rows.now expression_section }
     requires e_in_bounds { body_cells * (e + 2) ≤ length stack.old }
-    ensures { (vs : List Variable) → World context.now.rows.now context.now.expressions memory.now.bodies.now memory.now.cells.now memory.now.states.now vs
+    ensures { (vs : List Variable) → World context.now.rows.now (lent_in memory.now) vs
         → Gives result stack.new (meaning (expression_tree context.now.rows.now e) (contents vs) no_current) }
 {
-    checked::yoke::eval_plain(
-        context.rows,
-        context.expressions,
-        memory.bodies,
-        memory.cells,
-        memory.states,
-        e,
-        stack,
-    )
+    checked::yoke::eval_plain(context.rows, memory, e, stack)
 }
 
 // Variable n takes what expression row e gives.
@@ -55,7 +47,7 @@ pub fn assign(
     stack: &mut [i64],
 ) -> Result<(), Error>
     requires standing { Standing context.now.way (context_of context.now) (lent_in memory.old) (length stack.old) (λ a. AssignRow context.now.rows.now a n e) }
-    requires e_lt_count { e < context.now.expressions.count }
+    requires e_lt_count { e < table_count context.now.rows.now expression_section }
     ensures stores { Stores context.now.way (context_of context.now) (lent_in memory.old) (lent_in memory.new) (number_of result)
         (λ a. AssignRow context.now.rows.now a n e) (λ vs. bind (meaning (expression_tree context.now.rows.now e) (contents vs) no_current) (assigned vs n)) }
     ensures same_slices { SameSlices memory.old memory.new }
@@ -63,25 +55,13 @@ pub fn assign(
     match context.way {
         Way::Checked => {
             let x = evaluated(context, memory, e, &mut *stack);
-            checked_store::assign::assign(
-                context.rows,
-                context.expressions,
-                memory.bodies,
-                context.limits,
-                memory.cells,
-                memory.states,
-                n,
-                x,
-                stack,
-            )
+            checked_store::assign::assign(context.rows, context.limits, memory, n, x, stack)
         }
         Way::Erased => erased_store::assign::assign(
             context.rows,
-            context.expressions,
             context.layout,
             context.limits,
-            memory.cells,
-            memory.states,
+            memory,
             n,
             e,
             stack,
@@ -98,33 +78,22 @@ pub fn change_yoke(
     stack: &mut [i64],
 ) -> Result<(), Error>
     requires standing { Standing context.now.way (context_of context.now) (lent_in memory.old) (length stack.old) (λ a. YokeRow context.now.rows.now a n y) }
-    requires y_le_count { y ≤ context.now.expressions.count }
+    requires y_le_count { y ≤ table_count context.now.rows.now expression_section }
     ensures stores { Stores context.now.way (context_of context.now) (lent_in memory.old) (lent_in memory.new) (number_of result)
         (λ a. YokeRow context.now.rows.now a n y) (λ vs. yoke_changed vs n (yoke_tree context.now.rows.now y)) }
     ensures cells_same { memory.new.cells.now ≡ memory.old.cells.now }
     ensures bodies_same { memory.new.bodies.now ≡ memory.old.bodies.now }
     ensures same_slices { SameSlices memory.old memory.new }
 {
-    // What is only read is lent as mutable too: the check covers no call that reads one field behind a reference and writes another.
     match context.way {
-        Way::Checked => checked_store::change::change_yoke(
-            context.rows,
-            context.expressions,
-            &mut *memory.bodies,
-            context.limits,
-            &mut *memory.cells,
-            &mut *memory.states,
-            n,
-            y,
-            stack,
-        ),
+        Way::Checked => {
+            checked_store::change::change_yoke(context.rows, context.limits, memory, n, y, stack)
+        }
         Way::Erased => erased_store::change::change_yoke(
             context.rows,
-            context.expressions,
             context.layout,
             context.limits,
-            &mut *memory.cells,
-            &mut *memory.states,
+            memory,
             n,
             y,
             stack,
@@ -134,37 +103,19 @@ pub fn change_yoke(
 
 // Whether the test of expression row e holds.
 pub fn test(context: &Context, memory: &Memory, e: usize, stack: &mut [i64]) -> Result<bool, Error>
-    requires stands_under { StandsUnder context.now.way context.now.rows.now context.now.expressions context.now.layout.now (lent_in memory.now) (length stack.old) (λ a. TestRow context.now.rows.now a e) }
-    requires e_lt_count { e < context.now.expressions.count }
+    requires stands_under { StandsUnder context.now.way context.now.rows.now context.now.layout.now (lent_in memory.now) (length stack.old) (λ a. TestRow context.now.rows.now a e) }
+    requires e_lt_count { e < table_count context.now.rows.now expression_section }
     ensures { (limits : List ℤ) → TellsTest context.now.way (under_limits context.now limits) (lent_in memory.now) e result }
 {
     match context.way {
-        Way::Checked => checked::yoke::eval_test(
-            context.rows,
-            context.expressions,
-            memory.bodies,
-            memory.cells,
-            memory.states,
-            e,
-            stack,
-        ),
-        Way::Erased => erased::test::test(
-            context.rows,
-            context.expressions,
-            context.layout,
-            memory.cells,
-            memory.states,
-            e,
-            stack,
-        ),
+        Way::Checked => checked::yoke::eval_test(context.rows, memory, e, stack),
+        Way::Erased => erased::test::test(context.rows, context.layout, memory, e, stack),
     }
 }
 
 // Variable n of the profile takes a number from outside: a number, or a count of hundredths.
 pub fn take_reading(
     context: &Context,
-    declarations: Table,
-    types: Table,
     memory: &mut Memory,
     n: usize,
     z: i64,
@@ -172,32 +123,19 @@ pub fn take_reading(
 ) -> Result<(), Error>
     requires standing { Standing context.now.way (context_of context.now) (lent_in memory.old) (length stack.old) (λ a. a ≡ 0) }
     requires n_bound { (n < pair_count context.now.rows.now declaration_section) × (is_quantity_variable context.now.rows.now n ≡ true) }
-    requires table { IsTable context.now.rows.now declaration_section declarations × IsTable context.now.rows.now type_section types }
     ensures stores { Stores context.now.way (context_of context.now) (lent_in memory.old) (lent_in memory.new) (number_of result)
         (λ a. a ≡ 0) (λ vs. reading_taken vs (reading n z)) }
     ensures same_slices { SameSlices memory.old memory.new }
 {
     match context.way {
-        Way::Checked => checked_store::reading::take_reading(
-            context.rows,
-            context.expressions,
-            memory.bodies,
-            context.limits,
-            memory.cells,
-            memory.states,
-            n,
-            z,
-            stack,
-        ),
+        Way::Checked => {
+            checked_store::reading::take_reading(context.rows, context.limits, memory, n, z, stack)
+        }
         Way::Erased => erased_store::reading::take_reading(
             context.rows,
-            context.expressions,
-            declarations,
-            types,
             context.layout,
             context.limits,
-            memory.cells,
-            memory.states,
+            memory,
             n,
             z,
             stack,
@@ -221,28 +159,20 @@ pub fn copy(
     match context.way {
         Way::Checked => checked_store::copy::copy(
             context.rows,
-            context.expressions,
-            from.bodies,
-            from.cells,
-            from.states,
-            n,
-            memory.bodies,
             context.limits,
-            memory.cells,
-            memory.states,
+            from,
+            n,
+            memory,
             m,
             stack,
         ),
         Way::Erased => erased_store::copy::copy(
             context.rows,
-            context.expressions,
             context.layout,
-            from.cells,
-            from.states,
-            n,
             context.limits,
-            memory.cells,
-            memory.states,
+            from,
+            n,
+            memory,
             m,
             stack,
         ),

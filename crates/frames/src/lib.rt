@@ -4,8 +4,7 @@
 
 pub mod area; // area.rt: an open call's variables in the area
 pub mod begin; // begin.rt: a call's variables at its start
+pub mod context; // context.rt: what a run reads
 pub mod copies; // copies.rt: a call's copies in and out
 pub mod leaves; // leaves.rt: what differs between the two ways to run
-pub mod memory; // memory.rt: what a run reads, and the memory that it writes
-pub mod procedure; // procedure.rt: procedures by where they begin
 pub mod way; // way.rt: the two ways

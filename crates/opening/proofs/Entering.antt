@@ -5,20 +5,20 @@ use Prim.Native.Nat.{ℕ, suc, ◌+◌, ◌<◌}
 use native.Mathlib.Omega.{arith}
 use lib.IntN.{pos}
 use lib.ListN.{length, replicate}
-use Rattle.lingua.specs.Numbers.{cells_length, variable_table}
+use Rattle.lingua.specs.Numbers.{cells_length, most_procedures, variable_table}
 use Rattle.lingua.specs.Outcome.{ok, fail, Result, ◌>>=◌}
 use Rattle.lingua.specs.Rows.{procedure_count, groups}
 use Rattle.lingua.specs.Store.{Variable, Assigning, assigned, copied, copied_in}
 use Rattle.lingua.specs.Run.{Profile}
 use Rattle.lingua.specs.Trees.{given_values, given_references}
-use Rattle.safety.specs.Accepted.{AcceptedRows}
+use Rattle.safety.specs.Accepted.{AcceptedRows, few_procedures_lem}
 use Rattle.decoder.specs.Tables.{IsTable}
 use Rattle.decoder.specs.declared.tables.Table.{Table}
 use Rattle.profile.specs.Variables.{HasScope, scope_of}
 use Rattle.run.specs.Reached.{Lent, StoredAs}
 use Rattle.frames.specs.declared.way.Way.{Way}
 use Rattle.frames.specs.declared.way.Way.TheVariants as way
-use Rattle.frames.specs.Meaning.{Holds, Facing, HasFacing, AllPairs, CopiesIn, HeadsOf, CallableBy, BeginsBy, Fresh}
+use Rattle.frames.specs.Meaning.{Holds, Facing, HasFacing, AllPairs, CopiesIn, CallableBy, BeginsBy, Fresh}
 use Rattle.frames.specs.Begins.{frame_begins}
 use Rattle.opening.specs.Meaning.{Setting}
 use Rattle.opening.specs.Calls.{unlimited, fresh_of, given_all, Calls, Calling, ZeroBodies, ZerosBy, Enters}
@@ -50,14 +50,14 @@ module _ (from : List Variable) (ns ms : List ℕ) (to : List Variable) where
 
 -- ---- what the call's row shows
 module _ {row k b c : ℕ} {w : Way} {s : Setting} {l : Lent} {room : ℕ} (h : Calling row k b c w s l room) where
-  pub callee_heads : HeadsOf s.context.rows s.heads
-  callee_heads = h.calls.callable.heads_are
-
   pub callee_there : k < procedure_count s.context.rows
   callee_there = (call_known h.calls.holds h.calls.under h.calls.says h.calls.there).procedure
 
   pub callee_accepted : AcceptedRows s.context.rows
   callee_accepted = holds_accepted w h.calls.holds
+
+  pub callee_few : k < most_procedures
+  callee_few = omega (arith, callee_there, few_procedures_lem s.context.rows callee_accepted)
 
   pub callee_scope : {t : Table} → IsTable s.context.rows (variable_table k) t → HasScope s.context.rows t
   callee_scope is = scope_of (suc k) callee_there is

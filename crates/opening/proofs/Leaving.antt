@@ -8,16 +8,17 @@ use native.Mathlib.Omega.{arith}
 use lib.IntN.{ℤ}
 use lib.ListN.{length, take, drop, length-append, take-append-drop}
 use lib.Seq.{length-take-le}
-use Rattle.lingua.specs.Numbers.{cells_length, states_length, variable_bodies_length}
+use Rattle.lingua.specs.Numbers.{cells_length, states_length, variable_bodies_length, most_procedures}
 use Rattle.lingua.specs.Rows.{procedure_count}
 use Rattle.lingua.specs.Store.{Variable, assigned}
 use Rattle.lingua.specs.Run.{Progress, going, copied_out, returned, Profile}
 use Rattle.lingua.specs.Trees.{given_values, given_references}
 use Rattle.laws.specs.Outcomes.{false_is_true}
+use Rattle.safety.specs.Accepted.{few_procedures_lem}
 use Rattle.rules.specs.Accepted.{counts}
 use Rattle.run.specs.declared.steps.Status.{Status}
 use Rattle.run.specs.Statuses.{state_of, progress_of}
-use Rattle.run.specs.Reached.{Lent, lent, Going, onto, overlaid, Reached}
+use Rattle.run.specs.Reached.{Lent, lent, onto, overlaid, Reached}
 use Rattle.run.specs.Acting.{still_going, overlaid_none, area_stays}
 use Rattle.frames.specs.declared.way.Way.{Way}
 use Rattle.frames.specs.declared.way.Way.TheVariants as way
@@ -51,8 +52,8 @@ bodies_fit way.Checked n own bodies r us b e = omega (arith, b.1, front_fits var
 bodies_fit way.Erased n own bodies r us b e = omega (arith, ap (λ (xs : List ℕ). length xs) b)
 
 -- ---- the body's end
-module _ {row k b c : ℕ} {w : Way} {p : Profile} {a n : ℕ} {x : Context} {heads : List ℕ} {o own l area : Lent} {vs : List Variable} {ended : Status} {q : Progress}
-    (h : Left row k b c w p a n x heads o own l area vs ended q) where
+module _ {row k b c : ℕ} {w : Way} {p : Profile} {a n : ℕ} {x : Context} {o own l area : Lent} {vs : List Variable} {ended : Status} {q : Progress}
+    (h : Left row k b c w p a n x o own l area vs ended q) where
   filled : Fills w own h.reached.store
   filled = holds_fills w h.reached.running
 
@@ -105,7 +106,6 @@ module _ {row k b c : ℕ} {w : Way} {p : Profile} {a n : ℕ} {x : Context} {he
         opens = h.reached.store ∷ h.reached.opens;
         is = went_out e m j rs;
         running = h.holds;
-        clean = h.reached.clean;
         area = stays_open f g i;
         closed = λ z. false_is_true (sym z ∙ e);
       }
@@ -114,11 +114,11 @@ module _ {row k b c : ℕ} {w : Way} {p : Profile} {a n : ℕ} {x : Context} {he
   pub left_there : k < procedure_count x.rows
   left_there = (call_known h.holds h.under h.says h.there).procedure
 
+  pub left_few : k < most_procedures
+  left_few = omega (arith, left_there, few_procedures_lem x.rows (holds_accepted w h.holds))
+
   pub left_narrow : row < 65536
   left_narrow = omega (arith, (counts x.rows (holds_accepted w h.holds).counts).instructions.most, h.there)
-
-  pub still_goes : ended.out ≡ false → Going ended
-  still_goes e = record { not_out = e; clean = h.reached.clean }
 
   module _ {i j : ℕ} (count : Counted x.rows k i j) where
     back_facing : Facing w p (suc k) a (unlimited x).limits own h.reached.store x l vs
@@ -146,13 +146,12 @@ module _ {row k b c : ℕ} {w : Way} {p : Profile} {a n : ℕ} {x : Context} {he
               ∙ ap going u.is
               ∙ still_going r (state_of r u.store) [] on;
           running = u.holds;
-          clean = u.clean;
           area = area_same ∙ sym (overlaid_none o);
           closed = λ z. refl;
         }
 
 -- ---- what the code shows
-module _ {row k c : ℕ} {w : Way} {x : Context} {heads : List ℕ} {own l area : Lent} {ended : Status} {room : ℕ} (h : Leaving row k c w x heads own l area ended room) where
+module _ {row k c : ℕ} {w : Way} {x : Context} {own l area : Lent} {ended : Status} {room : ℕ} (h : Leaving row k c w x own l area ended room) where
   pub back_has_facing : {m n : ℕ} → Counted x.rows k m n → HasFacing w own x l room (λ p a d vs ws. AllBack w p a d vs ws c n m)
   back_has_facing count =
       record {
@@ -171,8 +170,8 @@ pub leaves_open : {row k c : ℕ} {w : Way} {x : Context} {own l area : Lent} {e
     → cells ≡ onto own.cells area.cells → states ≡ onto own.states area.states → bodies ≡ onto own.bodies area.bodies
     → Leaves row k c w x own l area l (lent cells states bodies) ended ended
 leaves_open {k = k} {c} {x = x} e f g i =
-    record { reaches = λ b p a n heads o vs q m h. left_open h e f g i m (length (given_values x.rows k b)) (given_references x.rows k c) }
+    record { reaches = λ b p a n o vs q m h. left_open h e f g i m (length (given_values x.rows k b)) (given_references x.rows k c) }
 
 pub leaves_back : {row k c : ℕ} {w : Way} {x : Context} {own l area after : Lent} {ended r : Status} {m n : ℕ} → Counted x.rows k m n → ended.out ≡ false → CopiesOut w own x l after row c n m ended r
     → Leaves row k c w x own l area after area ended r
-leaves_back count e back = record { reaches = λ b p a n heads o vs q m h. came_back h count e back m }
+leaves_back count e back = record { reaches = λ b p a n o vs q m h. came_back h count e back m }

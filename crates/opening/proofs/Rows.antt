@@ -19,8 +19,6 @@ use Rattle.laws.specs.Reached.{step_part, step_root}
 use Rattle.safety.specs.Accepted.{AcceptedRows, program_row, body_row_lem}
 use Rattle.safety.specs.ProfileScopes.{scope_row}
 use Rattle.safety.specs.Scoped.{body_scope, program_scope}
-use Rattle.decoder.specs.Tables.{IsTable}
-use Rattle.decoder.specs.declared.tables.Table.{Table}
 use Rattle.profile.specs.Row.{KnownInstruction}
 use Rattle.rules.specs.Accepted.{counts}
 use Rattle.profile.specs.Known.{instruction_row_known}
@@ -45,11 +43,6 @@ module _ {p : Profile} {a : ℕ} {c : Context} {l : Lent} {vs : List Variable} w
   unfolding HoldsBy
   holds_accepted way.Checked h = h.by.running.world.accepted
   holds_accepted way.Erased h = h.by.running.world.accepted
-
-  pub holds_table : (w : Way) → Holds w p a c l vs → IsTable c.rows expression_section c.expressions
-  unfolding HoldsBy
-  holds_table way.Checked h = h.by.running.world.table
-  holds_table way.Erased h = h.by.running.world.table
 
 -- what the code read of a row, once its kind is told
 pub meant_as : {rows : List ℕ} {row : ℕ} {c d : InstructionRow} → c ≡ d → instruction_meaning c ≡ instruction_row rows row → Means rows row d
@@ -78,12 +71,9 @@ module _ (rows : List ℕ) (accepted : AcceptedRows rows) where
   root_under a l = step_root rows known (scope_row rows a) (scope_row_lem a l)
 
 -- ---- a row's instruction
-module _ {row : ℕ} {w : Way} {c : Context} {u : Table} {l : Lent} {p : Profile} {a : ℕ} {vs : List Variable} (h : Holds w p a c l vs) (is : IsTable c.rows instruction_section u) (here : row < u.count) where
+module _ {row : ℕ} {w : Way} {c : Context} {l : Lent} {p : Profile} {a : ℕ} {vs : List Variable} (h : Holds w p a c l vs) (inside : row < table_count c.rows instruction_section) where
   accepted : AcceptedRows c.rows
   accepted = holds_accepted w h
-
-  pub inside : row < table_count c.rows instruction_section
-  inside = omega (arith, here, is.count)
 
   -- its kind is known
   pub row_known : KnownInstruction c.rows row
@@ -99,19 +89,13 @@ module _ {row : ℕ} {w : Way} {c : Context} {u : Table} {l : Lent} {p : Profile
   pub tree : {d : InstructionRow} → Means c.rows row d → instruction_tree c.rows row ≡ instruction_row_tree c.rows row d
   tree {d} s = instruction_row_tree_lem c.rows row d s.is (row_facts s)
 
-  pub there : {e : ℕ} → e < table_count c.rows expression_section → e < c.expressions.count
-  there k = omega (arith, k, (holds_table w h).count)
-
 -- ---- what the leaves ask
-module _ {row : ℕ} {w : Way} {c : Context} {u : Table} {l : Lent} {m : Status} {room : ℕ} (a : AskedLeaf row w c u l m room) where
+module _ {row : ℕ} {w : Way} {c : Context} {l : Lent} {m : Status} {room : ℕ} (a : AskedLeaf row w c l m room) where
   own_facts : {d : InstructionRow} → Means c.rows row d → InstructionFacts c.rows row d
-  own_facts s = row_facts a.holds a.instructions a.there s
+  own_facts s = row_facts a.holds a.there s
 
   pub leaf_narrow : row < 65536
-  leaf_narrow = row_narrow a.holds a.instructions a.there
-
-  own_inside : row < table_count c.rows instruction_section
-  own_inside = inside a.holds a.instructions a.there
+  leaf_narrow = row_narrow a.holds a.there
 
   at_scope : (b : ℕ) → b ≤ procedure_count c.rows → Under c.rows b row → instruction_scope c.rows row ≡ b
   at_scope b k h = scope_is c.rows (holds_accepted w a.holds) b row k h
@@ -121,26 +105,26 @@ module _ {row : ℕ} {w : Way} {c : Context} {u : Table} {l : Lent} {m : Status}
       → ((p : Profile) (b : ℕ) (vs : List Variable) → Holds w p b c l vs → Under c.rows b row → (calls : _) (o : Lent) → Reached (Holds w p b c) o after o r (exec calls (instruction_row_tree c.rows row d) (state_of m vs)))
       → ExecutesLeaf row w c l after m r
   leaf_executes {d} s f =
-      record { reaches = λ p b vs h k calls o. reaches_as (ap (λ (i : Instruction). exec calls i (state_of m vs)) (tree a.holds a.instructions a.there s)) (f p b vs h k calls o) }
+      record { reaches = λ p b vs h k calls o. reaches_as (ap (λ (i : Instruction). exec calls i (state_of m vs)) (tree a.holds a.there s)) (f p b vs h k calls o) }
 
-  pub assign_there : {n e : ℕ} → Means c.rows row (does.Assign n e) → e < c.expressions.count
+  pub assign_there : {n e : ℕ} → Means c.rows row (does.Assign n e) → e < table_count c.rows expression_section
   unfolding InstructionFacts
-  assign_there s = there a.holds a.instructions a.there (own_facts s).1
+  assign_there s = (own_facts s).1
 
   pub assign_row : {n e : ℕ} → Means c.rows row (does.Assign n e) → (b : ℕ) → b ≤ procedure_count c.rows → Under c.rows b row → AssignRow c.rows b n e
   unfolding InstructionFacts instruction_row_tree
   assign_row {n} s b k h =
-      record { at = row; there = own_inside; scope = at_scope b k h; declared = subst (λ (j : ℕ). n < pair_count c.rows (scope_table j)) (at_scope b k h) (own_facts s).0; is = tree a.holds a.instructions a.there s }
+      record { at = row; there = a.there; scope = at_scope b k h; declared = subst (λ (j : ℕ). n < pair_count c.rows (scope_table j)) (at_scope b k h) (own_facts s).0; is = tree a.holds a.there s }
 
-  pub yoke_there : {n y : ℕ} → Means c.rows row (does.SetYoke n y) → y ≤ c.expressions.count
+  pub yoke_there : {n y : ℕ} → Means c.rows row (does.SetYoke n y) → y ≤ table_count c.rows expression_section
   unfolding InstructionFacts
-  yoke_there {n} {y} s = omega (arith, every_yoke (table_count c.rows expression_section) y (own_facts s).1, (holds_table w a.holds).count)
+  yoke_there {n} {y} s = every_yoke (table_count c.rows expression_section) y (own_facts s).1
 
   pub yoke_row : {n y : ℕ} → Means c.rows row (does.SetYoke n y) → (b : ℕ) → b ≤ procedure_count c.rows → Under c.rows b row → YokeRow c.rows b n y
   unfolding InstructionFacts instruction_row_tree
   yoke_row {n} s b k h =
-      record { at = row; there = own_inside; scope = at_scope b k h; declared = subst (λ (j : ℕ). n < pair_count c.rows (scope_table j)) (at_scope b k h) (own_facts s).0; is = tree a.holds a.instructions a.there s }
+      record { at = row; there = a.there; scope = at_scope b k h; declared = subst (λ (j : ℕ). n < pair_count c.rows (scope_table j)) (at_scope b k h) (own_facts s).0; is = tree a.holds a.there s }
 
   -- a yoke's number fits a state word
   pub few_yokes : {n y : ℕ} → Means c.rows row (does.SetYoke n y) → y < 65536
-  few_yokes s = omega (arith, yoke_there s, (holds_table w a.holds).count, (counts c.rows (holds_accepted w a.holds).counts).expressions.most)
+  few_yokes s = omega (arith, yoke_there s, (counts c.rows (holds_accepted w a.holds).counts).expressions.most)

@@ -1,6 +1,6 @@
 -- What a call asks before its body and behind it, and what it gives. Assumes nothing: these are definitions.
 use Rattle.std.specs.Prelude.{◌≡◌, List, [], ◌++◌, ℕ, suc, ◌+◌, ◌*◌, ◌≤◌, ◌<◌, pos, length, take, drop, replicate}
-use Rattle.lingua.specs.Numbers.{body_cells, cells_length, states_length, variable_bodies_length, limit_cells_length, instruction_section}
+use Rattle.lingua.specs.Numbers.{body_cells, cells_length, states_length, variable_bodies_length, limit_cells_length, expression_section, instruction_section}
 use Rattle.lingua.specs.Errors.{no_error}
 use Rattle.lingua.specs.Outcome.{fail}
 use Rattle.lingua.specs.Rows.{table_count}
@@ -12,16 +12,16 @@ use Rattle.run.specs.Statuses.{state_of}
 use Rattle.run.specs.Reached.{Lent, lent, StoredAs, Reached}
 use Rattle.frames.specs.declared.way.Way.{Way}
 use Rattle.frames.specs.declared.way.Way.TheVariants as way
-use Rattle.frames.specs.Meaning.{Context, context, Holds, HeadsOf, procedures_in, Callable}
+use Rattle.frames.specs.Meaning.{Context, context, Holds, procedures_in, Callable}
 use Rattle.opening.specs.Meaning.{Setting, Under, AreaOf, CallAt}
 
 -- the same rows and layout table, and no limits, as a procedure's variables have
 abbrev pub unlimited : Context → Context
-unlimited c = context c.rows c.expressions c.layout (replicate limit_cells_length (pos 0))
+unlimited c = context c.rows c.layout (replicate limit_cells_length (pos 0))
 
 -- what a procedure's variables are run with
 abbrev pub alone : Setting → Setting
-alone s = record { context = unlimited s.context; types = s.types; heads = s.heads }
+alone s = record { context = unlimited s.context; types = s.types }
 
 -- the variables of procedure k as a call begins with them
 abbrev pub fresh_of : List ℕ → ℕ → List Variable
@@ -34,7 +34,7 @@ given_all rows k b c = given_values rows k b ++ given_references rows k c
 -- a call's row with the caller's variables in memory
 pub record Calls (row k b c : ℕ) (w : Way) (p : Profile) (a : ℕ) (s : Setting) (l : Lent) (vs : List Variable) : Type 0 where
   pub holds : Holds w p a s.context l vs
-  pub callable : Callable w p s.context s.types s.heads
+  pub callable : Callable w p s.context s.types
   pub under : Under s.context.rows a row
   pub says : CallAt s.context.rows row k b c
   pub there : row < table_count s.context.rows instruction_section
@@ -45,7 +45,7 @@ pub record Calling (row k b c : ℕ) (w : Way) (s : Setting) (l : Lent) (room : 
   pub scope : ℕ
   pub store : List Variable
   pub calls : Calls row k b c w profile scope s l store
-  pub enough : body_cells * (s.context.expressions.count + 1) ≤ room
+  pub enough : body_cells * (table_count s.context.rows expression_section + 1) ≤ room
 
 -- memory for a call's variables
 unfoldable pub ZeroBodies : Way → List ℕ → Type 0
@@ -79,9 +79,8 @@ bodies_of_call way.Checked = variable_bodies_length
 bodies_of_call way.Erased = 0
 
 -- the caller's variables in memory, the body's where it ended, and the area as it left it
-pub record Left (row k b c : ℕ) (w : Way) (p : Profile) (a n : ℕ) (x : Context) (heads : List ℕ) (o own l area : Lent) (vs : List Variable) (ended : Status) (q : Progress) : Type 0 where
+pub record Left (row k b c : ℕ) (w : Way) (p : Profile) (a n : ℕ) (x : Context) (o own l area : Lent) (vs : List Variable) (ended : Status) (q : Progress) : Type 0 where
   pub holds : Holds w p a x l vs
-  pub heads_are : HeadsOf x.rows heads
   pub under : Under x.rows a row
   pub says : CallAt x.rows row k b c
   pub there : row < table_count x.rows instruction_section
@@ -90,7 +89,7 @@ pub record Left (row k b c : ℕ) (w : Way) (p : Profile) (a n : ℕ) (x : Conte
   pub reached : Reached (Holds w p (suc k) (unlimited x)) (rest (bodies_of_call w) o) own after ended q
   pub area_is : area ≡ with_rest (bodies_of_call w) o after
 
-pub record Leaving (row k c : ℕ) (w : Way) (x : Context) (heads : List ℕ) (own l area : Lent) (ended : Status) (room : ℕ) : Type 0 where
+pub record Leaving (row k c : ℕ) (w : Way) (x : Context) (own l area : Lent) (ended : Status) (room : ℕ) : Type 0 where
   pub field : ℕ
   pub profile : Profile
   pub scope : ℕ
@@ -98,10 +97,10 @@ pub record Leaving (row k c : ℕ) (w : Way) (x : Context) (heads : List ℕ) (o
   pub before : Lent
   pub store : List Variable
   pub progress : Progress
-  pub left : Left row k field c w profile scope may x heads before own l area store ended progress
-  pub enough : body_cells * (x.expressions.count + 1) ≤ room
+  pub left : Left row k field c w profile scope may x before own l area store ended progress
+  pub enough : body_cells * (table_count x.rows expression_section + 1) ≤ room
 
 -- the run stands where the definition's call does
 pub record Leaves (row k c : ℕ) (w : Way) (x : Context) (own l area after free : Lent) (ended r : Status) : Type 0 where
-  pub reaches : (b : ℕ) (p : Profile) (a n : ℕ) (heads : List ℕ) (o : Lent) (vs : List Variable) (q : Progress) (m : Status) → Left row k b c w p a n x heads o own l area vs ended q
+  pub reaches : (b : ℕ) (p : Profile) (a n : ℕ) (o : Lent) (vs : List Variable) (q : Progress) (m : Status) → Left row k b c w p a n x o own l area vs ended q
       → Reached (Holds w p a x) o after free r (returned assigned row (length (given_values x.rows k b)) (given_references x.rows k c) (state_of m vs) q)

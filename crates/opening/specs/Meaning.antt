@@ -2,15 +2,13 @@
 -- definitions.
 use Rattle.std.specs.Prelude.{◌≡◌, ℕ, ◌+◌, ◌*◌, ◌≤◌, ◌<◌, ℤ, length}
 use mathlib.Core.List.{List, [], Memᴰ}
-use Rattle.lingua.specs.Numbers.{body_cells, cells_length, states_length, variable_bodies_length, instruction_section}
-use Rattle.lingua.specs.Rows.{instruction_row}
+use Rattle.lingua.specs.Numbers.{body_cells, cells_length, states_length, variable_bodies_length, expression_section, instruction_section}
+use Rattle.lingua.specs.Rows.{table_count, instruction_row}
 use Rattle.lingua.specs.Store.{Variable}
 use Rattle.lingua.specs.Run.{Calling, exec, Profile}
 use Rattle.lingua.specs.Trees.{instruction_tree}
 use Rattle.laws.specs.Reached.{steps_of}
 use Rattle.safety.specs.ProfileScopes.{scope_row}
-use Rattle.decoder.specs.Tables.{IsTable}
-use Rattle.decoder.specs.declared.tables.Table.{Table}
 use Rattle.decoder.specs.declared.decode.InstructionRow.{InstructionRow}
 use Rattle.decoder.specs.declared.decode.InstructionRow.TheVariants as does
 use Rattle.decoder.specs.Decoded.{instruction_meaning}
@@ -24,18 +22,17 @@ use Rattle.frames.specs.Lending.{context_of}
 use Rattle.opening.specs.declared.setting.Setting.{Setting as SettingRead}
 
 -- ---- what is given
--- what a run reads and does not change: beside the context the bodies of the type rows and where the procedures begin
+-- what a run reads and does not change: beside the context the bodies of the type rows
 pub record Setting : Type 0 where
   pub context : Context
   pub types : List ℕ
-  pub heads : List ℕ
 
-abbrev pub setting : List ℕ → Table → List ℕ → List ℤ → List ℕ → List ℕ → Setting
-setting rows t layout limits types heads = record { context = context rows t layout limits; types = types; heads = heads }
+abbrev pub setting : List ℕ → List ℕ → List ℤ → List ℕ → Setting
+setting rows layout limits types = record { context = context rows layout limits; types = types }
 
 -- what the code's struct holds
 abbrev pub setting_of : SettingRead → Setting
-setting_of s = record { context = context_of s.context; types = s.types.now; heads = s.heads.now }
+setting_of s = record { context = context_of s.context; types = s.types.now }
 
 -- ---- the area for the calls that may still be opened
 unfoldable pub AreaBodies : Way → ℕ → List ℕ → Type 0
@@ -67,15 +64,14 @@ abbrev pub CallAt : List ℕ → ℕ → ℕ → ℕ → ℕ → Type 0
 CallAt rows row k b c = Means rows row (does.Call k b c)
 
 -- ---- instructions that no other is part of, whatever the area is and whatever calls do
-pub record AskedLeaf (row : ℕ) (w : Way) (c : Context) (u : Table) (l : Lent) (m : Status) (room : ℕ) : Type 0 where
+pub record AskedLeaf (row : ℕ) (w : Way) (c : Context) (l : Lent) (m : Status) (room : ℕ) : Type 0 where
   pub profile : Profile
   pub scope : ℕ
   pub store : List Variable
   pub holds : Holds w profile scope c l store
   pub under : Under c.rows scope row
-  pub enough : body_cells * (c.expressions.count + 1) ≤ room
-  pub instructions : IsTable c.rows instruction_section u
-  pub there : row < u.count
+  pub enough : body_cells * (table_count c.rows expression_section + 1) ≤ room
+  pub there : row < table_count c.rows instruction_section
   pub going : Going m
 
 pub record ExecutesLeaf (row : ℕ) (w : Way) (c : Context) (l after : Lent) (m r : Status) : Type 0 where

@@ -1,10 +1,9 @@
 // A call before and behind its body: its variables are begun and filled by the copies in; then what was given by reference comes back, or, out
 // of budget, they stay in the area.
-ghost use Rattle.std.specs.Prelude.{◌≡◌, ◌<◌, length};
-ghost use Rattle.lingua.specs.Rows.{procedure_count, body_row};
+ghost use Rattle.std.specs.Prelude.{length};
 ghost use Rattle.lingua.specs.Faults.{number_of};
-ghost use Rattle.frames.specs.Meaning.{HeadsOf};
-ghost use Rattle.frames.specs.Lending.{context_of, lent_in, SameSlices};
+ghost use Rattle.run.specs.Lending.{lent_in, SameSlices};
+ghost use Rattle.frames.specs.Lending.{context_of};
 ghost use Rattle.opening.specs.Meaning.{setting_of};
 ghost use Rattle.opening.specs.Calls.{Enters, Calling, ZerosBy, Leaving, Leaves};
 
@@ -12,22 +11,12 @@ use crate::setting::{CallRow, Setting};
 use decoder::groups::given;
 use frames::area::keep_open;
 use frames::begin::begin;
+use frames::context::Context;
 use frames::copies::{copies_in, copies_out};
-use frames::memory::{Context, Memory};
-use frames::procedure::{procedure_in, variables_in};
 use lingua::errors::Error;
 use lingua::sizes::LIMIT_CELLS_LENGTH;
+use run::memory::Memory;
 use run::steps::Status;
-
-// The instruction row of procedure k's body.
-pub fn body_in(rows: &[u8], heads: &[usize], k: usize) -> usize
-    requires heads_of { HeadsOf rows.now heads.now }
-    requires k_bound { k < procedure_count rows.now }
-    ensures { result ≡ body_row rows.now k }
-{
-    let procedure = procedure_in(rows, heads, k);
-    procedure.body
-}
 
 // The procedure's variables begin, and take those that are given, values first; a procedure's variables have no limits.
 pub fn enter(
@@ -47,10 +36,11 @@ pub fn enter(
         limits: &none,
         ..setting.context
     };
-    let procedure = procedure_in(context.rows, setting.heads, call.procedure);
+    let rows = context.rows;
+    let procedure = rows.procedure(call.procedure);
     let values = given(procedure.values);
     let references = given(procedure.references);
-    let variables = variables_in(context.rows, setting.heads, call.procedure);
+    let variables = rows.variables(call.procedure);
     begin(&context, variables, setting.types, own);
     copies_in(&context, memory, call.values, values, 0, own, &mut *stack)?;
     copies_in(
@@ -74,7 +64,7 @@ pub fn leave(
     ended: Status,
     stack: &mut [i64],
 ) -> Status
-    requires { Leaving call.row call.procedure call.references setting.now.context.way (context_of setting.now.context) setting.now.heads.now (lent_in own.now) (lent_in memory.old) (lent_in area.old) ended (length stack.old) }
+    requires { Leaving call.row call.procedure call.references setting.now.context.way (context_of setting.now.context) (lent_in own.now) (lent_in memory.old) (lent_in area.old) ended (length stack.old) }
     ensures leaves { Leaves call.row call.procedure call.references setting.now.context.way (context_of setting.now.context) (lent_in own.now) (lent_in memory.old) (lent_in area.old) (lent_in memory.new) (lent_in area.new) ended result }
     ensures same_slices { SameSlices memory.old memory.new × SameSlices area.old area.new }
 {
@@ -83,7 +73,8 @@ pub fn leave(
         return ended;
     }
     let context = &setting.context;
-    let procedure = procedure_in(context.rows, setting.heads, call.procedure);
+    let rows = context.rows;
+    let procedure = rows.procedure(call.procedure);
     let values = given(procedure.values);
     let references = given(procedure.references);
     copies_out(

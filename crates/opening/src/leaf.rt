@@ -2,26 +2,27 @@
 ghost use Rattle.std.specs.Prelude.{◌≡◌, ℕ, length};
 ghost use Rattle.lingua.specs.Expression.{skip as skipTree};
 ghost use Rattle.run.specs.Reached.{Going, Passes};
-ghost use Rattle.frames.specs.Lending.{context_of, lent_in, SameSlices};
+ghost use Rattle.run.specs.Lending.{lent_in, SameSlices};
+ghost use Rattle.frames.specs.Lending.{context_of};
 ghost use Rattle.opening.specs.Meaning.{AskedLeaf, AssignAt, SetYokeAt, ExecutesLeaf};
 
 use crate::setting::Setting;
 use frames::leaves::{assign, change_yoke};
-use frames::memory::Memory;
-use lingua::errors::NO_ERROR;
+use run::memory::Memory;
 use run::steps::{Status, settled, stepped};
 
 pub fn skip(m: Status) -> Status
     requires { Going m }
     ensures { (row : ℕ) → Passes m result (skipTree row) }
 {
-    if m.error != NO_ERROR {
+    if m.error.is_some() {
         return m;
     }
     stepped(m)
 }
 
-// Variable n takes what expression row e gives.
+// Variable n takes what expression row e gives. Drawn into the walk, as its kind is most of what a program does.
+#[inline(always)]
 pub fn assignment(
     row: usize,
     n: usize,
@@ -31,12 +32,12 @@ pub fn assignment(
     m: Status,
     stack: &mut [i64],
 ) -> Status
-    requires asked_leaf { AskedLeaf row setting.now.context.way (context_of setting.now.context) setting.now.instructions (lent_in memory.old) m (length stack.old) }
+    requires asked_leaf { AskedLeaf row setting.now.context.way (context_of setting.now.context) (lent_in memory.old) m (length stack.old) }
     requires assign_at { AssignAt setting.now.context.rows.now row n e }
     ensures executes { ExecutesLeaf row setting.now.context.way (context_of setting.now.context) (lent_in memory.old) (lent_in memory.new) m result }
     ensures same_slices { SameSlices memory.old memory.new }
 {
-    if m.error != NO_ERROR {
+    if m.error.is_some() {
         return m;
     }
     let taken = stepped(m);
@@ -57,14 +58,14 @@ pub fn yoke_change(
     m: Status,
     stack: &mut [i64],
 ) -> Status
-    requires asked_leaf { AskedLeaf row setting.now.context.way (context_of setting.now.context) setting.now.instructions (lent_in memory.old) m (length stack.old) }
+    requires asked_leaf { AskedLeaf row setting.now.context.way (context_of setting.now.context) (lent_in memory.old) m (length stack.old) }
     requires set_yoke_at { SetYokeAt setting.now.context.rows.now row n y }
     ensures executes { ExecutesLeaf row setting.now.context.way (context_of setting.now.context) (lent_in memory.old) (lent_in memory.new) m result }
     ensures cells_same { memory.new.cells.now ≡ memory.old.cells.now }
     ensures bodies_same { memory.new.bodies.now ≡ memory.old.bodies.now }
     ensures same_slices { SameSlices memory.old memory.new }
 {
-    if m.error != NO_ERROR {
+    if m.error.is_some() {
         return m;
     }
     let taken = stepped(m);

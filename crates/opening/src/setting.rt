@@ -1,14 +1,10 @@
 // What the walk of instructions reads.
-use decoder::tables::Table;
-use frames::memory::Context;
+use frames::context::Context;
 
-// Beside the context the table of the instructions, where the procedures begin, and the bodies of the type rows, which the erased run does
-// without.
+// Beside the context the bodies of the type rows, which the erased run does without.
 #[derive(Clone, Copy)]
 pub struct Setting<'a> {
     pub context: Context<'a>,
-    pub instructions: Table,
-    pub heads: &'a [usize],
     pub types: &'a [u8],
 }
 

@@ -1,13 +1,17 @@
 -- A call by the ways in which its code ends: passed over, out, too deep, a copy in that failed, or as its body and what comes behind it leave the
 -- run. Assumes nothing.
-use mathlib.Core.Path.{◌≡◌, refl, ap, ◌∙◌}
-use mathlib.Core.Bool.{true, false}
+use mathlib.Core.Path.{◌≡◌, refl, sym, ap, ◌∙◌}
+use mathlib.Core.Bool.{true, false, true≢false}
+use Rattle.std.specs.Prelude.{Result as CodeResult, Ok, Err, is_err, is_some}
 use mathlib.Core.List.{List}
 use Prim.Native.Nat.{ℕ, suc, ◌-◌, ◌*◌, ◌<◌}
 use native.Mathlib.Omega.{arith}
 use lib.ListN.{length, drop, length-drop}
 use Rattle.lingua.specs.Numbers.{cells_length, states_length, variable_bodies_length}
-use Rattle.lingua.specs.Errors.{too_deep}
+use Rattle.lingua.specs.declared.errors.Error.{Error}
+use Rattle.lingua.specs.declared.errors.Error.TheVariants.{TooDeep}
+use Rattle.lingua.specs.Faults.{error_number, number_of}
+use Rattle.laws.specs.Faults.{error_some}
 use Rattle.lingua.specs.Outcome.{ok, fail, Result}
 use Rattle.lingua.specs.Rows.{procedure_count, body_row}
 use Rattle.lingua.specs.Expression.{call, Instruction}
@@ -18,7 +22,7 @@ use Rattle.safety.specs.Every.{tabulate_at}
 use Rattle.run.specs.declared.steps.Status.{Status}
 use Rattle.run.specs.Statuses.{state_of, StepOf, recorded}
 use Rattle.run.specs.Reached.{Lent, Holding, Going, Reached}
-use Rattle.run.specs.Acting.{clean_after, passed_over, act_out, act_on, stays, reaches_as, settles}
+use Rattle.run.specs.Acting.{passed_over, act_out, act_on, stays, reaches_as, settles}
 use Rattle.frames.specs.declared.way.Way.{Way}
 use Rattle.frames.specs.declared.way.Way.TheVariants as way
 use Rattle.frames.specs.Meaning.{Context, procedures_in, CallableBy, Callable}
@@ -28,30 +32,30 @@ use Rattle.walk.specs.Meaning.{calling}
 
 -- ---- the instruction
 module _ (calls : Calling) {M : Holding} {o l : Lent} (vs : List Variable) (w : M l vs) {m : Status} (g : Going m) (row k : ℕ) (ns rs : List ℕ) where
-  pub call_passed : (m.error ≡ 0 → ⊥) → Reached M o l o m (exec calls (call row k ns rs) (state_of m vs))
+  pub call_passed : is_some m.error ≡ true → Reached M o l o m (exec calls (call row k ns rs) (state_of m vs))
   unfolding exec
-  call_passed h = stays vs w g.clean (passed_over m vs (λ t. calls row k ns rs t) g h)
+  call_passed h = stays vs w (passed_over m vs (λ t. calls row k ns rs t) g h)
 
-  module _ {r : Status} (h : StepOf m r) (z : m.error ≡ 0) where
+  module _ {r : Status} (h : StepOf m r) (z : is_some m.error ≡ false) where
     pub call_out : r.out ≡ true → Reached M o l o r (exec calls (call row k ns rs) (state_of m vs))
     unfolding exec
-    call_out q = stays vs w (clean_after g h) (act_out h z vs (λ t. calls row k ns rs t) q)
+    call_out q = stays vs w (act_out h z vs (λ t. calls row k ns rs t) q)
 
-pub call_on : (calls : Calling) (vs : List Variable) (row k : ℕ) (ns rs : List ℕ) {m r : Status} → StepOf m r → m.error ≡ 0 → r.out ≡ false
+pub call_on : (calls : Calling) (vs : List Variable) (row k : ℕ) (ns rs : List ℕ) {m r : Status} → StepOf m r → is_some m.error ≡ false → r.out ≡ false
     → exec calls (call row k ns rs) (state_of m vs) ≡ calls row k ns rs (state_of r vs)
 unfolding exec
 call_on calls vs row k ns rs h z q = act_on h z vs (λ t. calls row k ns rs t) q
 
 -- an error that a call records itself
-module _ {M : Holding} {o l : Lent} (vs : List Variable) (w : M l vs) (r s : Status) (error row : ℕ) (f : error ≡ 0 → ⊥) (k : s ≡ recorded r error row) (q : r.out ≡ false) (e : r.error ≡ 0 → r.place ≡ 0) where
-  failed : Reached M o l o s (going (with_error (state_of r vs) error row))
-  failed = settles vs w r s {o = fail error} error row (record { answer = λ z. absurd (f z); error = λ g. record { is = refl; same = refl } }) k q e
+module _ {M : Holding} {o l : Lent} (vs : List Variable) (w : M l vs) (r s : Status) (error : Error) (row : ℕ) (k : s ≡ recorded r (Err error) row) (q : r.out ≡ false) where
+  failed : Reached M o l o s (going (with_error (state_of r vs) (error_number error) row))
+  failed = settles vs w r s {o = fail (error_number error)} (Err error) row (record { answer = λ z. absurd (error_some error z); error = λ g. record { is = refl; same = refl } }) k q
 
 -- where no call may be opened any more
-pub call_deep : (rows : List ℕ) {M : Holding} {o l : Lent} (vs : List Variable) → M l vs → (r s : Status) (row k : ℕ) (ns rs : List ℕ) → s ≡ recorded r too_deep row → r.out ≡ false → (r.error ≡ 0 → r.place ≡ 0)
+pub call_deep : (rows : List ℕ) {M : Holding} {o l : Lent} (vs : List Variable) → M l vs → (r s : Status) (row k : ℕ) (ns rs : List ℕ) → s ≡ recorded r (Err TooDeep) row → r.out ≡ false
     → Reached M o l o s (calling rows 0 row k ns rs (state_of r vs))
 unfolding called
-call_deep rows vs w r s row k ns rs e q c = failed vs w r s too_deep row (λ z. let b : ⊥ = omega (arith, z) in b) e q c
+call_deep rows vs w r s row k ns rs e q = failed vs w r s TooDeep row e q
 
 -- ---- a call that is opened
 body_is : (rows : List ℕ) (k : ℕ) → k < procedure_count rows → (procedure_at (procedures_in rows) k).body ≡ instruction_tree rows (body_row rows k)
@@ -78,11 +82,13 @@ module _ (rows : List ℕ) (n row k b c : ℕ) (m : Status) (vs : List Variable)
       ∙ ap (λ (x : Result (List Variable)). opened x row (state_of m vs) then_runs) e
       ∙ ap (λ (i : Instruction). returned assigned row (length (given_values rows k b)) (given_references rows k c) (state_of m vs) (exec (calling rows n) i (state_of m ws))) (body_is rows k l)
 
-  pub call_failed : {M : Holding} {o l : Lent} → M l vs → (s : Status) (error : ℕ) → (error ≡ 0 → ⊥) → copied_in assigned vs (given_all rows k b c) 0 (fresh_of rows k) ≡ fail error
-      → s ≡ recorded m error row → m.out ≡ false → (m.error ≡ 0 → m.place ≡ 0) → Reached M o l o s (calling rows (suc n) row k (given_values rows k b) (given_references rows k c) (state_of m vs))
+  pub call_failed : {M : Holding} {o l : Lent} → M l vs → (s : Status) (answer : CodeResult (Unit {0}) Error) → is_err answer ≡ true
+      → copied_in assigned vs (given_all rows k b c) 0 (fresh_of rows k) ≡ fail (number_of answer) → s ≡ recorded m answer row → m.out ≡ false
+      → Reached M o l o s (calling rows (suc n) row k (given_values rows k b) (given_references rows k c) (state_of m vs))
   unfolding copies
-  call_failed w s error f e q z g =
-      reaches_as (call_is ∙ ap (λ (x : Result (List Variable)). opened x row (state_of m vs) then_runs) e) (failed vs w m s error row f q z g)
+  call_failed w s (Ok u) f e q z = absurd (true≢false (sym f))
+  call_failed w s (Err x) f e q z =
+      reaches_as (call_is ∙ ap (λ (y : Result (List Variable)). opened y row (state_of m vs) then_runs) e) (failed vs w m s x row q z)
 
 -- ---- what the body asks
 callable_way : (w : Way) (p : Profile) (c : Context) (types : List ℕ) → CallableBy w p c types → CallableBy w p (unlimited c) types
@@ -90,8 +96,8 @@ unfolding CallableBy
 callable_way way.Checked p c types x = x
 callable_way way.Erased p c types x = x
 
-pub callable_unlimited : {w : Way} {p : Profile} {c : Context} {types heads : List ℕ} → Callable w p c types heads → Callable w p (unlimited c) types heads
-callable_unlimited {w} {p} {c} {types} h = record { by = callable_way w p c types h.by; heads_are = h.heads_are }
+pub callable_unlimited : {w : Way} {p : Profile} {c : Context} {types : List ℕ} → Callable w p c types → Callable w p (unlimited c) types
+callable_unlimited {w} {p} {c} {types} h = record { by = callable_way w p c types h.by }
 
 rest_bodies : (w : Way) (n : ℕ) (bodies : List ℕ) → AreaBodies w (suc n) bodies → AreaBodies w n (drop (bodies_of_call w) bodies)
 unfolding AreaBodies

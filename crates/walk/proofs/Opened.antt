@@ -1,7 +1,8 @@
 -- A call for which there is room, by what its parts ask and give: its variables before the body, the body on them with a shorter area, and what
 -- comes behind it. Assumes nothing.
 use mathlib.Core.Path.{◌≡◌, refl, sym, ap, ◌∙◌, subst}
-use mathlib.Core.Bool.{false}
+use mathlib.Core.Bool.{true, false}
+use Rattle.std.specs.Prelude.{Result, Err, is_err}
 use mathlib.Core.List.{List, [], ◌++◌, append-nil}
 use Prim.Native.Nat.{ℕ, zero, suc, ◌+◌, ◌-◌, ◌≤◌, ◌<◌}
 use native.Mathlib.Omega.{arith}
@@ -9,23 +10,27 @@ use lib.IntN.{ℤ, pos}
 use lib.ListN.{length, take, drop, replicate, length-replicate, length-drop}
 use lib.Seq.{length-take-le, drop-length}
 use borrow.Author.Rules.{part_to_end}
-use Rattle.lingua.specs.Numbers.{cells_length, states_length, variable_bodies_length, instruction_section}
-use Rattle.lingua.specs.Errors.{no_error, too_deep}
+use Rattle.lingua.specs.Numbers.{cells_length, states_length, variable_bodies_length, most_procedures, instruction_section}
+use Rattle.lingua.specs.Errors.{no_error}
 use Rattle.lingua.specs.Rows.{table_count, procedure_count, body_row}
 use Rattle.lingua.specs.Store.{Variable, assigned, copied_in}
 use Rattle.lingua.specs.Run.{Profile, exec}
 use Rattle.lingua.specs.Trees.{instruction_tree, given_values, given_references}
+use Rattle.lingua.specs.declared.errors.Error.{Error}
+use Rattle.lingua.specs.declared.errors.Error.TheVariants.{TooDeep}
+use Rattle.lingua.specs.Faults.{number_of}
+use Rattle.safety.specs.Accepted.{few_procedures_lem}
 use Rattle.rules.specs.Accepted.{counts}
 use Rattle.profile.specs.Facts.{InstructionFacts}
-use Rattle.decoder.specs.declared.tables.Table.{Table}
 use Rattle.run.specs.declared.steps.Status.{Status}
 use Rattle.run.specs.Statuses.{state_of, recorded}
 use Rattle.run.specs.Reached.{Lent, lent, Holding, Going, StoredAs, Reached}
 use Rattle.run.specs.Acting.{reaches_as}
 use Rattle.frames.specs.declared.way.Way.{Way}
 use Rattle.frames.specs.declared.way.Way.TheVariants as way
-use Rattle.frames.specs.Meaning.{Holds, HeadsOf}
+use Rattle.frames.specs.Meaning.{Holds}
 use Rattle.frames.specs.Kept.{BodiesAre, holds_fills}
+use Rattle.frames.proofs.Copying.{fault_number}
 use Rattle.opening.specs.Meaning.{Setting, AreaBodies, AreaOf}
 use Rattle.opening.specs.Calls.{unlimited, alone, fresh_of, given_all, Calls, Calling, ZeroBodies, ZerosBy, Enters, rest, with_rest, bodies_of_call, Left, Leaving, Leaves}
 use Rattle.opening.proofs.Rows.{holds_accepted, scope_row_lem, root_under}
@@ -34,15 +39,15 @@ use Rattle.walk.proofs.Rows.{facts, row_inside}
 use Rattle.walk.proofs.Calling.{call_deep, call_opened, call_failed, callable_unlimited, rest_area}
 
 -- ---- a later moment
-pub stepped_asked : {row : ℕ} {w : Way} {s : Setting} {u : Table} {l o : Lent} {m r : Status} {room : ℕ} → Asked row w s u l o m room → Going r → Asked row w s u l o r room
+pub stepped_asked : {row : ℕ} {w : Way} {s : Setting} {l o : Lent} {m r : Status} {room : ℕ} → Asked row w s l o m room → Going r → Asked row w s l o r room
 stepped_asked a g =
-    record { profile = a.profile; scope = a.scope; may = a.may; store = a.store; stands = a.stands; enough = a.enough; instructions = a.instructions; there = a.there; going = g }
+    record { profile = a.profile; scope = a.scope; may = a.may; store = a.store; stands = a.stands; enough = a.enough; there = a.there; going = g }
 
 -- ---- no room
-pub too_deep_at : (rows : List ℕ) {w : Way} {M : Holding} {o l : Lent} (vs : List Variable) → M l vs → (n : ℕ) → AreaOf w n o → length o.cells < cells_length → (r s : Status) (row k : ℕ) (ns rs : List ℕ) → s ≡ recorded r too_deep row → r.out ≡ false → (r.error ≡ 0 → r.place ≡ 0)
+pub too_deep_at : (rows : List ℕ) {w : Way} {M : Holding} {o l : Lent} (vs : List Variable) → M l vs → (n : ℕ) → AreaOf w n o → length o.cells < cells_length → (r s : Status) (row k : ℕ) (ns rs : List ℕ) → s ≡ recorded r (Err TooDeep) row → r.out ≡ false
     → Reached M o l o s (calling rows n row k ns rs (state_of r vs))
-too_deep_at rows vs h zero a z r s row k ns rs e q c = call_deep rows vs h r s row k ns rs e q c
-too_deep_at rows vs h (suc n) a z r s row k ns rs e q c = absurd (let b : ⊥ = omega (arith, a.cells, z) in b)
+too_deep_at rows vs h zero a z r s row k ns rs e q = call_deep rows vs h r s row k ns rs e q
+too_deep_at rows vs h (suc n) a z r s row k ns rs e q = absurd (let b : ⊥ = omega (arith, a.cells, z) in b)
 
 -- ---- the bodies of a scope's variables
 bodies_by : (w : Way) (bodies : List ℕ) (vs : List Variable) → BodiesAre w bodies vs → length bodies ≡ bodies_of_call w
@@ -97,7 +102,7 @@ ran_as {i} {j} {w} {s} {l} {own} {o} {before} {after} {free} {m} {r} e f g x =
     subst (λ (q : ℕ). Executes q w s own before after free m r) e (subst (λ (q : Lent). Executes i w s q before after free m r) f (subst (λ (q : Lent). Executes i w s l q after free m r) g x))
 
 -- ---- memory for a call's variables, as the machine gives it
-module _ {row : ℕ} {w : Way} {s : Setting} {u : Table} {l o : Lent} {m : Status} {room : ℕ} (a : Asked row w s u l o m room) where
+module _ {row : ℕ} {w : Way} {s : Setting} {l o : Lent} {m : Status} {room : ℕ} (a : Asked row w s l o m room) where
   bodies_as : length l.bodies ≡ bodies_of_call w
   bodies_as = bodies_by w l.bodies a.store (holds_fills w a.stands.holds).bodies_are
 
@@ -114,7 +119,7 @@ module _ {row : ℕ} {w : Way} {s : Setting} {u : Table} {l o : Lent} {m : Statu
   zeros_by e =
       record { cells_are = refl; states_are = refl; bodies_are = subst (λ (q : List ℕ). ZeroBodies w q) (sym (e ∙ ap (λ (q : ℕ). take q (replicate variable_bodies_length 0)) bodies_as)) (zero_front w (replicate variable_bodies_length 0) refl) }
 
-module _ {row k b c : ℕ} {w : Way} {s : Setting} {u : Table} {l o : Lent} {m : Status} {room : ℕ} (a : Opening row k b c w s u l o m room) where
+module _ {row k b c : ℕ} {w : Way} {s : Setting} {l o : Lent} {m : Status} {room : ℕ} (a : Opening row k b c w s l o m room) where
   rows : List ℕ
   rows = s.context.rows
 
@@ -129,8 +134,8 @@ module _ {row k b c : ℕ} {w : Way} {s : Setting} {u : Table} {l o : Lent} {m :
   unfolding InstructionFacts
   procedure_there = (facts a.asked a.called).procedure
 
-  pub heads_there : HeadsOf s.context.rows s.heads
-  heads_there = a.asked.stands.callable.heads_are
+  pub procedure_few : k < most_procedures
+  procedure_few = omega (arith, procedure_there, few_procedures_lem s.context.rows (holds_accepted w a.asked.stands.holds))
 
   pub own_bodies : length l.bodies ≡ bodies_of_call w
   own_bodies = bodies_as a.asked
@@ -171,37 +176,34 @@ module _ {row k b c : ℕ} {w : Way} {s : Setting} {u : Table} {l o : Lent} {m :
       body_less i n e f =
           omega (arith, e, f, a.room_left, scope_inside, (counts s.context.rows (holds_accepted w a.asked.stands.holds).counts).instructions.most)
 
-      body_by : (n : ℕ) → Stands row w a.asked.profile a.asked.scope n s l o a.asked.store → Asked (body_row s.context.rows k) w (alone s) u own (rest (bodies_of_call w) o) m room
+      body_by : (n : ℕ) → Stands row w a.asked.profile a.asked.scope n s l o a.asked.store → Asked (body_row s.context.rows k) w (alone s) own (rest (bodies_of_call w) o) m room
       body_by zero h = absurd (let q : ⊥ = omega (arith, some_left zero h.area) in q)
       body_by (suc n) h =
-          record { profile = a.asked.profile; scope = suc k; may = n; store = (begins h).store; stands = body_stands h; enough = a.asked.enough; instructions = a.asked.instructions; there = body_inside; going = a.asked.going }
-        where
-          body_inside : body_row s.context.rows k < u.count
-          body_inside = omega (arith, scope_inside, a.asked.instructions.count)
+          record { profile = a.asked.profile; scope = suc k; may = n; store = (begins h).store; stands = body_stands h; enough = a.asked.enough; there = scope_inside; going = a.asked.going }
 
-      pub body_asked : {i space : ℕ} {mine area : Lent} → i ≡ body_row s.context.rows k → mine ≡ own → area ≡ rest (bodies_of_call w) o → room ≡ space → Asked i w (alone s) u mine area m space
+      pub body_asked : {i space : ℕ} {mine area : Lent} → i ≡ body_row s.context.rows k → mine ≡ own → area ≡ rest (bodies_of_call w) o → room ≡ space → Asked i w (alone s) mine area m space
       body_asked {i} {space} {mine} {area} e f g q =
-          subst (λ (t : ℕ). Asked t w (alone s) u mine area m space) (sym e)
-          (subst (λ (t : Lent). Asked (body_row s.context.rows k) w (alone s) u t area m space) (sym f)
-          (subst (λ (t : Lent). Asked (body_row s.context.rows k) w (alone s) u own t m space) (sym g)
-          (subst (λ (t : ℕ). Asked (body_row s.context.rows k) w (alone s) u own (rest (bodies_of_call w) o) m t) q (body_by a.asked.may a.asked.stands))))
+          subst (λ (t : ℕ). Asked t w (alone s) mine area m space) (sym e)
+          (subst (λ (t : Lent). Asked (body_row s.context.rows k) w (alone s) t area m space) (sym f)
+          (subst (λ (t : Lent). Asked (body_row s.context.rows k) w (alone s) own t m space) (sym g)
+          (subst (λ (t : ℕ). Asked (body_row s.context.rows k) w (alone s) own (rest (bodies_of_call w) o) m t) q (body_by a.asked.may a.asked.stands))))
 
       -- ---- behind it
       module _ {done after : Lent} {ended : Status} (y : Executes (body_row s.context.rows k) w (alone s) own (rest (bodies_of_call w) o) done after m ended) {area : Lent} (g : area ≡ with_rest (bodies_of_call w) o after) where
         left_of : {p : Profile} {d n : ℕ} {vs : List Variable} (h : Stands row w p d (suc n) s l o vs)
-            → Left row k b c w p d n s.context s.heads o done l area vs ended (exec (calling s.context.rows n) (instruction_tree s.context.rows (body_row s.context.rows k)) (state_of m (begins h).store))
+            → Left row k b c w p d n s.context o done l area vs ended (exec (calling s.context.rows n) (instruction_tree s.context.rows (body_row s.context.rows k)) (state_of m (begins h).store))
         left_of {p} {d} {n} {vs} h =
-            record { holds = h.holds; heads_are = heads_there; under = h.under; says = a.called; there = row_inside a.asked; room = h.area; after = after; reached = y.reaches p (suc k) n (begins h).store (body_stands h); area_is = g }
+            record { holds = h.holds; under = h.under; says = a.called; there = row_inside a.asked; room = h.area; after = after; reached = y.reaches p (suc k) n (begins h).store (body_stands h); area_is = g }
 
-        leave_by : (n : ℕ) → Stands row w a.asked.profile a.asked.scope n s l o a.asked.store → Leaving row k c w s.context s.heads done l area ended room
+        leave_by : (n : ℕ) → Stands row w a.asked.profile a.asked.scope n s l o a.asked.store → Leaving row k c w s.context done l area ended room
         leave_by zero h = absurd (let q : ⊥ = omega (arith, some_left zero h.area) in q)
         leave_by (suc n) h =
             record { field = b; profile = a.asked.profile; scope = a.asked.scope; may = n; before = o; store = a.asked.store; progress = _; left = left_of h; enough = a.asked.enough }
 
-        pub leave_asked : {mine : Lent} {space : ℕ} → mine ≡ done → room ≡ space → Leaving row k c w s.context s.heads mine l area ended space
+        pub leave_asked : {mine : Lent} {space : ℕ} → mine ≡ done → room ≡ space → Leaving row k c w s.context mine l area ended space
         leave_asked {mine} {space} e q =
-            subst (λ (t : Lent). Leaving row k c w s.context s.heads t l area ended space) (sym e)
-            (subst (λ (t : ℕ). Leaving row k c w s.context s.heads done l area ended t) q (leave_by a.asked.may a.asked.stands))
+            subst (λ (t : Lent). Leaving row k c w s.context t l area ended space) (sym e)
+            (subst (λ (t : ℕ). Leaving row k c w s.context done l area ended t) q (leave_by a.asked.may a.asked.stands))
 
         module _ {mine last free : Lent} {res : Status} (e : mine ≡ done) (v : Leaves row k c w s.context mine l area last free ended res) where
           left_so : Leaves row k c w s.context done l area last free ended res
@@ -212,17 +214,17 @@ module _ {row k b c : ℕ} {w : Way} {s : Setting} {u : Table} {l o : Lent} {m :
           opens_by p d zero vs h = absurd (let q : ⊥ = omega (arith, some_left zero h.area) in q)
           opens_by p d (suc n) vs h =
               reaches_as (call_opened s.context.rows n row k b c m vs (begins h).store (begins h).is procedure_there)
-              (left_so.reaches b p d n s.heads o vs _ m (left_of h))
+              (left_so.reaches b p d n o vs _ m (left_of h))
 
           pub opens : Opens row k b c w s l o last free m res
           opens = record { reaches = opens_by }
 
-    -- ---- a copy in that failed
-    pub opens_failed : (r ≡ no_error → ⊥) → {res : Status} → res ≡ recorded m r row → Opens row k b c w s l o l o m res
-    opens_failed f {res} e = record { reaches = failed_by }
-      where
-        failed_by : (p : Profile) (d n : ℕ) (vs : List Variable) → Stands row w p d n s l o vs
-            → Reached (Holds w p d s.context) o l o res (calling s.context.rows n row k (given_values s.context.rows k b) (given_references s.context.rows k c) (state_of m vs))
-        failed_by p d zero vs h = absurd (let q : ⊥ = omega (arith, some_left zero h.area) in q)
-        failed_by p d (suc n) vs h =
-            call_failed s.context.rows n row k b c m vs h.holds res r f (x.error p d vs (call_at h) f) e a.asked.going.not_out a.asked.going.clean
+  -- ---- a copy in that failed
+  pub opens_failed : {own : Lent} (answer : Result (Unit {0}) Error) → Enters row k b c w s l own (number_of answer) → is_err answer ≡ true → {res : Status} → res ≡ recorded m answer row → Opens row k b c w s l o l o m res
+  opens_failed answer x f {res} e = record { reaches = failed_by }
+    where
+      failed_by : (p : Profile) (d n : ℕ) (vs : List Variable) → Stands row w p d n s l o vs
+          → Reached (Holds w p d s.context) o l o res (calling s.context.rows n row k (given_values s.context.rows k b) (given_references s.context.rows k c) (state_of m vs))
+      failed_by p d zero vs h = absurd (let q : ⊥ = omega (arith, some_left zero h.area) in q)
+      failed_by p d (suc n) vs h =
+          call_failed s.context.rows n row k b c m vs h.holds res answer f (x.error p d vs (call_at h) (fault_number answer f)) e a.asked.going.not_out

@@ -5,13 +5,12 @@ use mathlib.Core.Bool.{false}
 use mathlib.Core.List.{List, Memᴰ}
 use Prim.Native.Nat.{ℕ, ◌<◌}
 use native.Mathlib.Omega.{arith}
-use Rattle.lingua.specs.Numbers.{instruction_section}
+use Rattle.lingua.specs.Numbers.{expression_section, instruction_section}
 use Rattle.lingua.specs.Rows.{table_count, InstructionRow as Says, parts}
 use Rattle.lingua.specs.Store.{Variable}
 use Rattle.lingua.specs.Expression.{Instruction}
 use Rattle.lingua.specs.Run.{Progress, Profile, exec}
 use Rattle.lingua.specs.Trees.{expression_tree, instruction_scope}
-use Rattle.decoder.specs.declared.tables.Table.{Table}
 use Rattle.profile.specs.Row.{KnownInstruction}
 use Rattle.decoder.specs.declared.decode.InstructionRow.{InstructionRow}
 use Rattle.decoder.specs.declared.decode.InstructionRow.TheVariants as does
@@ -25,7 +24,7 @@ use Rattle.erased_row.specs.Meaning.{Tests, TestRow}
 use Rattle.frames.specs.declared.way.Way.{Way}
 use Rattle.frames.specs.Meaning.{Holds}
 use Rattle.opening.specs.Meaning.{Setting, AreaOf, AskedLeaf, Means, ExecutesLeaf}
-use Rattle.opening.proofs.Rows.{holds_accepted, scope_is, part_under, inside, row_known, row_narrow, row_facts, tree, there}
+use Rattle.opening.proofs.Rows.{holds_accepted, scope_is, part_under, row_known, row_narrow, row_facts, tree}
 use Rattle.walk.specs.Meaning.{calling, Stands, Asked, Executes}
 
 -- a part of a row that was read
@@ -33,32 +32,32 @@ abbrev pub PartOf : InstructionRow → ℕ → Type 0
 PartOf d i = Memᴰ i (parts (instruction_meaning d))
 
 -- ---- what the cycle asks
-module _ {row : ℕ} {w : Way} {s : Setting} {u : Table} {l o : Lent} {m : Status} {room : ℕ} (a : Asked row w s u l o m room) where
+module _ {row : ℕ} {w : Way} {s : Setting} {l o : Lent} {m : Status} {room : ℕ} (a : Asked row w s l o m room) where
   rows : List ℕ
   rows = s.context.rows
 
-  pub asked_leaf : AskedLeaf row w s.context u l m room
+  pub asked_leaf : AskedLeaf row w s.context l m room
   asked_leaf =
-      record { profile = a.profile; scope = a.scope; store = a.store; holds = a.stands.holds; under = a.stands.under; enough = a.enough; instructions = a.instructions; there = a.there; going = a.going }
+      record { profile = a.profile; scope = a.scope; store = a.store; holds = a.stands.holds; under = a.stands.under; enough = a.enough; there = a.there; going = a.going }
 
   pub kind_known : KnownInstruction s.context.rows row
-  kind_known = row_known a.stands.holds a.instructions a.there
+  kind_known = row_known a.stands.holds a.there
 
   pub narrow : row < 65536
-  narrow = row_narrow a.stands.holds a.instructions a.there
+  narrow = row_narrow a.stands.holds a.there
 
   pub facts : {d : InstructionRow} → Means s.context.rows row d → InstructionFacts s.context.rows row d
-  facts k = row_facts a.stands.holds a.instructions a.there k
+  facts k = row_facts a.stands.holds a.there k
 
   pub row_inside : row < table_count s.context.rows instruction_section
-  row_inside = inside a.stands.holds a.instructions a.there
+  row_inside = a.there
 
   -- by the tree of the row's parts
   pub executes : {d : InstructionRow} {after free : Lent} {r : Status} → Means s.context.rows row d
       → ((p : Profile) (b n : ℕ) (vs : List Variable) → Stands row w p b n s l o vs → Reached (Holds w p b s.context) o after free r (exec (calling s.context.rows n) (instruction_row_tree s.context.rows row d) (state_of m vs)))
       → Executes row w s l o after free m r
   executes {d} k f =
-      record { reaches = λ p b n vs h. reaches_as (ap (λ (i : Instruction). exec (calling s.context.rows n) i (state_of m vs)) (tree a.stands.holds a.instructions a.there k)) (f p b n vs h) }
+      record { reaches = λ p b n vs h. reaches_as (ap (λ (i : Instruction). exec (calling s.context.rows n) i (state_of m vs)) (tree a.stands.holds a.there k)) (f p b n vs h) }
 
   -- a leaf's answer is the row's
   pub leaf_answers : {after : Lent} {r : Status} → ExecutesLeaf row w s.context l after m r → Executes row w s l o after o m r
@@ -70,19 +69,19 @@ module _ {row : ℕ} {w : Way} {s : Setting} {u : Table} {l o : Lent} {m : Statu
 
   tested : {e : ℕ} {d : InstructionRow} → Means s.context.rows row d → Tests (instruction_row_tree s.context.rows row d) (expression_tree s.context.rows e) → {p : Profile} {b n : ℕ} {vs : List Variable} → Stands row w p b n s l o vs → TestRow s.context.rows b e
   tested {e} k t h =
-      record { at = row; there = row_inside; scope = stood h; is = subst (λ (i : Instruction). Tests i (expression_tree s.context.rows e)) (sym (tree a.stands.holds a.instructions a.there k)) t }
+      record { at = row; there = row_inside; scope = stood h; is = subst (λ (i : Instruction). Tests i (expression_tree s.context.rows e)) (sym (tree a.stands.holds a.there k)) t }
 
-  pub branch_there : {e i j : ℕ} → Means s.context.rows row (does.Branch e i j) → e < s.context.expressions.count
+  pub branch_there : {e i j : ℕ} → Means s.context.rows row (does.Branch e i j) → e < table_count s.context.rows expression_section
   unfolding InstructionFacts
-  branch_there k = there a.stands.holds a.instructions a.there (facts k).0
+  branch_there k = (facts k).0
 
   pub branch_test : {e i j : ℕ} → Means s.context.rows row (does.Branch e i j) → {p : Profile} {b n : ℕ} {vs : List Variable} → Stands row w p b n s l o vs → TestRow s.context.rows b e
   unfolding instruction_row_tree Tests
   branch_test k h = tested k refl h
 
-  pub loop_there : {e i : ℕ} → Means s.context.rows row (does.Loop e i) → e < s.context.expressions.count
+  pub loop_there : {e i : ℕ} → Means s.context.rows row (does.Loop e i) → e < table_count s.context.rows expression_section
   unfolding InstructionFacts
-  loop_there k = there a.stands.holds a.instructions a.there (facts k).0
+  loop_there k = (facts k).0
 
   pub loop_test : {e i : ℕ} → Means s.context.rows row (does.Loop e i) → {p : Profile} {b n : ℕ} {vs : List Variable} → Stands row w p b n s l o vs → TestRow s.context.rows b e
   unfolding instruction_row_tree Tests
@@ -95,14 +94,14 @@ module _ {row : ℕ} {w : Way} {s : Setting} {u : Table} {l o : Lent} {m : Statu
       record { holds = g; callable = h.callable; under = part_under s.context.rows (holds_accepted w h.holds) b row i h.holds.here h.under (subst (λ (q : Says). Memᴰ i (parts q)) k.is f); area = subst (λ (q : Lent). AreaOf w n q) (sym e) h.area }
 
   pub part : {d : InstructionRow} → Means s.context.rows row d → {i space : ℕ} → PartOf d i → {at area : Lent} {n : Status} (us : List Variable) → Holds w a.profile a.scope s.context at us → area ≡ o → room ≡ space → i < row → Going n
-      → Asked i w s u at area n space
+      → Asked i w s at area n space
   part k f us h q e j g =
-      record { profile = a.profile; scope = a.scope; may = a.may; store = us; stands = part_stands k f a.stands h q; enough = omega (arith, a.enough, e); instructions = a.instructions; there = omega (arith, a.there, j); going = g }
+      record { profile = a.profile; scope = a.scope; may = a.may; store = us; stands = part_stands k f a.stands h q; enough = omega (arith, a.enough, e); there = omega (arith, a.there, j); going = g }
 
   -- the next part, once one has ended and the run goes on
   pub onward_asked : {d : InstructionRow} → Means s.context.rows row d → {i space : ℕ} → PartOf d i → {at area : Lent} {n : Status} {q : Progress} → Reached (Holds w a.profile a.scope s.context) o at area n q → n.out ≡ false → room ≡ space → i < row
-      → Asked i w s u at area n space
-  onward_asked k f x z e j = part k f x.store x.running (area_stays x z) e j (record { not_out = z; clean = x.clean })
+      → Asked i w s at area n space
+  onward_asked k f x z e j = part k f x.store x.running (area_stays x z) e j (record { not_out = z })
 
 -- ---- the parts of each kind
 pub first_of_two : (i j : ℕ) → PartOf (does.Sequence i j) i

@@ -1,11 +1,10 @@
 -- What the one walk of instructions asks of its memory and gives, in each of the two ways to run. Assumes nothing: these are definitions.
-use Rattle.std.specs.Prelude.{◌≡◌, List, ℕ, ◌+◌, ◌*◌, ◌≤◌, ◌<◌, length}
-use Rattle.lingua.specs.Numbers.{body_cells, cells_length, instruction_section}
+use Rattle.std.specs.Prelude.{List, ℕ, ◌+◌, ◌*◌, ◌≤◌, ◌<◌, length}
+use Rattle.lingua.specs.Numbers.{body_cells, cells_length, expression_section, instruction_section}
+use Rattle.lingua.specs.Rows.{table_count}
 use Rattle.lingua.specs.Store.{Variable, assigned}
 use Rattle.lingua.specs.Run.{Calling, exec, called, Profile}
 use Rattle.lingua.specs.Trees.{instruction_tree, given_values, given_references}
-use Rattle.decoder.specs.Tables.{IsTable}
-use Rattle.decoder.specs.declared.tables.Table.{Table}
 use Rattle.decoder.specs.declared.decode.InstructionRow.TheVariants as does
 use Rattle.run.specs.declared.steps.Status.{Status}
 use Rattle.run.specs.Statuses.{state_of}
@@ -22,20 +21,19 @@ calling rows n = called assigned exec (procedures_in rows) n
 -- a row's instruction with the variables of its scope in memory, and an area for n calls
 pub record Stands (row : ℕ) (w : Way) (p : Profile) (a n : ℕ) (s : Setting) (l o : Lent) (vs : List Variable) : Type 0 where
   pub holds : Holds w p a s.context l vs
-  pub callable : Callable w p s.context s.types s.heads
+  pub callable : Callable w p s.context s.types
   pub under : Under s.context.rows a row
   pub area : AreaOf w n o
 
 -- what an instruction asks: some such store
-pub record Asked (row : ℕ) (w : Way) (s : Setting) (u : Table) (l o : Lent) (m : Status) (room : ℕ) : Type 0 where
+pub record Asked (row : ℕ) (w : Way) (s : Setting) (l o : Lent) (m : Status) (room : ℕ) : Type 0 where
   pub profile : Profile
   pub scope : ℕ
   pub may : ℕ
   pub store : List Variable
   pub stands : Stands row w profile scope may s l o store
-  pub enough : body_cells * (s.context.expressions.count + 1) ≤ room
-  pub instructions : IsTable s.context.rows instruction_section u
-  pub there : row < u.count
+  pub enough : body_cells * (table_count s.context.rows expression_section + 1) ≤ room
+  pub there : row < table_count s.context.rows instruction_section
   pub going : Going m
 
 abbrev pub BranchAt : List ℕ → ℕ → ℕ → ℕ → ℕ → Type 0
@@ -54,11 +52,10 @@ pub record Executes (row : ℕ) (w : Way) (s : Setting) (l o after free : Lent) 
 
 -- ---- a call that has its step
 -- one more may be opened
-pub record Opening (row k b c : ℕ) (w : Way) (s : Setting) (u : Table) (l o : Lent) (m : Status) (room : ℕ) : Type 0 where
-  pub asked : Asked row w s u l o m room
+pub record Opening (row k b c : ℕ) (w : Way) (s : Setting) (l o : Lent) (m : Status) (room : ℕ) : Type 0 where
+  pub asked : Asked row w s l o m room
   pub called : CallAt s.context.rows row k b c
   pub room_left : cells_length ≤ length o.cells
-  pub clean : m.error ≡ 0
 
 -- what the call does
 pub record Opens (row k b c : ℕ) (w : Way) (s : Setting) (l o after free : Lent) (m r : Status) : Type 0 where

@@ -1,22 +1,23 @@
 // Instructions by their rows, the row number falling at each call, the same for both ways to run. A loop's turns each take a
 // step, so the steps that are left bound them. A procedure's body is any row again, but the area for calls has become shorter.
-ghost use Rattle.std.specs.Prelude.{◌≡◌, ℕ, length};
-ghost use Rattle.frames.specs.Lending.{lent_in, SameSlices};
+ghost use Rattle.std.specs.Prelude.{length};
+ghost use Rattle.run.specs.Lending.{lent_in, SameSlices};
 ghost use Rattle.run.specs.Reached.{lent};
 ghost use Rattle.opening.specs.Meaning.{setting_of, CallAt};
 ghost use Rattle.opening.specs.Calls.{alone, ZerosBy};
 ghost use Rattle.walk.specs.Meaning.{Asked, BranchAt, LoopAt, HandleAt, Executes, Opening, Opens};
 
 use decoder::decode::InstructionRow;
+use frames::context::Context;
 use frames::leaves::test;
-use frames::memory::{Context, Memory};
-use lingua::errors::{Error, NO_ERROR};
+use lingua::errors::Error;
 use lingua::sizes::{CELLS_LENGTH, LIMIT_CELLS_LENGTH, STATES_LENGTH, VARIABLE_BODIES_LENGTH};
-use opening::call::{body_in, enter, leave};
+use opening::call::{enter, leave};
 use opening::leaf::{assignment, skip, yoke_change};
 use opening::setting::{CallRow, Setting};
 use profile::row::instruction_row;
-use run::steps::{Status, cleared, settled, stepped};
+use run::memory::Memory;
+use run::steps::{Status, cleared, has_error, settled, stepped};
 
 // The instruction of a row.
 #[cycle(instructions)]
@@ -28,11 +29,11 @@ pub fn exec(
     m: Status,
     stack: &mut [i64],
 ) -> Status
-    requires { Asked row setting.now.context.way (setting_of setting.now) setting.now.instructions (lent_in memory.old) (lent_in area.old) m (length stack.old) }
+    requires { Asked row setting.now.context.way (setting_of setting.now) (lent_in memory.old) (lent_in area.old) m (length stack.old) }
     ensures executes { Executes row setting.now.context.way (setting_of setting.now) (lent_in memory.old) (lent_in area.old) (lent_in memory.new) (lent_in area.new) m result }
     ensures same_slices { SameSlices memory.old memory.new × SameSlices area.old area.new }
 {
-    let says = instruction_row(setting.context.rows, setting.instructions, row);
+    let says = instruction_row(setting.context.rows, row);
     match says {
         InstructionRow::Skip => skip(m),
         InstructionRow::Assign(n, e) => assignment(row, n, e, setting, memory, m, stack),
@@ -76,12 +77,12 @@ fn branch(
     m: Status,
     stack: &mut [i64],
 ) -> Status
-    requires asked { Asked row setting.now.context.way (setting_of setting.now) setting.now.instructions (lent_in memory.old) (lent_in area.old) m (length stack.old) }
+    requires asked { Asked row setting.now.context.way (setting_of setting.now) (lent_in memory.old) (lent_in area.old) m (length stack.old) }
     requires branch_at { BranchAt setting.now.context.rows.now row e i j }
     ensures executes { Executes row setting.now.context.way (setting_of setting.now) (lent_in memory.old) (lent_in area.old) (lent_in memory.new) (lent_in area.new) m result }
     ensures same_slices { SameSlices memory.old memory.new × SameSlices area.old area.new }
 {
-    if m.error != NO_ERROR {
+    if m.error.is_some() {
         return m;
     }
     let taken = stepped(m);
@@ -108,13 +109,13 @@ fn turns(
     m: Status,
     stack: &mut [i64],
 ) -> Status
-    requires asked { Asked row setting.now.context.way (setting_of setting.now) setting.now.instructions (lent_in memory.old) (lent_in area.old) m (length stack.old) }
+    requires asked { Asked row setting.now.context.way (setting_of setting.now) (lent_in memory.old) (lent_in area.old) m (length stack.old) }
     requires loop_at { LoopAt setting.now.context.rows.now row e i }
     ensures executes { Executes row setting.now.context.way (setting_of setting.now) (lent_in memory.old) (lent_in area.old) (lent_in memory.new) (lent_in area.new) m result }
     ensures same_slices { SameSlices memory.old memory.new × SameSlices area.old area.new }
 {
     let mut at = m;
-    while at.error == NO_ERROR {
+    while at.error.is_none() {
         let taken = stepped(at);
         if taken.out {
             return taken;
@@ -145,7 +146,7 @@ fn handle(
     m: Status,
     stack: &mut [i64],
 ) -> Status
-    requires asked { Asked row setting.now.context.way (setting_of setting.now) setting.now.instructions (lent_in memory.old) (lent_in area.old) m (length stack.old) }
+    requires asked { Asked row setting.now.context.way (setting_of setting.now) (lent_in memory.old) (lent_in area.old) m (length stack.old) }
     requires handle_at { HandleAt setting.now.context.rows.now row n i }
     ensures executes { Executes row setting.now.context.way (setting_of setting.now) (lent_in memory.old) (lent_in area.old) (lent_in memory.new) (lent_in area.new) m result }
     ensures same_slices { SameSlices memory.old memory.new × SameSlices area.old area.new }
@@ -154,7 +155,7 @@ fn handle(
     if taken.out {
         return taken;
     }
-    if taken.error as usize != n {
+    if !has_error(taken, n) {
         return taken;
     }
     exec(i, setting, memory, area, cleared(taken), stack)
@@ -170,12 +171,12 @@ fn call(
     m: Status,
     stack: &mut [i64],
 ) -> Status
-    requires asked { Asked of.row setting.now.context.way (setting_of setting.now) setting.now.instructions (lent_in memory.old) (lent_in area.old) m (length stack.old) }
+    requires asked { Asked of.row setting.now.context.way (setting_of setting.now) (lent_in memory.old) (lent_in area.old) m (length stack.old) }
     requires call_at { CallAt setting.now.context.rows.now of.row of.procedure of.values of.references }
     ensures executes { Executes of.row setting.now.context.way (setting_of setting.now) (lent_in memory.old) (lent_in area.old) (lent_in memory.new) (lent_in area.new) m result }
     ensures same_slices { SameSlices memory.old memory.new × SameSlices area.old area.new }
 {
-    if m.error != NO_ERROR {
+    if m.error.is_some() {
         return m;
     }
     let taken = stepped(m);
@@ -209,7 +210,7 @@ fn opened(
     m: Status,
     stack: &mut [i64],
 ) -> Status
-    requires opening { Opening of.row of.procedure of.values of.references setting.now.context.way (setting_of setting.now) setting.now.instructions (lent_in memory.old) (lent_in area.old) m (length stack.old) }
+    requires opening { Opening of.row of.procedure of.values of.references setting.now.context.way (setting_of setting.now) (lent_in memory.old) (lent_in area.old) m (length stack.old) }
     requires zeros { ZerosBy setting.now.context.way (lent_in own.old) }
     ensures opens { Opens of.row of.procedure of.values of.references setting.now.context.way (setting_of setting.now) (lent_in memory.old) (lent_in area.old) (lent_in memory.new) (lent_in area.new) m result }
     ensures same_slices { SameSlices memory.old memory.new × SameSlices area.old area.new }
@@ -219,9 +220,10 @@ fn opened(
         return settled(m, entered, of.row as u16);
     }
     let n = memory.bodies.len();
-    let row = body_in(setting.context.rows, setting.heads, of.procedure);
+    let rows = setting.context.rows;
+    let procedure = rows.procedure(of.procedure);
     let ended = body(
-        row,
+        procedure.body,
         setting,
         own,
         &mut area.bodies[n..],
@@ -245,7 +247,7 @@ fn body(
     m: Status,
     stack: &mut [i64],
 ) -> Status
-    requires { Asked row setting.now.context.way (alone (setting_of setting.now)) setting.now.instructions (lent_in own.old) (lent cells.old states.old bodies.old) m (length stack.old) }
+    requires { Asked row setting.now.context.way (alone (setting_of setting.now)) (lent_in own.old) (lent cells.old states.old bodies.old) m (length stack.old) }
     ensures executes { Executes row setting.now.context.way (alone (setting_of setting.now)) (lent_in own.old) (lent cells.old states.old bodies.old) (lent_in own.new) (lent cells.new states.new bodies.new) m result }
     ensures same_slices { SameSlices own.old own.new }
 {

@@ -4,6 +4,7 @@ use mathlib.Core.Bool.{Bool, true, false}
 use mathlib.Core.List.{List, []}
 use Prim.Native.Nat.{ℕ, pred, ◌-◌, ◌≤◌}
 use native.Mathlib.Omega.{arith}
+use Rattle.std.specs.Prelude.{None, Ok}
 use Rattle.lingua.specs.Numbers.{instruction_section}
 use Rattle.lingua.specs.Rows.{table_count}
 use Rattle.lingua.specs.Store.{Variable, Reading, cells_in, states_in}
@@ -11,7 +12,7 @@ use Rattle.lingua.specs.Run.{State, Progress, last_state, open_calls, exec, begu
 use Rattle.lingua.specs.Trees.{instruction_tree, profile_of}
 use Rattle.lingua.specs.Inputs.{buffers}
 use Rattle.lingua.specs.Answers.{answered, run_meaning}
-use Rattle.lingua.specs.declared.RunAnswer.{RunAnswer}
+use Rattle.lingua.specs.declared.RunEnd.{RunEnd}
 use Rattle.lingua.specs.Calls.{ending_of, registers_of, ran, run_result}
 use Rattle.laws.specs.Every.{Every}
 use Rattle.laws.specs.Frames.{Bounded}
@@ -31,7 +32,7 @@ use Rattle.frames.specs.Meaning.{Context, HoldsBy, Holds, Standing}
 use Rattle.opening.specs.Meaning.{Setting, Under}
 use Rattle.walk.specs.Meaning.{calling, Stands, Asked, Executes}
 use Rattle.whole_run.specs.Meaning.{TakesAll, Ready, Begins, Runs}
-use Rattle.opening.proofs.Rows.{holds_accepted, holds_table, root_under}
+use Rattle.opening.proofs.Rows.{holds_accepted, root_under}
 use Rattle.whole_run.proofs.Area.{OnZeros, clear_area, on_zeros}
 
 -- ---- the memory holds the store's cells and state words
@@ -47,13 +48,14 @@ module _ {p : _} {c : Context} {l : Lent} {vs : List Variable} where
   holds_states way.Erased h = h.by.running.world.states_are
 
 -- ---- a run's start
-pub fresh_going : (m : Status) (budget : ℕ) → m ≡ record { error = 0; place = 0; left = budget; out = false } → Going m
-fresh_going m budget e = subst (λ (x : Status). Going x) (sym e) (record { not_out = refl; clean = λ z. refl })
+pub fresh_going : (m : Status) (budget : ℕ) → m ≡ record { error = None; left = budget; out = false } → Going m
+fresh_going m budget e = subst (λ (x : Status). Going x) (sym e) (record { not_out = refl })
 
 module _ {w : Way} {s : Setting} {l o : Lent} {limits : List ℕ} (b : Ready w s l o limits) where
   ready_accepted : AcceptedRows s.context.rows
   ready_accepted = holds_accepted w b.holds
 
+  -- where the code counts the instructions
   ready_row : {u : Table} → IsTable s.context.rows instruction_section u → 1 ≤ u.count
   ready_row h = omega (arith, h.count, (counts s.context.rows ready_accepted.counts).instructions.least)
 
@@ -81,14 +83,14 @@ module _ {w : Way} {s : Setting} {l o : Lent} (b : Begins w s l o) where
         store = _;
         holds = h;
         of_scope = refl;
-        enough = omega (arith, (holds_table w h).count, (counts s.context.rows (holds_accepted w h).counts).expressions.most);
+        enough = omega (arith, (counts s.context.rows (holds_accepted w h).counts).expressions.most);
       }
 
   pub some_row : {u : Table} → IsTable s.context.rows instruction_section u → 1 ≤ u.count
   some_row h = ready_row b.ready h
 
   pub program_asked : {u : Table} {at : Lent} {first taken : Status} {rs : List Reading} {space : ℕ} → IsTable s.context.rows instruction_section u → TakesAll w s.context l at first taken rs → 32832 ≡ space
-      → Asked (u.count - 1) w s u at o taken space
+      → Asked (u.count - 1) w s at o taken space
   program_asked h k e =
       let q = k.reaches _ _ b.ready.holds in
       record {
@@ -98,8 +100,7 @@ module _ {w : Way} {s : Setting} {l o : Lent} (b : Begins w s l o) where
         store = q.store;
         stands = ready_stands b.ready h q.running;
         enough = omega (arith, begins_standing.enough, e);
-        instructions = h;
-        there = omega (arith, some_row h);
+        there = omega (arith, some_row h, h.count);
         going = k.goes;
       }
 
@@ -113,13 +114,13 @@ last_open_lem : (b : Bool) (s : State) (os : List (List Variable)) → (b ≡ fa
 last_open_lem true s os h = refl
 last_open_lem false s os h = sym (h refl)
 
-result_is : {w : Way} (a : RunAnswer) (budget : ℕ) (after free : Lent) (q : Progress) → run_meaning a ≡ answered (ending_of budget q) → after.cells ≡ cells_in (last_state q).store → after.states ≡ states_in (last_state q).store → OnZeros w free (open_calls q)
-    → run_result a (buffers after.cells after.states free.cells free.states) ≡ ran budget q
+result_is : {w : Way} (a : RunEnd) (budget : ℕ) (after free : Lent) (q : Progress) → run_meaning (Ok a) ≡ answered (ending_of budget q) → after.cells ≡ cells_in (last_state q).store → after.states ≡ states_in (last_state q).store → OnZeros w free (open_calls q)
+    → run_result (Ok a) (buffers after.cells after.states free.cells free.states) ≡ ran budget q
 unfolding run_result ran registers_of
 result_is a budget after free q m c d z = rw (m, c, d, z.cells_are, z.states_are)
 
 module _ {w : Way} {s : Setting} {l o at after free : Lent} {u : Table} {first taken last : Status} {rs : List Reading} (rows_of_lem : IsTable s.context.rows instruction_section u) (budget : ℕ)
-    (fresh : first ≡ record { error = 0; place = 0; left = budget; out = false }) (took : TakesAll w s.context l at first taken rs) (did : Executes (u.count - 1) w s at o after free taken last) where
+    (fresh : first ≡ record { error = None; left = budget; out = false }) (took : TakesAll w s.context l at first taken rs) (did : Executes (u.count - 1) w s at o after free taken last) where
   run_reaches : (limits : List ℕ) → Ready w s l o limits → Reached (Holds w (profile_of s.context.rows limits) 0 s.context) o after free last (run (profile_of s.context.rows limits) rs budget)
   unfolding run profile_of started begun
   run_reaches limits h =
@@ -132,7 +133,6 @@ module _ {w : Way} {s : Setting} {l o at after free : Lent} {u : Table} {first t
         opens = k.opens;
         is = ap₂ (λ (n : ℕ) (t : State). exec (calling s.context.rows 16) (instruction_tree s.context.rows n) t) (last_row h rows_of_lem) inputs ∙ k.is;
         running = k.running;
-        clean = k.clean;
         area = k.area;
         closed = k.closed;
       }
@@ -143,9 +143,6 @@ module _ {w : Way} {s : Setting} {l o at after free : Lent} {u : Table} {first t
       let e : (last_state (run (profile_of s.context.rows b.limits) rs budget)).left ≡ last.left =
       ap (λ (p : Progress). (last_state p).left) k.is ∙ ap (λ (t : State). t.left) (last_state_lem last.out (state_of last k.store) k.opens) in
       omega (arith, run_left (profile_of s.context.rows b.limits) rs budget)
-
-  pub end_clean : Begins w s l o → last.out ≡ false → last.error ≡ 0 → last.place ≡ 0
-  end_clean b x e = (run_reaches b.limits b.ready).clean e
 
   -- what the definition's end has
   module _ (limits : List ℕ) (h : Ready w s l o limits) where
@@ -170,7 +167,7 @@ module _ {w : Way} {s : Setting} {l o at after free : Lent} {u : Table} {first t
         on_zeros h.clear bounded (run_shallow (profile_of s.context.rows limits) rs budget)
         (subst (λ (os : List (List Variable)). free ≡ Rattle.run.specs.Reached.overlaid os o) (sym ended_open) area)
 
-  pub run_answered : (a : RunAnswer) → ((vs : List Variable) (os : List (List Variable)) → run_meaning a ≡ answered (ending_of budget (progress_of last.out (state_of last vs) os))) → Runs w s l o after free rs budget a
+  pub run_answered : (a : RunEnd) → ((vs : List Variable) (os : List (List Variable)) → run_meaning (Ok a) ≡ answered (ending_of budget (progress_of last.out (state_of last vs) os))) → Runs w s l o after free rs budget a
   run_answered a h = record {
     is = λ limits g. let k = run_reaches limits g in
         result_is a budget after free (run (profile_of s.context.rows limits) rs budget) (h k.store k.opens ∙ ap (λ (q : Progress). answered (ending_of budget q)) (sym k.is))

@@ -9,6 +9,9 @@ use lib.Dec.{ltb}
 use lib.IntN.{ℤ, pos}
 use lib.ListN.{length, get_or, drop}
 use borrow.Author.Tests.{eq-eqb, ne_eqb, ltb-true, ltb-false, not-false}
+use Rattle.std.specs.Prelude.{Result, Ok, Err, is_some}
+use Rattle.lingua.specs.declared.errors.Error.{Error}
+use Rattle.lingua.specs.Faults.{number_of}
 use Rattle.lingua.specs.Numbers.{declaration_section, reading_place, most_readings}
 use Rattle.lingua.specs.Rows.{pair_count}
 use Rattle.lingua.specs.Value.{all_of}
@@ -17,10 +20,10 @@ use Rattle.lingua.specs.Run.{State, Profile, going, last_state, settled, taken_u
 use Rattle.lingua.specs.Refusal.{is_variable_of, is_quantity_variable, reading_wrong}
 use Rattle.lingua.specs.Calls.{readings_of}
 use Rattle.laws.specs.Outcomes.{false_is_true, and_left, and_right}
-use Rattle.run.specs.Statuses.{state_of, progress_of, recorded}
+use Rattle.run.specs.Statuses.{error_in, state_of, progress_of, recorded}
 use Rattle.run.specs.declared.steps.Status.{Status}
 use Rattle.run.specs.Reached.{Lent, Holding, Going, Reached}
-use Rattle.run.specs.Acting.{settles}
+use Rattle.run.specs.Acting.{some_recorded, none_recorded, settles}
 use Rattle.run.specs.Memory.{reading}
 use Rattle.frames.specs.declared.way.Way.{Way}
 use Rattle.frames.specs.Meaning.{Context, Holds, Standing, Stores}
@@ -51,12 +54,12 @@ module _ {rows who : List ℕ} {numbers : List ℤ} (h : Readable rows who numbe
       (ltb-true (get_or who i 0) (pair_count rows declaration_section) (and_left (ltb (get_or who i 0) (pair_count rows declaration_section)) _ one), one)
 
 -- ---- one input
-recorded_going : (m r : Status) (e place : ℕ) → Going m → r ≡ recorded m e place → Going r
-recorded_going m r e place g q = subst (λ (x : Status). Going x) (sym q) (by e)
+recorded_going : (m r : Status) (answer : Result (Unit {0}) Error) (place : ℕ) → Going m → r ≡ recorded m answer place → Going r
+recorded_going m r answer place g q = subst (λ (x : Status). Going x) (sym q) (by answer)
   where
-    by : (n : ℕ) → Going (recorded m n place)
-    by zero = g
-    by (suc n) = record { not_out = g.not_out; clean = λ z. absurd (let k : ⊥ = omega (arith, z) in k) }
+    by : (x : Result (Unit {0}) Error) → Going (recorded m x place)
+    by (Ok u) = g
+    by (Err e) = record { not_out = g.not_out }
 
 going_state : (b : Bool) (s u : State) (os : List (List Variable)) → b ≡ false → going s ≡ progress_of b u os → s ≡ u
 going_state true s u os e q = absurd (let k : ◌≡◌ {A = ℕ} 0 1 = cc in let z : ⊥ = omega arith in z)
@@ -65,10 +68,10 @@ going_state false s u os e q = ap last_state q
 kept_by : {M : Holding} {o l after : Lent} {m : Status} {s : State} → Reached M o l after m (going s) → m.out ≡ false → Kept M l m s
 kept_by {m = m} {s} h e = record { store = h.store; is = going_state m.out s _ h.opens e h.is; running = h.running }
 
-pub takes : {w : Way} {c : Context} {l after : Lent} {m : Status} (r : Status) (e place n : ℕ) (z : ℤ) → Going m → r ≡ recorded m e place → Stores w c l after e (λ a. a ≡ 0) (λ vs. reading_taken vs (reading n z)) → Takes w c l after m r place n z
-takes {l = l} {m = m} r e place n z g q h =
-    let goes = recorded_going m r e place g q in
-    record { goes = goes; reaches = λ p vs k. kept_by (settles {free = l} vs k m r e place (h.settles p 0 vs refl k) q g.not_out g.clean) goes.not_out }
+pub takes : {w : Way} {c : Context} {l after : Lent} {m : Status} (r : Status) (answer : Result (Unit {0}) Error) (place n : ℕ) (z : ℤ) → Going m → r ≡ recorded m answer place → Stores w c l after (number_of answer) (λ a. a ≡ 0) (λ vs. reading_taken vs (reading n z)) → Takes w c l after m r place n z
+takes {l = l} {m = m} r answer place n z g q h =
+    let goes = recorded_going m r answer place g q in
+    record { goes = goes; reaches = λ p vs k. kept_by (settles {free = l} vs k m r answer place (h.settles p 0 vs refl k) q g.not_out) goes.not_out }
 
 -- ---- the inputs from an index on
 inputs_at : (who : List ℕ) (numbers : List ℤ) (i : ℕ) → length who ≡ length numbers → i < length who
@@ -116,21 +119,21 @@ module _ {w : Way} {c : Context} {l₀ l : Lent} {who : List ℕ} {numbers : Lis
       let k = h.each s.profile s.store (subst (λ (a : ℕ). Holds w s.profile a c l₀ s.store) s.of_scope s.holds) in
       record { profile = s.profile; scope = 0; store = k.store; holds = k.running; of_scope = refl; enough = omega (arith, s.enough, e) }
 
-  ends : (q : (s : State) → s.error ≡ moment.error → take_readings i (drop i (readings_of who numbers)) s ≡ s) → TakesAll w c l₀ l first moment (readings_of who numbers)
+  ends : (q : (s : State) → s.error ≡ error_in moment.error → take_readings i (drop i (readings_of who numbers)) s ≡ s) → TakesAll w c l₀ l first moment (readings_of who numbers)
   ends q = record {
     goes = h.goes;
     reaches = λ p vs k. let s = h.each p vs k in record { store = s.store; is = s.is ∙ q (state_of moment s.store) refl; running = s.running };
   }
 
-  pub taking_stops : (moment.error ≡ 0 → ⊥) → TakesAll w c l₀ l first moment (readings_of who numbers)
-  taking_stops f = ends (λ s e. none_taken i (drop i (readings_of who numbers)) s (λ z. f (sym e ∙ z)))
+  pub taking_stops : is_some moment.error ≡ true → TakesAll w c l₀ l first moment (readings_of who numbers)
+  taking_stops f = ends (λ s e. none_taken i (drop i (readings_of who numbers)) s (λ z. some_recorded moment.error f (sym e ∙ z)))
 
   pub taking_ends : length who ≤ i → TakesAll w c l₀ l first moment (readings_of who numbers)
   unfolding take_readings
   taking_ends k = ends (λ s e. ap (λ (rs : List Reading). take_readings i rs s) (inputs_end who numbers i k))
 
   pub taking_more : {after : Lent} (r : Status) (n place : ℕ) (z : ℤ) → Takes w c l after moment r place n z
-      → length who ≡ length numbers → i < length who → n ≡ get_or who i 0 → z ≡ get_or numbers i (pos 0) → place ≡ reading_place + i → moment.error ≡ 0
+      → length who ≡ length numbers → i < length who → n ≡ get_or who i 0 → z ≡ get_or numbers i (pos 0) → place ≡ reading_place + i → is_some moment.error ≡ false
       → Taking w c l₀ after who numbers first r (i + 1)
   taking_more {after} r n place z f le k en ez ep e =
       record { goes = f.goes; each = each }
@@ -145,7 +148,7 @@ module _ {w : Way} {c : Context} {l₀ l : Lent} {who : List ℕ} {numbers : Lis
             is =
                 s.is
                 ∙ ap (λ (rs : List Reading). take_readings i rs (state_of moment s.store)) (inputs_at who numbers i le k ∙ ap (λ (x : Reading). x ∷ drop (suc i) (readings_of who numbers)) here)
-                ∙ one_taken i (reading n z) (drop (suc i) (readings_of who numbers)) (state_of moment s.store) e
+                ∙ one_taken i (reading n z) (drop (suc i) (readings_of who numbers)) (state_of moment s.store) (none_recorded moment.error e)
                 ∙ ap (λ (j : ℕ). take_readings (suc i) (drop (suc i) (readings_of who numbers)) (settled (state_of moment s.store) j (reading_taken s.store (reading n z)))) (sym ep)
                 ∙ ap (λ (v : State). take_readings (suc i) (drop (suc i) (readings_of who numbers)) v) q.is
                 ∙ ap (λ (j : ℕ). take_readings j (drop j (readings_of who numbers)) (state_of r q.store)) (sym (add-one i));

@@ -1,5 +1,5 @@
 -- What the readings and a whole run ask of their memory and give, in each of the two ways to run. Assumes nothing: these are definitions.
-use Rattle.std.specs.Prelude.{◌≡◌, false, List, [], ℕ, ℤ, pos, length, replicate}
+use Rattle.std.specs.Prelude.{◌≡◌, false, List, [], ℕ, ℤ, pos, length, replicate, Ok}
 use Rattle.lingua.specs.Numbers.{open_cells_length, open_states_length, open_bodies_length}
 use Rattle.lingua.specs.Value.{pad}
 use Rattle.lingua.specs.Store.{Reading, Variable, reading_taken, call_bodies}
@@ -7,7 +7,7 @@ use Rattle.lingua.specs.Run.{State, Profile, last_state, open_calls, settled, ta
 use Rattle.lingua.specs.Trees.{profile_of}
 use Rattle.lingua.specs.Refusal.{reading_wrong}
 use Rattle.lingua.specs.Inputs.{buffers}
-use Rattle.lingua.specs.declared.RunAnswer.{RunAnswer}
+use Rattle.lingua.specs.declared.RunEnd.{RunEnd}
 use Rattle.lingua.specs.Calls.{ran, run_result}
 use Rattle.safety.specs.Invariant.{declared_store}
 use Rattle.run.specs.declared.steps.Status.{Status}
@@ -15,16 +15,15 @@ use Rattle.run.specs.Statuses.{state_of}
 use Rattle.run.specs.Reached.{Lent, Holding, Going}
 use Rattle.frames.specs.declared.way.Way.{Way}
 use Rattle.frames.specs.declared.way.Way.TheVariants as way
-use Rattle.frames.specs.declared.memory.Context.{Context as ContextRead}
+use Rattle.frames.specs.declared.context.Context.{Context as ContextRead}
 use Rattle.frames.specs.Lending.{context_of}
-use Rattle.decoder.specs.declared.tables.Tables.{Tables}
 use Rattle.frames.specs.Meaning.{Context, Holds, Callable}
 use Rattle.opening.specs.Meaning.{Setting}
 
 -- ---- what is given
--- a context with where the tables say that procedures begin, and the bodies of the type rows
-abbrev pub setting_in : ContextRead → Tables → List ℕ → Setting
-setting_in c t types = record { context = context_of c; types = types; heads = t.procedures.heads }
+-- a context with the bodies of the type rows
+abbrev pub setting_in : ContextRead → List ℕ → Setting
+setting_in c types = record { context = context_of c; types = types }
 
 -- ---- readings
 -- two slices of one length, each of whose variables is a number variable (document 01: rule 16)
@@ -62,7 +61,7 @@ pub record Clear (w : Way) (o : Lent) : Type 0 where
 -- memory as it is at a run's start, under the limits of a file
 pub record Ready (w : Way) (s : Setting) (l o : Lent) (limits : List ℕ) : Type 0 where
   pub holds : Holds w (profile_of s.context.rows limits) 0 s.context l (declared_store (profile_of s.context.rows limits))
-  pub callable : Callable w (profile_of s.context.rows limits) s.context s.types s.heads
+  pub callable : Callable w (profile_of s.context.rows limits) s.context s.types
   pub clear : Clear w o
 
 -- of some file
@@ -72,9 +71,9 @@ pub record Begins (w : Way) (s : Setting) (l o : Lent) : Type 0 where
 
 -- The answer, and both memories where the run ended, are the definition's: the one holds its last store, the other its open calls, with their
 -- present bodies in the checked run.
-pub record Runs (w : Way) (s : Setting) (l o after free : Lent) (rs : List Reading) (budget : ℕ) (r : RunAnswer) : Type 0 where
+pub record Runs (w : Way) (s : Setting) (l o after free : Lent) (rs : List Reading) (budget : ℕ) (r : RunEnd) : Type 0 where
   pub is : (limits : List ℕ) → Ready w s l o limits
-      → run_result r (buffers after.cells after.states free.cells free.states) ≡ ran budget (run (profile_of s.context.rows limits) rs budget)
+      → run_result (Ok r) (buffers after.cells after.states free.cells free.states) ≡ ran budget (run (profile_of s.context.rows limits) rs budget)
   pub left : (limits : List ℕ) → Ready w s l o limits
       → Holds w (profile_of s.context.rows limits) 0 s.context after (last_state (run (profile_of s.context.rows limits) rs budget)).store
   pub open_bodies : (limits : List ℕ) → Ready w s l o limits → w ≡ way.Checked

@@ -1,4 +1,4 @@
-use Rattle.frames.proofs.Slices.{slices_stay, slices_after}
+use Rattle.run.proofs.Slices.{slices_stay, slices_after}
 use mathlib.Core.Path.{ap}
 use Rattle.lingua.specs.Faults.{number_of}
 use Rattle.laws.specs.Faults.{passed_on}

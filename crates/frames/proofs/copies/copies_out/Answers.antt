@@ -1,23 +1,23 @@
-use Rattle.frames.proofs.Slices.{slices_stay, slices_after}
 use native.Mathlib.Omega.{arith}
-use Rattle.frames.proofs.Copying.{out_none, out_first, out_facing, out_stops, out_more, out_ends, fault_number, no_fault_number}
 use Rattle.std.proofs.Common.{sym, ◌∙◌}
+use Rattle.run.proofs.Slices.{slices_stay, slices_after}
+use Rattle.frames.proofs.Copying.{out_none, out_first, out_facing, out_stops, out_more, out_ends}
 use Rattle.frames.proofs.copies.copies_out.Goals as goal
 
-pub returns-then-m-ne-NO_ERROR-clause-copies : goal.returns-then-m-ne-NO_ERROR-clause-copies
-returns-then-m-ne-NO_ERROR-clause-copies c = out_none c.args.row c.args.field c.args.count c.args.first c.requires.going (λ z. omega (arith, c.if-m-ne-NO_ERROR.true, z))
+pub returns-then-is_some-clause-copies : goal.returns-then-is_some-clause-copies
+returns-then-is_some-clause-copies c = out_none c.args.row c.args.field c.args.count c.args.first c.args.m (sym c.is_some.ensures ∙ c.if-is_some.true)
 
 pub loop-i-init : goal.loop-i-init
-loop-i-init c = (out_first c.args.row c.args.field c.args.count c.args.first c.requires.going, slices_stay _)
+loop-i-init c = (out_first c.args.row c.args.field c.args.count c.args.first c.args.m, slices_stay _)
 
 pub copy-copied-requires : goal.copy-copied-requires
-copy-copied-requires c = out_facing c.args.row c.args.field c.args.count c.args.first c.requires.going c.loop-i.i c.loop-i.invariant.0 (omega (arith, c.loop-i-test.true)) (c.group.ensures.0 c.args.count (omega (arith, c.loop-i-test.true))) c.requires.has_facing (omega (arith, c.loop-i.auto.stack))
+copy-copied-requires c = out_facing c.args.row c.args.field c.args.count c.args.first c.args.m c.loop-i.i c.loop-i.invariant.0 (omega (arith, c.loop-i-test.true)) (c.group.ensures.0 c.args.count (omega (arith, c.loop-i-test.true))) c.requires.has_facing (omega (arith, c.loop-i.auto.stack))
 
 pub returns-then-is_err-clause-copies : goal.returns-then-is_err-clause-copies
-returns-then-is_err-clause-copies c = out_stops c.args.row c.args.field c.args.count c.args.first c.requires.going c.loop-i.i c.loop-i.invariant.0 (omega (arith, c.loop-i-test.true)) (c.group.ensures.0 c.args.count (omega (arith, c.loop-i-test.true))) c.copy-copied.ensures.copies (omega (arith, c.if-m-ne-NO_ERROR.false)) _ (fault_number _ (sym c.is_err.ensures.value ∙ c.if-is_err.true)) c.settled.ensures
+returns-then-is_err-clause-copies c = out_stops c.args.row c.args.field c.args.count c.args.first c.args.m c.loop-i.i c.loop-i.invariant.0 (omega (arith, c.loop-i-test.true)) (c.group.ensures.0 c.args.count (omega (arith, c.loop-i-test.true))) _ c.copy-copied.ensures.copies (sym c.is_some.ensures ∙ c.if-is_some.false) _ (sym c.is_err.ensures.value ∙ c.if-is_err.true) c.settled.ensures
 
 pub loop-i-preserved : goal.loop-i-preserved
-loop-i-preserved c = (out_more c.args.row c.args.field c.args.count c.args.first c.requires.going c.loop-i.i c.loop-i.invariant.0 (omega (arith, c.loop-i-test.true)) (c.group.ensures.0 c.args.count (omega (arith, c.loop-i-test.true))) c.copy-copied.ensures.copies (omega (arith, c.if-m-ne-NO_ERROR.false)) (no_fault_number _ (sym c.is_err.ensures.value ∙ c.if-is_err.false)), slices_after c.loop-i.invariant.1 c.copy-copied.ensures.same_slices)
+loop-i-preserved c = (out_more c.args.row c.args.field c.args.count c.args.first c.args.m c.loop-i.i c.loop-i.invariant.0 (omega (arith, c.loop-i-test.true)) (c.group.ensures.0 c.args.count (omega (arith, c.loop-i-test.true))) _ c.copy-copied.ensures.copies (sym c.is_some.ensures ∙ c.if-is_some.false) (sym c.is_err.ensures.value ∙ c.if-is_err.false), slices_after c.loop-i.invariant.1 c.copy-copied.ensures.same_slices)
 
 pub returns-clause-copies : goal.returns-clause-copies
-returns-clause-copies c = out_ends c.args.row c.args.field c.args.count c.args.first c.requires.going c.loop-i.i c.loop-i.invariant.0 (omega (arith, c.loop-i.invariant.1, c.loop-i-test.false))
+returns-clause-copies c = out_ends c.args.row c.args.field c.args.count c.args.first c.args.m c.loop-i.i c.loop-i.invariant.0 (omega (arith, c.loop-i.invariant.1, c.loop-i-test.false))

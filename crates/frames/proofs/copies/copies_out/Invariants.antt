@@ -1,6 +1,7 @@
 -- `frames::copies::copies_out` meets its contract. The loop's invariant: the definition from the start equals the definition from here. Assumes
 -- nothing.
-use Rattle.frames.specs.Lending.{context_of, lent_in, SameSlices}
+use Rattle.run.specs.Lending.{lent_in, SameSlices}
+use Rattle.frames.specs.Lending.{context_of}
 use Rattle.frames.proofs.Copying.{GoingOut}
 use Rattle.frames.proofs.copies.copies_out.Given as goal
 

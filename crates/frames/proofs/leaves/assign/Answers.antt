@@ -14,7 +14,7 @@ pub assign-requires-in-Erased-clause-has_running : goal.assign-requires-in-Erase
 assign-requires-in-Erased-clause-has_running c = (erased_standing c.in-Erased.is c.requires.standing)
 
 pub returns-in-Checked-clause-stores : goal.returns-in-Checked-clause-stores
-returns-in-Checked-clause-stores c = checked_stores c.in-Checked.is _ _ (evaluated_long _ _) (λ a vs q r k. c.assign.ensures vs _ r (omega (arith, q.declared, k)) (c.evaluated-x.ensures vs r.world))
+returns-in-Checked-clause-stores c = checked_stores c.in-Checked.is _ _ (evaluated_long _ _) (λ a vs q r k. c.assign.ensures.assigns vs _ r (omega (arith, q.declared, k)) (c.evaluated-x.ensures vs r.world))
 
 pub returns-in-Erased-clause-stores : goal.returns-in-Erased-clause-stores
-returns-in-Erased-clause-stores c = erased_stores c.in-Erased.is _ _ (evaluated_long _ _) c.assign-in-Erased.ensures
+returns-in-Erased-clause-stores c = erased_stores c.in-Erased.is _ _ (evaluated_long _ _) c.assign-in-Erased.ensures.bodies_same c.assign-in-Erased.ensures.settles

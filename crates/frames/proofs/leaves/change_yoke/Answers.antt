@@ -11,7 +11,7 @@ pub change_yoke-requires-in-Erased-clause-has_running : goal.change_yoke-require
 change_yoke-requires-in-Erased-clause-has_running c = (erased_standing c.in-Erased.is c.requires.standing)
 
 pub returns-in-Checked-clause-stores : goal.returns-in-Checked-clause-stores
-returns-in-Checked-clause-stores c = checked_stores c.in-Checked.is _ _ (λ vs. changed_long vs _ _) (λ a vs q r k. c.change_yoke.ensures vs r (omega (arith, q.declared, k)))
+returns-in-Checked-clause-stores c = checked_stores c.in-Checked.is _ _ (λ vs. changed_long vs _ _) (λ a vs q r k. c.change_yoke.ensures.assigns vs r (omega (arith, q.declared, k)))
 
 pub returns-in-Erased-clause-stores : goal.returns-in-Erased-clause-stores
-returns-in-Erased-clause-stores c = erased_stores c.in-Erased.is _ _ (λ vs. changed_long vs _ _) c.change_yoke-in-Erased.ensures
+returns-in-Erased-clause-stores c = erased_stores c.in-Erased.is _ _ (λ vs. changed_long vs _ _) c.change_yoke-in-Erased.ensures.bodies_same c.change_yoke-in-Erased.ensures.settles

@@ -12,7 +12,7 @@ pub copy-requires-in-Erased-clause-has_copy : goal.copy-requires-in-Erased-claus
 copy-requires-in-Erased-clause-has_copy c = (erased_facing c.in-Erased.is c.requires)
 
 pub returns-in-Checked-clause-copies : goal.returns-in-Checked-clause-copies
-returns-in-Checked-clause-copies c = checked_copies c.in-Checked.is c.copy.ensures
+returns-in-Checked-clause-copies c = checked_copies c.in-Checked.is c.copy.ensures.assigns
 
 pub returns-in-Erased-clause-copies : goal.returns-in-Erased-clause-copies
-returns-in-Erased-clause-copies c = erased_copies c.in-Erased.is c.copy-in-Erased.ensures
+returns-in-Erased-clause-copies c = erased_copies c.in-Erased.is c.copy-in-Erased.ensures.bodies_same c.copy-in-Erased.ensures.settles

@@ -11,7 +11,7 @@ pub take_reading-requires-in-Erased-clause-has_running : goal.take_reading-requi
 take_reading-requires-in-Erased-clause-has_running c = (erased_standing c.in-Erased.is c.requires.standing)
 
 pub returns-in-Checked-clause-stores : goal.returns-in-Checked-clause-stores
-returns-in-Checked-clause-stores c = stores_number _ (to_z-of_z _ _ c.ranges.z) (checked_stores c.in-Checked.is _ _ (λ vs. taken_long vs _) (λ a vs q r k. c.take_reading.ensures vs r (read c.args.context.now.rows.now vs k q c.requires.n_bound.0)))
+returns-in-Checked-clause-stores c = stores_number _ (to_z-of_z _ _ c.ranges.z) (checked_stores c.in-Checked.is _ _ (λ vs. taken_long vs _) (λ a vs q r k. c.take_reading.ensures.assigns vs r (read c.args.context.now.rows.now vs k q c.requires.n_bound.0)))
 
 pub returns-in-Erased-clause-stores : goal.returns-in-Erased-clause-stores
-returns-in-Erased-clause-stores c = stores_number _ (to_z-of_z _ _ c.ranges.z) (erased_reads c.in-Erased.is _ (λ vs. taken_long vs _) c.take_reading-in-Erased.ensures)
+returns-in-Erased-clause-stores c = stores_number _ (to_z-of_z _ _ c.ranges.z) (erased_reads c.in-Erased.is _ (λ vs. taken_long vs _) c.take_reading-in-Erased.ensures.bodies_same c.take_reading-in-Erased.ensures.settles)

@@ -1,6 +1,6 @@
 -- `opening::call::leave` meets its contract: out of budget the variables stay open, else the references come back. Assumes nothing.
 use Rattle.opening.proofs.Given.{counted, few_values, few_references}
-use Rattle.opening.proofs.Leaving.{cells_fit, states_fit, present_fit, left_there, left_narrow, still_goes, back_has_facing, leaves_open, leaves_back}
+use Rattle.opening.proofs.Leaving.{cells_fit, states_fit, present_fit, left_there, left_few, left_narrow, back_has_facing, leaves_open, leaves_back}
 use Rattle.opening.proofs.call.leave.Goals as goal
 
 pub keep_open-requires-clause-bodies_in_bounds : goal.keep_open-requires-clause-bodies_in_bounds
@@ -15,26 +15,24 @@ keep_open-requires-clause-states_in_bounds c = (states_fit c.requires.left)
 pub returns-then-ended-clause-leaves : goal.returns-then-ended-clause-leaves
 returns-then-ended-clause-leaves c = leaves_open c.if-ended.true c.keep_open.ensures.open_cells_after c.keep_open.ensures.open_states_after c.keep_open.ensures.open_bodies_after
 
-pub procedure_in-procedure-requires-clause-k_bound : goal.procedure_in-procedure-requires-clause-k_bound
-procedure_in-procedure-requires-clause-k_bound c = (left_there c.requires.left)
+pub procedure-procedure-requires-clause-k_lt_count : goal.procedure-procedure-requires-clause-k_lt_count
+procedure-procedure-requires-clause-k_lt_count c = left_there c.requires.left
+
+pub procedure-procedure-requires-clause-k_lt_most : goal.procedure-procedure-requires-clause-k_lt_most
+procedure-procedure-requires-clause-k_lt_most c = left_few c.requires.left
 
 pub copies_out-requires-clause-has_facing : goal.copies_out-requires-clause-has_facing
 copies_out-requires-clause-has_facing c =
-    let count = counted c.procedure_in-procedure.ensures c.given-values.ensures c.given-references.ensures in
+    let count = counted c.procedure-procedure.ensures c.given-values.ensures c.given-references.ensures in
     (back_has_facing c.requires count)
 
 pub copies_out-requires-clause-count_le_most_parameters : goal.copies_out-requires-clause-count_le_most_parameters
 copies_out-requires-clause-count_le_most_parameters c =
-    let count = counted c.procedure_in-procedure.ensures c.given-values.ensures c.given-references.ensures in
+    let count = counted c.procedure-procedure.ensures c.given-values.ensures c.given-references.ensures in
     ((few_references count, few_values count))
 
-pub copies_out-requires-clause-going : goal.copies_out-requires-clause-going
-copies_out-requires-clause-going c =
-    let count = counted c.procedure_in-procedure.ensures c.given-values.ensures c.given-references.ensures in
-    (still_goes c.requires.left c.if-ended.false)
-
 pub returns-clause-leaves : goal.returns-clause-leaves
-returns-clause-leaves c = leaves_back (counted c.procedure_in-procedure.ensures c.given-values.ensures c.given-references.ensures) c.if-ended.false c.copies_out.ensures.copies
+returns-clause-leaves c = leaves_back (counted c.procedure-procedure.ensures c.given-values.ensures c.given-references.ensures) c.if-ended.false c.copies_out.ensures.copies
 
 pub overflow_cast-call : goal.overflow_cast-call
 overflow_cast-call c = record { fits = left_narrow c.requires.left }

@@ -11,7 +11,8 @@ use Rattle.lingua.specs.Run.{Profile, exec as meaning}
 use Rattle.run.specs.Statuses.{state_of}
 use Rattle.run.specs.Instructing.{Turning}
 use Rattle.frames.specs.Meaning.{Holds}
-use Rattle.frames.specs.Lending.{context_of, lent_in, SameSlices}
+use Rattle.run.specs.Lending.{lent_in, SameSlices}
+use Rattle.frames.specs.Lending.{context_of}
 use Rattle.opening.specs.Meaning.{setting_of}
 use Rattle.walk.specs.Meaning.{calling, Stands}
 use Rattle.walk.proofs.exec.+instructions.Given as goal

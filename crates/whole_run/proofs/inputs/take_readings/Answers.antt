@@ -1,6 +1,6 @@
-use mathlib.Core.Path.{refl}
+use mathlib.Core.Path.{refl, sym, ◌∙◌}
 use native.Mathlib.Omega.{arith}
-use Rattle.frames.proofs.Slices.{slices_stay, slices_after}
+use Rattle.run.proofs.Slices.{slices_stay, slices_after}
 use Rattle.std.proofs.Common.{rules}
 use Rattle.cells.proofs.Moves.{cell_back}
 use Rattle.whole_run.proofs.Taking.{few_readings, reads_variable_lem, taking_first, taking_standing, taking_stops, taking_ends, taking_more}
@@ -9,8 +9,8 @@ use Rattle.whole_run.proofs.inputs.take_readings.Goals as goal
 pub loop-i-init : goal.loop-i-init
 loop-i-init c = (taking_first c.requires.going, slices_stay _)
 
-pub returns-then-moment-ne-NO_ERROR-clause-takes : goal.returns-then-moment-ne-NO_ERROR-clause-takes
-returns-then-moment-ne-NO_ERROR-clause-takes c = taking_stops c.loop-i.invariant.0 (λ z. omega (arith, c.if-moment-ne-NO_ERROR.true))
+pub returns-then-is_some-clause-takes : goal.returns-then-is_some-clause-takes
+returns-then-is_some-clause-takes c = taking_stops c.loop-i.invariant.0 (sym c.is_some.ensures ∙ c.if-is_some.true)
 
 pub take_one-moment-requires-clause-standing : goal.take_one-moment-requires-clause-standing
 take_one-moment-requires-clause-standing c = (taking_standing c.loop-i.invariant.0 c.requires.standing (omega (arith, c.loop-i.auto.stack)))
@@ -19,10 +19,10 @@ pub take_one-moment-requires-clause-n_bound : goal.take_one-moment-requires-clau
 take_one-moment-requires-clause-n_bound c = (reads_variable_lem c.requires.readable c.loop-i.i (omega arith))
 
 pub take_one-moment-requires-clause-going : goal.take_one-moment-requires-clause-going
-take_one-moment-requires-clause-going c = ((c.loop-i.invariant.0.goes, omega (arith, c.if-moment-ne-NO_ERROR.false)))
+take_one-moment-requires-clause-going c = ((c.loop-i.invariant.0.goes, sym c.is_some.ensures ∙ c.if-is_some.false))
 
 pub loop-i-preserved : goal.loop-i-preserved
-loop-i-preserved c = (taking_more c.loop-i.invariant.0 _ _ _ _ c.take_one-moment.ensures.takes c.requires.readable.same_length (omega arith) refl (search (rules, cell_back)) refl (omega (arith, c.if-moment-ne-NO_ERROR.false)), slices_after c.loop-i.invariant.1 c.take_one-moment.ensures.same_slices)
+loop-i-preserved c = (taking_more c.loop-i.invariant.0 _ _ _ _ c.take_one-moment.ensures.takes c.requires.readable.same_length (omega arith) refl (search (rules, cell_back)) refl (sym c.is_some.ensures ∙ c.if-is_some.false), slices_after c.loop-i.invariant.1 c.take_one-moment.ensures.same_slices)
 
 pub returns-clause-takes : goal.returns-clause-takes
 returns-clause-takes c = taking_ends c.loop-i.invariant.0 (omega arith)

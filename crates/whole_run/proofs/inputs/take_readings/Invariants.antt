@@ -1,6 +1,7 @@
 -- `whole_run::inputs::take_readings` meets its contract. The loop's invariant: the definition from the start equals the definition from here.
 -- Assumes nothing.
-use Rattle.frames.specs.Lending.{context_of, lent_in, SameSlices}
+use Rattle.run.specs.Lending.{lent_in, SameSlices}
+use Rattle.frames.specs.Lending.{context_of}
 use Rattle.whole_run.proofs.Taking.{Taking}
 use Rattle.whole_run.proofs.inputs.take_readings.Given as goal
 

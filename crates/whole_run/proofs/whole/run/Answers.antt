@@ -1,7 +1,7 @@
 -- `whole_run::whole::run` meets its contract: the readings, then the program from the last row. Assumes nothing.
 use native.Mathlib.Omega.{arith}
-use Rattle.frames.proofs.Slices.{slices_after}
-use Rattle.whole_run.proofs.Ending.{fresh_going, begins_standing, some_row, program_asked, left_within, end_clean, run_answered}
+use Rattle.run.proofs.Slices.{slices_after}
+use Rattle.whole_run.proofs.Ending.{fresh_going, begins_standing, some_row, program_asked, left_within, run_answered}
 use Rattle.whole_run.proofs.whole.run.Goals as goal
 
 pub take_readings-taken-requires-clause-standing : goal.take_readings-taken-requires-clause-standing
@@ -10,23 +10,17 @@ take_readings-taken-requires-clause-standing c = (begins_standing c.requires.beg
 pub take_readings-taken-requires-clause-going : goal.take_readings-taken-requires-clause-going
 take_readings-taken-requires-clause-going c = (fresh_going _ c.args.budget c.fresh-first.ensures)
 
-pub take_readings-taken-requires-clause-table : goal.take_readings-taken-requires-clause-table
-take_readings-taken-requires-clause-table c = ((c.requires.are_tables.declarations, c.requires.are_tables.types))
-
 pub overflow_sub-row : goal.overflow_sub-row
-overflow_sub-row c = some_row c.requires.begins c.requires.are_tables.instructions
+overflow_sub-row c = some_row c.requires.begins c.instructions-instructions.ensures
 
 pub exec-last-requires : goal.exec-last-requires
-exec-last-requires c = program_asked c.requires.begins c.requires.are_tables.instructions c.take_readings-taken.ensures.takes (omega (arith, c.take_readings-taken.auto.stack))
+exec-last-requires c = program_asked c.requires.begins c.instructions-instructions.ensures c.take_readings-taken.ensures.takes (omega (arith, c.take_readings-taken.auto.stack))
 
-pub ended-requires-clause-left_le_budget : goal.ended-requires-clause-left_le_budget
-ended-requires-clause-left_le_budget c = (left_within c.requires.are_tables.instructions c.args.budget c.fresh-first.ensures c.take_readings-taken.ensures.takes c.exec-last.ensures.executes c.requires.begins)
-
-pub ended-requires-clause-place_value : goal.ended-requires-clause-place_value
-ended-requires-clause-place_value c = (end_clean c.requires.are_tables.instructions c.args.budget c.fresh-first.ensures c.take_readings-taken.ensures.takes c.exec-last.ensures.executes c.requires.begins)
+pub ended-requires : goal.ended-requires
+ended-requires c = (left_within c.instructions-instructions.ensures c.args.budget c.fresh-first.ensures c.take_readings-taken.ensures.takes c.exec-last.ensures.executes c.requires.begins)
 
 pub returns-clause-runs : goal.returns-clause-runs
-returns-clause-runs c = run_answered c.requires.are_tables.instructions c.args.budget c.fresh-first.ensures c.take_readings-taken.ensures.takes c.exec-last.ensures.executes _ c.ended.ensures
+returns-clause-runs c = run_answered c.instructions-instructions.ensures c.args.budget c.fresh-first.ensures c.take_readings-taken.ensures.takes c.exec-last.ensures.executes _ c.ended.ensures
 
 pub returns-clause-same_slices : goal.returns-clause-same_slices
 returns-clause-same_slices c = (slices_after c.take_readings-taken.ensures.same_slices c.exec-last.ensures.same_slices.0, c.exec-last.ensures.same_slices.1)
