@@ -10,14 +10,14 @@ use borrow.Author.Tests.{eqb-true, eqb-false}
 use lib.ListN.{length, get_or, set}
 use lib.IntN.{ℤ, pos}
 use mir.Syntax.{w64}
-use mir.Val.{to_z, of_z, bool_byte}
+use mir.Val.{of_z, bool_byte}
 use Rattle.lingua.specs.Numbers.{body_bytes}
 use Rattle.std.specs.Prelude.{Result, Ok, Err}
 use Rattle.lingua.specs.declared.errors.Error.{Error}
 use Rattle.lingua.specs.Faults.{error_number}
 use Rattle.lingua.specs.Outcome.{ok, fail, Result as Outcome, require, ◌>>=◌, ◌>>◌}
 use Rattle.lingua.specs.Body.{Body, boolean, size, nodes, is_boolean}
-use Rattle.lingua.specs.Value.{Value, as_truth, bit, pad, Composite}
+use Rattle.lingua.specs.Value.{Value, as_truth, pad, Composite}
 use Rattle.lingua.specs.Encode.{bytes, encoded}
 use Rattle.lingua.specs.Evaluation.{truth_or, boolean_of}
 use Rattle.laws.specs.Outcomes.{is_boolean_lem}
@@ -26,7 +26,7 @@ use Rattle.body.specs.Encode.{Holds}
 use Rattle.cells.specs.Stack.{Lies}
 use Rattle.cells.proofs.Operands.{lies_as}
 use Rattle.cells.proofs.Singles
-use Rattle.cells.proofs.Singles.{put_truth}
+use Rattle.cells.proofs.Singles.{put_truth, bit_byte}
 use Rattle.checked_row.specs.declared.answer.Evaluated.{Evaluated}
 use Rattle.checked_row.specs.Meaning.{Answers, Gives, simple_evaluated}
 
@@ -52,13 +52,9 @@ pub boolean_held : Holds (pad body_bytes 0 (1 ∷ [])) boolean
 unfolding encoded bytes size nodes
 boolean_held = record { is = refl; few_cells = omega arith; few_nodes = omega arith }
 
-read : (t : Bool) → to_z w64 (bool_byte t) ≡ bit t
-read true = refl
-read false = refl
-
-pub puts_truth : (s : List ℤ) (t : Bool) → 0 < length s → Gives (Ok (simple_evaluated 1)) (set s 0 (to_z w64 (bool_byte t))) (ok (boolean_of t))
+pub puts_truth : (s : List ℤ) (t : Bool) (z : ℤ) → 0 < length s → z ≡ pos (bool_byte t) → Gives (Ok (simple_evaluated 1)) (set s 0 z) (ok (boolean_of t))
 unfolding size
-puts_truth s t h = let z = to_z w64 (bool_byte t) in let q : z ≡ bit t = read t in gives_answer (record { value = boolean_of t; is = refl; holds = boolean_held; lies = put_truth s t z h q; cells = refl })
+puts_truth s t z h e = gives_answer (record { value = boolean_of t; is = refl; holds = boolean_held; lies = put_truth s t z h (e ∙ bit_byte t); cells = refl })
 
 -- ---- a Boolean read from the stack
 -- of a value whose body is a Boolean's

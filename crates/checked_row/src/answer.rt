@@ -40,7 +40,7 @@ pub fn boolean(holds: bool, stack: &mut [i64]) -> Evaluated
     requires { 0 < length stack.old }
     ensures { Gives (Ok result) stack.new (ok (boolean_of holds)) }
 {
-    stack[0] = holds as i64;
+    stack[0] = i64::from(holds);
     simple_value(BOOLEAN)
 }
 

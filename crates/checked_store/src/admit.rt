@@ -29,10 +29,7 @@ fn whole(value: &CurrentValue) -> i64
     ensures { (x : Composite) → Current value.now.cells.now value.now.body x → result ≡ as_whole x.value }
 {
     let tag = value.body[0];
-    if tag == NUMBER {
-        return value.cells[0];
-    }
-    if tag == HUNDREDTHS {
+    if tag == NUMBER || tag == HUNDREDTHS {
         return value.cells[0];
     }
     0

@@ -26,6 +26,7 @@ const BELOW_NUMBER: usize = 999999;
 const BELOW_COUNT: usize = 99999999;
 
 // Whether the 64 bits, read with a sign, are a number from -(k + 1) to k + 1.
+#[tactic(auto, using(crate::proofs::Ranges::small_fits, crate::proofs::Ranges::other_fits))]
 fn is_about(k: usize, n: usize) -> bool
     requires { k < 9223372036854775807 }
     ensures { result ≡ about k (to_z w64 n) }
@@ -34,6 +35,7 @@ fn is_about(k: usize, n: usize) -> bool
 }
 
 // Row i, a constant's.
+#[tactic(auto, using(decoder::proofs::Constant::word_is), unfolding(lingua::specs::Rules::constant_fits, decoder::specs::Decoded::constant_meaning, lingua::specs::Rows::number_at, lingua::specs::Value::in_range, lingua::specs::Value::in_counts, lingua::specs::Value::is_character, crate::specs::Range::about))]
 fn constant_fits(s: Simple, rows: &[u8], i: usize) -> bool
     requires { 10 * i + 10 ≤ length rows.now }
     ensures { result ≡ constant_fits (constant_meaning rows.now i s) }
@@ -47,6 +49,7 @@ fn constant_fits(s: Simple, rows: &[u8], i: usize) -> bool
 }
 
 // Only constants have bytes that may be out of range for them.
+#[tactic(auto, unfolding(lingua::specs::Rules::row_constant_fits, decoder::specs::Decoded::expression_meaning))]
 fn row_constant_fits(row: ExpressionRow, rows: &[u8], i: usize) -> bool
     requires { 10 * i + 10 ≤ length rows.now }
     ensures { result ≡ row_constant_fits (expression_meaning rows.now i row) }
@@ -99,6 +102,7 @@ fn expressions_fit(rows: &Rows) -> bool
     (0..expressions.count).all(|r| constant_fits_at(rows, r) && attributes_fit_at(rows, r))
 }
 
+#[tactic(auto, using(decoder::proofs::Short::within_errors))]
 fn handler_fits(rows: &Rows, r: usize) -> bool
     requires { r < table_count rows.now instruction_section }
     ensures { result ≡ all_of is_error (handled_errors (instruction_row rows.now r)) }
@@ -113,12 +117,14 @@ fn handlers_fit(rows: &Rows) -> bool
     (0..instructions.count).all(|r| handler_fits(rows, r))
 }
 
+#[tactic(auto, unfolding(lingua::specs::Rules::constant_wrong))]
 fn profile_constant_wrong(rows: &Rows) -> bool
     ensures { result ≡ constant_wrong profile rows.now }
 {
     !types_fit(rows) || !expressions_fit(rows) || !handlers_fit(rows)
 }
 
+#[tactic(auto, unfolding(lingua::specs::Answers::file_meaning, lingua::specs::Rules::constant_wrong))]
 pub fn constant_wrong(file: FileKind, rows: &Rows) -> bool
     ensures { result ≡ constant_wrong (file_meaning file) rows.now }
 {

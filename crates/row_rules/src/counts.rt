@@ -18,15 +18,17 @@ pub fn in_between(low: usize, high: usize, n: usize) -> bool
 }
 
 // Declarations and limits are counted in pairs.
+#[tactic(auto, unfolding(lingua::specs::Answers::file_meaning, lingua::specs::Rules::count_wrong, lingua::specs::Rows::pair_count))]
 pub fn count_wrong(file: FileKind, rows: &Rows) -> bool
     ensures { result ≡ count_wrong (file_meaning file) rows.now }
 {
     match file {
         FileKind::Profile => profile_count_wrong(rows),
-        FileKind::Limits => MOST_LIMITS < rows.limits().count / 2,
+        FileKind::Limits => !in_between(0, MOST_LIMITS, rows.limits().count / 2),
     }
 }
 
+#[tactic(auto, unfolding(lingua::specs::Rules::count_wrong, lingua::specs::Rows::pair_count))]
 fn profile_count_wrong(rows: &Rows) -> bool
     ensures { result ≡ count_wrong profile rows.now }
 {

@@ -22,6 +22,7 @@ use lingua::sizes::{
 };
 
 // Limits stand alone in limits files; a profile has the sections before them, and the procedures behind.
+#[tactic(auto, unfolding(lingua::specs::Answers::file_meaning, lingua::specs::Rules::section_belongs))]
 fn section_belongs(file: FileKind, section: u8) -> bool
     ensures { result ≡ section_belongs (file_meaning file) section }
 {
@@ -32,12 +33,14 @@ fn section_belongs(file: FileKind, section: u8) -> bool
 }
 
 // How many bytes a row of a kind uses, where each kind from 0 on has its number.
+#[tactic(auto, using(crate::proofs::Forms::at_place))]
 fn used_in(used: &[u8], kind: u8) -> Option<u8>
     ensures { meant result ≡ get_or (map some used.now) kind none }
 {
     used.get(kind as usize).copied()
 }
 
+#[tactic(auto, unfolding(crate::specs::Form::meant, decoder::specs::Decoded::uses))]
 fn used_by<R: Copy>(row: Decoded<R>) -> Option<u8>
     ensures { meant result ≡ uses row }
 {
@@ -49,6 +52,7 @@ fn used_by<R: Copy>(row: Decoded<R>) -> Option<u8>
 
 // The number of bytes that row i uses of its eight, if the section has such a kind. The rows of a pair have the kinds 0 and 1; a
 // procedure begins with kind 2.
+#[tactic(auto, unfolding(lingua::specs::Rules::used_bytes, crate::specs::Form::meant))]
 fn used_bytes(rows: &[u8], i: usize, section: u8) -> Option<u8>
     requires { 10 * i + 10 ≤ length rows.now }
     ensures { meant result ≡ used_bytes section (kind_at rows.now i) }
@@ -64,6 +68,7 @@ fn used_bytes(rows: &[u8], i: usize, section: u8) -> Option<u8>
     }
 }
 
+#[tactic(auto, unfolding(lingua::specs::Rules::row_fits, lingua::specs::Rules::bytes_fit, crate::specs::Form::meant))]
 fn row_fits(file: FileKind, rows: &[u8], i: usize) -> bool
     requires { 10 * i + 10 ≤ length rows.now }
     ensures { result ≡ row_fits (file_meaning file) rows.now i }
@@ -100,6 +105,7 @@ fn alternates(rows: &[u8], t: Table) -> bool
 }
 
 // And a whole number of pairs.
+#[tactic(auto, unfolding(lingua::specs::Rules::paired, lingua::specs::Rows::row_in))]
 fn is_paired(rows: &[u8], t: Table) -> bool
     requires { IsTable rows.now t.section t }
     ensures { result ≡ paired rows.now t.section }
@@ -107,6 +113,7 @@ fn is_paired(rows: &[u8], t: Table) -> bool
     alternates(rows, t) && t.count % 2 == 0
 }
 
+#[tactic(auto, unfolding(lingua::specs::Rules::form_wrong))]
 pub fn form_wrong(file: FileKind, rows: &Rows) -> bool
     ensures { result ≡ form_wrong (file_meaning file) rows.now }
 {

@@ -15,6 +15,7 @@ use decoder::tables::Table;
 use lingua::FileKind;
 
 // 1 to 8 capital letters, zeros after.
+#[tactic(auto, unfolding(lingua::specs::Rules::is_name, lingua::specs::Rules::is_capital))]
 fn is_name(bytes: &[u8]) -> bool
     requires { 0 < length bytes.now }
     ensures { result ≡ is_name bytes.now }
@@ -23,6 +24,7 @@ fn is_name(bytes: &[u8]) -> bool
 }
 
 // What == answers, in the definitions' words.
+#[tactic(auto, using(crate::proofs::Forms::pointwise_is))]
 pub fn same_bytes(a: &[u8], b: &[u8]) -> bool
     requires { length a.now ≡ length b.now }
     ensures { result ≡ same_text a.now b.now }
@@ -57,6 +59,7 @@ fn profile_name_wrong(rows: &Rows) -> bool
     !(0..rows.procedures() + 1).all(|s| names_fit(rows.bytes(), rows.scope(s)))
 }
 
+#[tactic(auto, unfolding(lingua::specs::Answers::file_meaning, lingua::specs::Rules::name_wrong, crate::specs::Form::FewProcedures))]
 pub fn name_wrong(file: FileKind, rows: &Rows) -> bool
     requires { FewProcedures (file_meaning file) rows.now }
     ensures { result ≡ name_wrong (file_meaning file) rows.now }

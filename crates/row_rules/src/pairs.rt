@@ -10,6 +10,7 @@ use decoder::tables::is_kind;
 use lingua::sizes::ROW_BYTES;
 
 // Row i names a variable where the row behind it says which, and only there.
+#[tactic(auto, using(crate::proofs::Pairing::behind_last, crate::proofs::Pairing::behind_told), unfolding(lingua::specs::Rows::row_count))]
 fn pair_fits(rows: &[u8], i: usize) -> bool
     requires { 10 * i + 10 ≤ length rows.now }
     ensures { result ≡ beq (procedure_kind 0 rows.now i) (ltb (suc i) (row_count rows.now) && procedure_kind 1 rows.now (suc i)) }

@@ -9,7 +9,7 @@ use lib.Dec.{ltb}
 use lib.ListN.{length}
 use lib.Seq.{paste, length-paste}
 use borrow.Author.Tests.{ltb-true}
-use Rattle.lingua.specs.Numbers.{type_section, attribute_numbers, most_types, type_bodies_length}
+use Rattle.lingua.specs.Numbers.{type_section, attribute_numbers, most_types}
 use Rattle.lingua.specs.Errors.{record_expected}
 use Rattle.std.specs.Prelude.{Result, Ok, Err}
 use Rattle.lingua.specs.declared.errors.Error.{Error}

@@ -14,6 +14,7 @@ use lingua::sizes::{MOST_PARAMETERS, MOST_VARIABLES};
 
 // That procedures are few rule 7 has shown of the same rows, and that they are there rule 10: such facts stay clauses in this crate, since a
 // type for what each rule has shown would be one more name for those rows.
+#[tactic(auto, unfolding(lingua::specs::References::parameters_fit, lingua::specs::Rows::pair_count))]
 fn procedure_fits(rows: &Rows, k: usize) -> bool
     requires k_lt_count { k < procedure_count rows.now }
     requires few_procedures { procedure_count rows.now ≤ most_procedures }
@@ -58,6 +59,7 @@ fn calls_fit(rows: &Rows) -> bool
     (0..instructions.count).all(|r| call_fits(rows, r))
 }
 
+#[tactic(auto, unfolding(lingua::specs::References::parameters_wrong))]
 pub fn parameters_wrong(rows: &Rows) -> bool
     requires { Scoped rows.now }
     ensures { result ≡ parameters_wrong rows.now }

@@ -19,6 +19,7 @@ use decoder::rows::Rows;
 use lingua::sizes::MOST_EXPRESSIONS;
 
 // Whether a row by itself reads a variable, or else the current value.
+#[tactic(auto, unfolding(decoder::specs::Reads::reads_row, decoder::specs::Decoded::expression_meaning))]
 fn row_reads(row: ExpressionRow, variable: bool) -> bool
     ensures { (rows : List ℕ) (i : ℕ) → result ≡ reads_row variable (expression_meaning rows i row) }
 {
@@ -124,6 +125,7 @@ fn evaluated_fit(rows: &Rows, marks: &[bool; MOST_EXPRESSIONS]) -> bool
     ))
 }
 
+#[tactic(auto, using(crate::proofs::Reading::places_are))]
 pub fn place_wrong(rows: &Rows) -> bool
     requires sized { Sized rows.now }
     requires rows_value { reference_wrong rows.now ≡ false }

@@ -14,14 +14,15 @@ use decoder::fields::{a_at, b_at};
 use decoder::mentions::{all_within, evaluated, operands, parts, type_parts, yoke_root, yoke_set};
 use decoder::rows::Rows;
 
-// A declaration's second row, number i of all rows, names a type row, and with its yoke an expression row.
-fn declaration_refers(rows: &Rows, i: usize) -> bool
-    requires { 10 * i + 10 ≤ length rows.now }
-    ensures { result ≡ (ltb (a_at rows.now i) (table_count rows.now type_section) && all_below (table_count rows.now expression_section) (yoke_root (b_at rows.now i))) }
+// The second row of declaration d, of those that begin with row start, names a type row, and with its yoke an expression row.
+fn declaration_refers(rows: &Rows, start: usize, d: usize) -> bool
+    requires { 10 * (start + (2 * d + 1)) + 10 ≤ length rows.now }
+    ensures { result ≡ (ltb (a_at rows.now (start + (2 * d + 1))) (table_count rows.now type_section) && all_below (table_count rows.now expression_section) (yoke_root (b_at rows.now (start + (2 * d + 1))))) }
 {
     let bytes = rows.bytes();
     let types = rows.types();
     let expressions = rows.expressions();
+    let i = start + (2 * d + 1);
     a_at(bytes, i) < types.count && all_within(yoke_root(b_at(bytes, i)), 0, expressions.count)
 }
 
@@ -31,9 +32,8 @@ fn declarations_refer(rows: &Rows, s: usize) -> bool
     requires s_le_most { s ≤ most_procedures }
     ensures { result ≡ declarations_refer rows.now s }
 {
-    let bytes = rows.bytes();
     let own = rows.scope(s);
-    (0..own.count / 2).all(|d| declaration_refers(rows, own.start + (2 * d + 1)))
+    (0..own.count / 2).all(|d| declaration_refers(rows, own.start, d))
 }
 
 // The profile's and each procedure's.
@@ -59,6 +59,7 @@ fn expressions_refer(rows: &Rows) -> bool
 }
 
 // A call names a procedure.
+#[tactic(auto, using(crate::proofs::Calling::call_at, crate::proofs::Calling::no_call))]
 fn call_refers(row: InstructionRow, procedures: usize) -> bool
     ensures { result ≡ on_call (instruction_meaning row) (λ k b c. ltb k procedures) }
 {
@@ -69,12 +70,14 @@ fn call_refers(row: InstructionRow, procedures: usize) -> bool
 }
 
 // The expressions that an instruction evaluates, and that of a yoke that it sets.
+#[tactic(auto, using(decoder::proofs::Short::within_below, decoder::proofs::Short::all_append))]
 fn roots_refer(row: InstructionRow, expressions: usize) -> bool
     ensures { result ≡ all_below expressions (evaluated (instruction_meaning row) ++ yoke_set (instruction_meaning row)) }
 {
     all_within(evaluated(row), 0, expressions) && all_within(yoke_set(row), 0, expressions)
 }
 
+#[tactic(auto, using(decoder::proofs::Short::within_below), unfolding(lingua::specs::References::instruction_refers))]
 fn instruction_refers(rows: &Rows, r: usize) -> bool
     requires { r < table_count rows.now instruction_section }
     ensures { result ≡ instruction_refers rows.now r }
@@ -104,6 +107,7 @@ fn bodies_refer(rows: &Rows) -> bool
     (0..rows.procedures()).all(|k| rows.procedure(k).body < last)
 }
 
+#[tactic(auto, unfolding(lingua::specs::References::rows_refer))]
 fn rows_refer(rows: &Rows) -> bool
     requires { Sized rows.now }
     ensures { result ≡ rows_refer rows.now }
@@ -115,6 +119,7 @@ fn rows_refer(rows: &Rows) -> bool
         && bodies_refer(rows)
 }
 
+#[tactic(auto, unfolding(lingua::specs::References::reference_wrong))]
 pub fn reference_wrong(rows: &Rows) -> bool
     requires { Sized rows.now }
     ensures { result ≡ reference_wrong rows.now }

@@ -21,6 +21,7 @@ use decoder::decode::{Simple, TypeRow, type_at};
 use decoder::rows::Rows;
 use lingua::errors::Error;
 
+#[tactic(auto, unfolding(decoder::specs::Decoded::simple_meaning, body::specs::Typed::simple_of, lingua::specs::Encode::bytes))]
 fn simple_body(s: Simple) -> Typed
     ensures { Types (Ok result) (ok (simple_meaning s)) 0 }
 {
@@ -46,7 +47,7 @@ fn made_body(row: TypeRow, bodies: &[u8]) -> Result<Typed, Error>
     }
 }
 
-// The body of type row r, from those of lower rows.
+// The body of type row r, from those of lower rows. Decoded here, since what rows.type_row(r) promises is only what a row names.
 fn row_body(rows: &Rows, r: usize, bodies: &[u8]) -> Result<Typed, Error>
     requires { RowReady rows.now r bodies.now }
     ensures { Answers result (type_body rows.now r) }

@@ -121,6 +121,7 @@ fn instructions_once(rows: &Rows) -> bool
     all_once(&uses, instructions - 1)
 }
 
+#[tactic(auto, unfolding(lingua::specs::References::use_wrong))]
 pub fn use_wrong(rows: &Rows) -> bool
     requires { Sized rows.now }
     ensures { result ≡ use_wrong rows.now }

@@ -18,6 +18,7 @@ use lingua::sizes::{MOST_EXPRESSIONS, MOST_INSTRUCTIONS};
 use scopes::pass::{expression_scopes, instruction_scopes};
 
 // How many variables a scope has.
+#[tactic(auto, unfolding(lingua::specs::References::variables_seen, lingua::specs::Rows::pair_count))]
 fn seen(rows: &Rows, s: usize) -> usize
     requires s_le_count { s ≤ procedure_count rows.now }
     requires s_le_most { s ≤ most_procedures }
@@ -63,6 +64,7 @@ fn expressions_fit(rows: &Rows, scopes: &[u8; MOST_EXPRESSIONS]) -> bool
 }
 
 // The variable that an instruction assigns to or whose yoke it sets, and those that it gives.
+#[tactic(auto, unfolding(lingua::specs::References::variables_fit))]
 fn instruction_fits(rows: &Rows, r: usize, s: usize) -> bool
     requires scoped { Scoped rows.now }
     requires r_lt_count { r < table_count rows.now instruction_section }
@@ -83,6 +85,7 @@ fn instructions_fit(rows: &Rows, scopes: &[u8; MOST_INSTRUCTIONS]) -> bool
     (0..instructions.count).all(|r| instruction_fits(rows, r, scopes[r] as usize))
 }
 
+#[tactic(auto, unfolding(lingua::specs::References::variables_wrong))]
 pub fn variables_wrong(rows: &Rows) -> bool
     requires sized { Sized rows.now }
     requires rows_value { rows_refer rows.now ≡ true }
