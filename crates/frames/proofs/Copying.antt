@@ -22,7 +22,7 @@ use Rattle.run.specs.declared.steps.Status.{Status}
 use Rattle.run.specs.Statuses.{state_of, recorded}
 use Rattle.run.specs.Reached.{Lent}
 use Rattle.run.specs.Acting.{some_recorded, none_recorded}
-use Rattle.frames.specs.declared.way.Way.{Way}
+use Rattle.frames.specs.Ways.{Way}
 use Rattle.frames.specs.Meaning.{Context, Holds, Facing, Pair, HasFacing, Copies, AllPairs, AllBack, CopiesIn, CopiesOut}
 
 -- ---- an error, and none, as a number

@@ -2,4 +2,3 @@ pub mod Copying
 pub mod Lengths
 pub mod Ways
 pub mod Fronts
-pub mod Fresh

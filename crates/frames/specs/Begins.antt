@@ -35,8 +35,7 @@ use Rattle.run.specs.Started.{start_states, start_bodies}
 use Rattle.run.specs.Reached.{Lent, lent}
 use Rattle.run.proofs.Unfilled.{start_count, start_at, start_cells}
 use Rattle.checked_row.specs.Meaning.{Holdable}
-use Rattle.frames.specs.declared.way.Way.{Way}
-use Rattle.frames.specs.declared.way.Way.TheVariants as way
+use Rattle.frames.specs.Ways.{Way, checked, erased}
 use Rattle.frames.specs.Meaning.{Context, context, HoldsBy, Holds, procedures_in, CallableBy, Callable, FreshBy, Fresh}
 
 -- ---- memory at a scope's start
@@ -102,7 +101,7 @@ module _ {rows lims : List ℕ} {a : ℕ} {kept cells : List ℤ} {states : List
       subst (λ (v : Variable). Holdable (present_body v)) (sym (start_at rows lims a s.there n (declared i))) (record { few_cells = bounds.few_cells; few_nodes = bounds.few_nodes })
 
   pub checked_begins : (p : Profile) → {layout present : List ℕ} → layout ≡ [] → present ≡ bodies_in (scope_start rows lims a)
-      → Holds way.Checked p a (context rows layout kept) (lent cells states present) (scope_start rows lims a)
+      → Holds checked p a (context rows layout kept) (lent cells states present) (scope_start rows lims a)
   unfolding HoldsBy
   checked_begins p q b =
       record {
@@ -133,7 +132,7 @@ module _ {rows lims : List ℕ} {a : ℕ} {kept cells : List ℤ} {states : List
   pub erased_begins : {layout : List ℕ} → length layout ≡ layout_length → TypedProfile (HoldsIn layout) (profile_of rows lims)
       → ((r : ℕ) → r < table_count rows instruction_section → DerivedRow (HoldsIn layout) (λ k. scope_bodies (profile_of rows lims) (suc k)) (scope_bodies (profile_of rows lims) (instruction_scope rows r)) (instruction_tree rows r))
       → ((n : ℕ) (b : Limit) → n < length (scope_start rows lims a) → (variable_at (scope_start rows lims a) n).limit ≡ some b → is_quantity (scope_bodies (profile_of rows lims) a n) ≡ true)
-      → Holds way.Erased (profile_of rows lims) a (context rows layout kept) (lent cells states []) (scope_start rows lims a)
+      → Holds erased (profile_of rows lims) a (context rows layout kept) (lent cells states []) (scope_start rows lims a)
   unfolding HoldsBy
   erased_begins long typed derived numbers =
       record {
@@ -169,8 +168,8 @@ module _ {rows lims : List ℕ} {a : ℕ} {kept cells : List ℤ} {states : List
 -- under other limits it may be called as well
 pub callable_under : (w : Way) {p : Profile} {c : Context} {types : List ℕ} (limits : List ℤ) → Callable w p c types → Callable w p (context c.rows c.layout limits) types
 unfolding CallableBy
-callable_under way.Checked limits k = record { by = k.by }
-callable_under way.Erased limits k = record { by = k.by }
+callable_under checked limits k = record { by = k.by }
+callable_under erased limits k = record { by = k.by }
 
 -- procedure k is called from where the variables of some scope lie in memory
 pub frame_begins : (w : Way) {p : Profile} {a : ℕ} {c : Context} {types : List ℕ} {l : Lent} {vs : List Variable} → Callable w p c types → Holds w p a c l vs
@@ -178,19 +177,19 @@ pub frame_begins : (w : Way) {p : Profile} {a : ℕ} {c : Context} {types : List
     → {limits cells : List ℤ} {states bodies : List ℕ} → limits ≡ replicate limit_cells_length (pos 0) → cells ≡ replicate cells_length (pos 0) → Fresh w c.rows t states bodies
     → Holds w p (suc k) (context c.rows c.layout limits) (lent cells states bodies) (begun (procedure_at (procedures_in c.rows) k).variables)
 unfolding HoldsBy FreshBy CallableBy begun profile_of
-frame_begins way.Checked {p} {c = c} callable h k i t is {limits} {cells} {states} {bodies} e z f =
+frame_begins checked {p} {c = c} callable h k i t is {limits} {cells} {states} {bodies} e z f =
     let running = h.by.running in
     let accepted = running.world.accepted in
     checked_begins accepted (procedure_starts c.rows [] k i accepted t is e z f.yokes) p h.by.no_layout
     (start_bodies c.rows [] (suc k) i t is f.present)
-frame_begins way.Erased {p} {c = c} callable h k i t is {limits} {cells} {states} {bodies} e z f =
+frame_begins erased {p} {c = c} callable h k i t is {limits} {cells} {states} {bodies} e z f =
     let passed = callable.by in
     let running = h.by.running in
     let accepted = running.world.accepted in
     let lims = passed.limits in
     let same = passed.is in
-    subst (λ (b : List ℕ). Holds way.Erased p (suc k) (context c.rows c.layout limits) (lent cells states b) (scope_start c.rows lims (suc k))) (sym f.present)
-    (subst (λ (q : Profile). Holds way.Erased q (suc k) (context c.rows c.layout limits) (lent cells states []) (scope_start c.rows lims (suc k))) (sym same)
+    subst (λ (b : List ℕ). Holds erased p (suc k) (context c.rows c.layout limits) (lent cells states b) (scope_start c.rows lims (suc k))) (sym f.present)
+    (subst (λ (q : Profile). Holds erased q (suc k) (context c.rows c.layout limits) (lent cells states []) (scope_start c.rows lims (suc k))) (sym same)
     (erased_begins accepted (procedure_starts c.rows lims k i accepted t is e z f.yokes) running.world.long
     (subst (λ (q : Profile). TypedProfile (HoldsIn c.layout) q) same passed.typed)
     (subst

@@ -12,8 +12,7 @@ use Rattle.laws.specs.Frames.{length_bodies_in}
 use Rattle.run.specs.Reached.{Lent, lent, onto, overlaid}
 use Rattle.run.proofs.Parts.{contents_small}
 use Rattle.checked_row.proofs.Storing.{memory_of, all_compact}
-use Rattle.frames.specs.declared.way.Way.{Way}
-use Rattle.frames.specs.declared.way.Way.TheVariants as way
+use Rattle.frames.specs.Ways.{Way, checked, erased}
 use Rattle.frames.specs.Meaning.{Context, CheckedIn, ErasedIn, HoldsBy, Holds}
 
 -- ---- a list's front replaced
@@ -49,8 +48,8 @@ onto_nothing {A} xs l e = ap (λ (z : List A). take (length z) (xs ++ drop (leng
 -- ---- the memory of a scope's variables, by its parts
 -- the present bodies, which the erased run does without
 unfoldable pub BodiesAre : Way → List ℕ → List Variable → Type 0
-BodiesAre way.Checked bodies vs = (bodies ≡ bodies_in vs) × (length bodies ≡ variable_bodies_length)
-BodiesAre way.Erased bodies vs = bodies ≡ []
+BodiesAre checked bodies vs = (bodies ≡ bodies_in vs) × (length bodies ≡ variable_bodies_length)
+BodiesAre erased bodies vs = bodies ≡ []
 
 pub record Fills (w : Way) (l : Lent) (vs : List Variable) : Type 0 where
   pub cells_are : l.cells ≡ cells_in vs
@@ -73,7 +72,7 @@ length_states_in vs few =
     (let e : length (store_states vs) ≡ state_words * length vs = ap (λ (l : List ℕ). length l) (store_states_parts vs) ∙ length_parts words_of_state state_words vs (states_sized vs) in
     omega (arith, e, few))
 
-checked_fills : {c : Context} {l : Lent} {vs : List Variable} → CheckedIn c l vs → Fills way.Checked l vs
+checked_fills : {c : Context} {l : Lent} {vs : List Variable} → CheckedIn c l vs → Fills checked l vs
 unfolding BodiesAre
 checked_fills {c} {l} {vs} h =
     let s = h.running.world.stored in
@@ -86,7 +85,7 @@ checked_fills {c} {l} {vs} h =
       long_states = ap (λ (z : List ℕ). length z) s.states_are ∙ length_states_in vs s.few;
     }
 
-erased_fills : {p : Profile} {a : ℕ} {c : Context} {l : Lent} {vs : List Variable} → ErasedIn p a c l vs → Fills way.Erased l vs
+erased_fills : {p : Profile} {a : ℕ} {c : Context} {l : Lent} {vs : List Variable} → ErasedIn p a c l vs → Fills erased l vs
 unfolding BodiesAre
 erased_fills {vs = vs} h =
     let d = h.running.world in
@@ -101,14 +100,14 @@ erased_fills {vs = vs} h =
 
 pub holds_fills : (w : Way) {p : Profile} {a : ℕ} {c : Context} {l : Lent} {vs : List Variable} → Holds w p a c l vs → Fills w l vs
 unfolding HoldsBy
-holds_fills way.Checked h = checked_fills h.by
-holds_fills way.Erased h = erased_fills h.by
+holds_fills checked h = checked_fills h.by
+holds_fills erased h = erased_fills h.by
 
 -- ---- the area
 -- a call's part of the bodies: how many bytes it takes, and that there is room for it
 unfoldable pub BodiesRoom : Way → ℕ → List ℕ → Type 0
-BodiesRoom way.Checked n bodies = (n ≡ variable_bodies_length) × (variable_bodies_length ≤ length bodies)
-BodiesRoom way.Erased n bodies = bodies ≡ []
+BodiesRoom checked n bodies = (n ≡ variable_bodies_length) × (variable_bodies_length ≤ length bodies)
+BodiesRoom erased n bodies = bodies ≡ []
 
 -- what lies in the area is o's own part for the call before what the calls that it opened left of the rest
 unfoldable pub behind_front : ℕ → List (List Variable) → Lent → Lent
@@ -119,10 +118,10 @@ behind_front n os o =
 bodies_kept : (w : Way) (n : ℕ) (own bodies : List ℕ) (us : List Variable) (os : List (List Variable)) → BodiesAre w own us → BodiesRoom w n bodies
     → onto own (take n bodies ++ onto (call_bodies os) (drop n bodies)) ≡ onto (call_bodies (us ∷ os)) bodies
 unfolding BodiesAre BodiesRoom call_bodies
-bodies_kept way.Checked n own bodies us os b r =
+bodies_kept checked n own bodies us os b r =
     onto_both n own (call_bodies os) bodies (b.1 ∙ sym r.0) (omega (arith, r.0, r.1))
     ∙ ap (λ (z : List ℕ). onto (z ++ call_bodies os) bodies) b.0
-bodies_kept way.Erased n own bodies us os b r =
+bodies_kept erased n own bodies us os b r =
     let nothing : take n bodies ++ onto (call_bodies os) (drop n bodies) ≡ [] =
     ap (λ (z : List ℕ). take n z ++ onto (call_bodies os) (drop n z)) r
     ∙ ap (λ (z : List ℕ). z ++ onto (call_bodies os) (drop n [])) (take-nil n)

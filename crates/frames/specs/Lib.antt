@@ -1,3 +1,4 @@
+pub mod Ways
 pub mod Meaning
 pub mod Kept
 pub mod Begins

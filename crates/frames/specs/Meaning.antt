@@ -21,8 +21,7 @@ use Rattle.run.specs.Kept.{YokesKept, BodiesKept}
 use Rattle.run.specs.Reached.{Lent, Holding, StoredAs, Settles, Tells}
 use Rattle.checked_store.specs.Meaning.{Running as CheckedRunning}
 use Rattle.erased_row.specs.Meaning.{Running as ErasedRunning, TestRow}
-use Rattle.frames.specs.declared.way.Way.{Way}
-use Rattle.frames.specs.declared.way.Way.TheVariants as way
+use Rattle.frames.specs.Ways.{Way, checked, erased}
 
 -- ---- what is given
 -- what a run reads and does not change: the profile's rows, the layout table, and the limits of the variables that are looked at
@@ -45,8 +44,8 @@ pub record ErasedIn (p : Profile) (a : ℕ) (c : Context) (l : Lent) (vs : List 
   pub running : ErasedRunning p a c.rows c.layout c.limits l vs
 
 unfoldable pub HoldsBy : Way → Profile → ℕ → Context → Holding
-HoldsBy way.Checked p a c l vs = CheckedIn c l vs
-HoldsBy way.Erased p a c l vs = ErasedIn p a c l vs
+HoldsBy checked p a c l vs = CheckedIn c l vs
+HoldsBy erased p a c l vs = ErasedIn p a c l vs
 
 -- what a run asks of lent memory that holds the variables of scope a: 0 for the profile's, 1 + k for procedure k's
 pub record Holds (w : Way) (p : Profile) (a : ℕ) (c : Context) (l : Lent) (vs : List Variable) : Type 0 where
@@ -80,7 +79,7 @@ pub record TellsTest (w : Way) (c : Context) (l : Lent) (e : ℕ) (r : Result Bo
 -- ---- copies between two memories
 -- variable n of scope a may be given for variable m of scope b: without bodies only if they have one declared body
 abbrev pub MayGive : Way → Profile → ℕ → ℕ → ℕ → ℕ → Type 0
-MayGive w p a n b m = w ≡ way.Erased → scope_bodies p a n ≡ scope_bodies p b m
+MayGive w p a n b m = w ≡ erased → scope_bodies p a n ≡ scope_bodies p b m
 
 -- two memories of a run, from and to, with their variables; the limits of the first are not asked
 pub record Facing (w : Way) (p : Profile) (a b : ℕ) (limits : List ℤ) (from : Lent) (vs : List Variable) (c : Context) (to : Lent) (ws : List Variable) : Type 0 where
@@ -151,8 +150,8 @@ pub record WhollyPassed (p : Profile) (rows layout : List ℕ) : Type 0 where
   pub typed : TypedProfile (HoldsIn layout) p
 
 unfoldable pub CallableBy : Way → Profile → Context → List ℕ → Type 0
-CallableBy way.Checked p c types = TypesKept c.rows types
-CallableBy way.Erased p c types = WhollyPassed p c.rows c.layout
+CallableBy checked p c types = TypesKept c.rows types
+CallableBy erased p c types = WhollyPassed p c.rows c.layout
 
 pub record Callable (w : Way) (p : Profile) (c : Context) (types : List ℕ) : Type 0 where
   pub by : CallableBy w p c types
@@ -160,13 +159,13 @@ pub record Callable (w : Way) (p : Profile) (c : Context) (types : List ℕ) : T
 -- ---- a call's variables at its start
 -- room for the bodies, zeros yet, and those of the type rows; the erased run has neither
 unfoldable pub BeginsBy : Way → List ℕ → List ℕ → List ℕ → Type 0
-BeginsBy way.Checked rows types bodies = TypesKept rows types × (bodies ≡ replicate variable_bodies_length 0)
-BeginsBy way.Erased rows types bodies = bodies ≡ []
+BeginsBy checked rows types bodies = TypesKept rows types × (bodies ≡ replicate variable_bodies_length 0)
+BeginsBy erased rows types bodies = bodies ≡ []
 
 -- no body is asked of the erased run
 unfoldable pub FreshBy : Way → List ℕ → Table → List ℕ → Type 0
-FreshBy way.Checked rows t bodies = BodiesKept rows t bodies (t.count / 2)
-FreshBy way.Erased rows t bodies = bodies ≡ []
+FreshBy checked rows t bodies = BodiesKept rows t bodies (t.count / 2)
+FreshBy erased rows t bodies = bodies ≡ []
 
 pub record Fresh (w : Way) (rows : List ℕ) (t : Table) (states bodies : List ℕ) : Type 0 where
   pub yokes : YokesKept rows t states (t.count / 2)

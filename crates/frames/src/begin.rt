@@ -9,21 +9,17 @@ ghost use Rattle.frames.specs.Meaning.{BeginsBy, Fresh};
 use crate::context::Context;
 use crate::way::Way;
 use decoder::tables::Table;
-use run::bodies::keep_bodies;
 use run::memory::Memory;
 use run::start::keep_yokes;
 
-pub fn begin(context: &Context, t: Table, types: &[u8], own: &mut Memory)
+pub fn begin<W: Way>(context: &Context, t: Table, types: &[u8], own: &mut Memory)
     requires accepted_rows { AcceptedRows context.now.rows.now × HasScope context.now.rows.now t }
     requires states_value { own.old.states.now ≡ replicate states_length 0 }
-    requires begins_by { BeginsBy context.now.way context.now.rows.now types.now own.old.bodies.now }
-    ensures fresh { Fresh context.now.way context.now.rows.now t own.new.states.now own.new.bodies.now }
+    requires begins_by { BeginsBy W.way context.now.rows.now types.now own.old.bodies.now }
+    ensures fresh { Fresh W.way context.now.rows.now t own.new.states.now own.new.bodies.now }
     ensures cells_same { own.new.cells.now ≡ own.old.cells.now }
     ensures same_slices { SameSlices own.old own.new }
 {
     keep_yokes(context.rows, t, own.states);
-    match context.way {
-        Way::Checked => keep_bodies(context.rows, t, types, own.bodies),
-        Way::Erased => {}
-    }
+    W::begin_bodies(context.rows, t, types, own.bodies);
 }

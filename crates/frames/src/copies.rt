@@ -7,14 +7,14 @@ ghost use Rattle.frames.specs.Meaning.{HasFacing, AllPairs, AllBack, CopiesIn, C
 ghost use Rattle.frames.specs.Lending.{context_of};
 
 use crate::context::Context;
-use crate::leaves::copy;
+use crate::way::Way;
 use decoder::groups::group;
 use lingua::errors::Error;
 use run::memory::Memory;
 use run::steps::{Status, settled};
 
 // The variables of a field, one after the other, to the variables from first on; the first error ends it.
-pub fn copies_in(
+pub fn copies_in<W: Way>(
     context: &Context,
     from: &Memory,
     field: usize,
@@ -23,19 +23,19 @@ pub fn copies_in(
     own: &mut Memory,
     stack: &mut [i64],
 ) -> Result<(), Error>
-    requires has_facing { HasFacing context.now.way (lent_in from.now) (context_of context.now) (lent_in own.old) (length stack.old) (λ p a b vs ws. AllPairs context.now.way p a b vs ws field count first) }
+    requires has_facing { HasFacing W.way (lent_in from.now) (context_of context.now) (lent_in own.old) (length stack.old) (λ p a b vs ws. AllPairs W.way p a b vs ws field count first) }
     requires count_le_most_parameters { (count ≤ most_parameters) × (first ≤ most_parameters) }
-    ensures copies { CopiesIn context.now.way (lent_in from.now) (context_of context.now) (lent_in own.old) (lent_in own.new) field count first (number_of result) }
+    ensures copies { CopiesIn W.way (lent_in from.now) (context_of context.now) (lent_in own.old) (lent_in own.new) field count first (number_of result) }
     ensures same_slices { SameSlices own.old own.new }
 {
     for i in 0..count {
-        copy(context, from, group(field, i), own, first + i, &mut *stack)?;
+        W::copy(context, from, group(field, i), own, first + i, &mut *stack)?;
     }
     Ok(())
 }
 
 // The variables from first on, one after the other, to those of a field, unless an error is recorded; what came back before one stays.
-pub fn copies_out(
+pub fn copies_out<W: Way>(
     row: u16,
     context: &Context,
     own: &Memory,
@@ -46,9 +46,9 @@ pub fn copies_out(
     m: Status,
     stack: &mut [i64],
 ) -> Status
-    requires has_facing { HasFacing context.now.way (lent_in own.now) (context_of context.now) (lent_in memory.old) (length stack.old) (λ p a b vs ws. AllBack context.now.way p a b vs ws field count first) }
+    requires has_facing { HasFacing W.way (lent_in own.now) (context_of context.now) (lent_in memory.old) (length stack.old) (λ p a b vs ws. AllBack W.way p a b vs ws field count first) }
     requires count_le_most_parameters { (count ≤ most_parameters) × (first ≤ most_parameters) }
-    ensures copies { CopiesOut context.now.way (lent_in own.now) (context_of context.now) (lent_in memory.old) (lent_in memory.new) row field count first m result }
+    ensures copies { CopiesOut W.way (lent_in own.now) (context_of context.now) (lent_in memory.old) (lent_in memory.new) row field count first m result }
     ensures same_slices { SameSlices memory.old memory.new }
 {
     if m.error.is_some() {
@@ -56,7 +56,7 @@ pub fn copies_out(
     }
     for i in 0..count {
         let given = first + i;
-        let copied = copy(context, own, given, memory, group(field, i), &mut *stack);
+        let copied = W::copy(context, own, given, memory, group(field, i), &mut *stack);
         if copied.is_err() {
             return settled(m, copied, row);
         }

@@ -4,7 +4,8 @@
 
 pub mod area; // area.rt: an open call's variables in the area
 pub mod begin; // begin.rt: a call's variables at its start
+pub mod checked_way; // checked_way.rt: the checked run
 pub mod context; // context.rt: what a run reads
 pub mod copies; // copies.rt: a call's copies in and out
-pub mod leaves; // leaves.rt: what differs between the two ways to run
-pub mod way; // way.rt: the two ways
+pub mod erased_way; // erased_way.rt: the erased run
+pub mod way; // way.rt: what differs between the two ways to run

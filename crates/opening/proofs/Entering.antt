@@ -16,8 +16,7 @@ use Rattle.decoder.specs.Tables.{IsTable}
 use Rattle.decoder.specs.declared.tables.Table.{Table}
 use Rattle.profile.specs.Variables.{HasScope, scope_of}
 use Rattle.run.specs.Reached.{Lent, StoredAs}
-use Rattle.frames.specs.declared.way.Way.{Way}
-use Rattle.frames.specs.declared.way.Way.TheVariants as way
+use Rattle.frames.specs.Ways.{Way, checked, erased}
 use Rattle.frames.specs.Meaning.{Holds, Facing, HasFacing, AllPairs, CopiesIn, CallableBy, BeginsBy, Fresh}
 use Rattle.frames.specs.Begins.{frame_begins}
 use Rattle.opening.specs.Meaning.{Setting}
@@ -67,8 +66,8 @@ module _ {row k b c : ℕ} {w : Way} {s : Setting} {l : Lent} {room : ℕ} (h : 
   callee_begins {own} z = by w h.calls.callable.by z.bodies_are
     where
       by : (v : Way) → CallableBy v h.profile s.context s.types → ZeroBodies v own.bodies → BeginsBy v s.context.rows s.types own.bodies
-      by way.Checked f e = (f, e)
-      by way.Erased f e = e
+      by checked f e = (f, e)
+      by erased f e = e
 
 -- ---- the copies
 module _ {row k b c : ℕ} {w : Way} {s : Setting} {l own : Lent} {m n : ℕ} (count : Counted s.context.rows k m n) {t : Table} (is : IsTable s.context.rows (variable_table k) t)

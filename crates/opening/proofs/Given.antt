@@ -25,8 +25,7 @@ use Rattle.decoder.specs.declared.decode.InstructionRow.TheVariants as does
 use Rattle.decoder.specs.declared.tables.Procedure.{Procedure}
 use Rattle.profile.specs.Facts.{CallFacts, call_facts, InstructionFacts, instruction_row_tree, instruction_row_tree_lem}
 use Rattle.run.specs.Reached.{Lent}
-use Rattle.frames.specs.declared.way.Way.{Way}
-use Rattle.frames.specs.declared.way.Way.TheVariants as way
+use Rattle.frames.specs.Ways.{Way, checked, erased}
 use Rattle.frames.specs.Meaning.{Context, ErasedIn, HoldsBy, Holds, Pair, AllPairs, AllBack}
 use Rattle.opening.specs.Meaning.{Under, CallAt}
 use Rattle.opening.specs.Calls.{given_all}
@@ -107,14 +106,14 @@ module _ {row k b c : ℕ} {w : Way} {p : Profile} {a : ℕ} {x : Context} {l : 
       omega (arith, length-append (given_values x.rows k b) (given_references x.rows k c), given_values_lem x.rows accepted k b f.procedure, given_references_lem x.rows accepted k c f.procedure, f.parameters.within)
 
   -- the type check passed the row
-  given_fit_lem : w ≡ way.Erased → given_fit (scope_bodies p a) (given_all x.rows k b c) (scope_bodies p (suc k)) 0 ≡ true
+  given_fit_lem : w ≡ erased → given_fit (scope_bodies p a) (given_all x.rows k b c) (scope_bodies p (suc k)) 0 ≡ true
   unfolding HoldsBy DerivedRow
   given_fit_lem e =
       let held : ErasedIn p a x l vs = subst (λ (v : Way). HoldsBy v p a x l vs) e h.by in
       subst (λ (i : Instruction). DerivedRow (HoldsIn x.layout) (λ j. scope_bodies p (suc j)) (scope_bodies p a) i) tree_is
       (subst (λ (s : ℕ). DerivedRow (HoldsIn x.layout) (λ j. scope_bodies p (suc j)) (scope_bodies p s) (instruction_tree x.rows row)) at_scope (held.running.passed_rows row there))
 
-  given_same : w ≡ way.Erased → (j : ℕ) → j < length (given_all x.rows k b c) → scope_bodies p a (get_or (given_all x.rows k b c) j 0) ≡ scope_bodies p (suc k) j
+  given_same : w ≡ erased → (j : ℕ) → j < length (given_all x.rows k b c) → scope_bodies p a (get_or (given_all x.rows k b c) j 0) ≡ scope_bodies p (suc k) j
   given_same e j i =
       given_body (scope_bodies p a) (scope_bodies p (suc k)) (given_all x.rows k b c) 0 (given_fit_lem e) j i
       ∙ ap (scope_bodies p (suc k)) (let q : 0 + j ≡ j = omega arith in q)

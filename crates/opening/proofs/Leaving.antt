@@ -20,8 +20,7 @@ use Rattle.run.specs.declared.steps.Status.{Status}
 use Rattle.run.specs.Statuses.{state_of, progress_of}
 use Rattle.run.specs.Reached.{Lent, lent, onto, overlaid, Reached}
 use Rattle.run.specs.Acting.{still_going, overlaid_none, area_stays}
-use Rattle.frames.specs.declared.way.Way.{Way}
-use Rattle.frames.specs.declared.way.Way.TheVariants as way
+use Rattle.frames.specs.Ways.{Way, checked, erased}
 use Rattle.frames.specs.Meaning.{Context, Holds, Facing, HasFacing, AllBack, CopiesOut}
 use Rattle.frames.specs.Kept.{BodiesAre, Fills, holds_fills, BodiesRoom, behind_front, area_kept}
 use Rattle.opening.specs.Meaning.{AreaBodies}
@@ -43,13 +42,13 @@ front_fits n l r h = omega (arith, length-append (take n l) r, length-take-le n 
 
 bodies_room : (w : Way) (n : ℕ) (bodies : List ℕ) → AreaBodies w (suc n) bodies → BodiesRoom w (bodies_of_call w) bodies
 unfolding AreaBodies BodiesRoom
-bodies_room way.Checked n bodies e = (refl, omega (arith, e))
-bodies_room way.Erased n bodies e = e
+bodies_room checked n bodies e = (refl, omega (arith, e))
+bodies_room erased n bodies e = e
 
 bodies_fit : (w : Way) (n : ℕ) (own bodies r : List ℕ) (us : List Variable) → BodiesAre w own us → AreaBodies w (suc n) bodies → length own ≤ length (take (bodies_of_call w) bodies ++ r)
 unfolding BodiesAre AreaBodies
-bodies_fit way.Checked n own bodies r us b e = omega (arith, b.1, front_fits variable_bodies_length bodies r (omega (arith, e)))
-bodies_fit way.Erased n own bodies r us b e = omega (arith, ap (λ (xs : List ℕ). length xs) b)
+bodies_fit checked n own bodies r us b e = omega (arith, b.1, front_fits variable_bodies_length bodies r (omega (arith, e)))
+bodies_fit erased n own bodies r us b e = omega (arith, ap (λ (xs : List ℕ). length xs) b)
 
 -- ---- the body's end
 module _ {row k b c : ℕ} {w : Way} {p : Profile} {a n : ℕ} {x : Context} {o own l area : Lent} {vs : List Variable} {ended : Status} {q : Progress}

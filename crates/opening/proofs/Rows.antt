@@ -32,8 +32,7 @@ use Rattle.run.specs.Statuses.{state_of}
 use Rattle.run.specs.Reached.{Lent, Reached}
 use Rattle.run.specs.Acting.{reaches_as}
 use Rattle.erased_store.specs.Meaning.{AssignRow, YokeRow}
-use Rattle.frames.specs.declared.way.Way.{Way}
-use Rattle.frames.specs.declared.way.Way.TheVariants as way
+use Rattle.frames.specs.Ways.{Way, checked, erased}
 use Rattle.frames.specs.Meaning.{Context, HoldsBy, Holds}
 use Rattle.opening.specs.Meaning.{Under, AskedLeaf, Means, ExecutesLeaf}
 
@@ -41,8 +40,8 @@ use Rattle.opening.specs.Meaning.{Under, AskedLeaf, Means, ExecutesLeaf}
 module _ {p : Profile} {a : ℕ} {c : Context} {l : Lent} {vs : List Variable} where
   pub holds_accepted : (w : Way) → Holds w p a c l vs → AcceptedRows c.rows
   unfolding HoldsBy
-  holds_accepted way.Checked h = h.by.running.world.accepted
-  holds_accepted way.Erased h = h.by.running.world.accepted
+  holds_accepted checked h = h.by.running.world.accepted
+  holds_accepted erased h = h.by.running.world.accepted
 
 -- what the code read of a row, once its kind is told
 pub meant_as : {rows : List ℕ} {row : ℕ} {c d : InstructionRow} → c ≡ d → instruction_meaning c ≡ instruction_row rows row → Means rows row d

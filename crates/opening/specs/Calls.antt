@@ -10,8 +10,7 @@ use Rattle.lingua.specs.Trees.{given_values, given_references}
 use Rattle.run.specs.declared.steps.Status.{Status}
 use Rattle.run.specs.Statuses.{state_of}
 use Rattle.run.specs.Reached.{Lent, lent, StoredAs, Reached}
-use Rattle.frames.specs.declared.way.Way.{Way}
-use Rattle.frames.specs.declared.way.Way.TheVariants as way
+use Rattle.frames.specs.Ways.{Way, checked, erased}
 use Rattle.frames.specs.Meaning.{Context, context, Holds, procedures_in, Callable}
 use Rattle.opening.specs.Meaning.{Setting, Under, AreaOf, CallAt}
 
@@ -49,8 +48,8 @@ pub record Calling (row k b c : ℕ) (w : Way) (s : Setting) (l : Lent) (room : 
 
 -- memory for a call's variables
 unfoldable pub ZeroBodies : Way → List ℕ → Type 0
-ZeroBodies way.Checked bodies = bodies ≡ replicate variable_bodies_length 0
-ZeroBodies way.Erased bodies = bodies ≡ []
+ZeroBodies checked bodies = bodies ≡ replicate variable_bodies_length 0
+ZeroBodies erased bodies = bodies ≡ []
 
 pub record ZerosBy (w : Way) (l : Lent) : Type 0 where
   pub cells_are : l.cells ≡ replicate cells_length (pos 0)
@@ -75,8 +74,8 @@ with_rest n o r = lent (take cells_length o.cells ++ r.cells) (take states_lengt
 
 -- how many bytes a call's present bodies take
 abbrev pub bodies_of_call : Way → ℕ
-bodies_of_call way.Checked = variable_bodies_length
-bodies_of_call way.Erased = 0
+bodies_of_call checked = variable_bodies_length
+bodies_of_call erased = 0
 
 -- the caller's variables in memory, the body's where it ended, and the area as it left it
 pub record Left (row k b c : ℕ) (w : Way) (p : Profile) (a n : ℕ) (x : Context) (o own l area : Lent) (vs : List Variable) (ended : Status) (q : Progress) : Type 0 where

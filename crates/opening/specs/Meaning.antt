@@ -15,8 +15,7 @@ use Rattle.decoder.specs.Decoded.{instruction_meaning}
 use Rattle.run.specs.declared.steps.Status.{Status}
 use Rattle.run.specs.Statuses.{state_of}
 use Rattle.run.specs.Reached.{Lent, Going, Reached}
-use Rattle.frames.specs.declared.way.Way.{Way}
-use Rattle.frames.specs.declared.way.Way.TheVariants as way
+use Rattle.frames.specs.Ways.{Way, checked, erased}
 use Rattle.frames.specs.Meaning.{Context, context, Holds}
 use Rattle.frames.specs.Lending.{context_of}
 use Rattle.opening.specs.declared.setting.Setting.{Setting as SettingRead}
@@ -36,8 +35,8 @@ setting_of s = record { context = context_of s.context; types = s.types.now }
 
 -- ---- the area for the calls that may still be opened
 unfoldable pub AreaBodies : Way → ℕ → List ℕ → Type 0
-AreaBodies way.Checked n bodies = length bodies ≡ variable_bodies_length * n
-AreaBodies way.Erased n bodies = bodies ≡ []
+AreaBodies checked n bodies = length bodies ≡ variable_bodies_length * n
+AreaBodies erased n bodies = bodies ≡ []
 
 -- room for n of them
 pub record AreaOf (w : Way) (n : ℕ) (o : Lent) : Type 0 where

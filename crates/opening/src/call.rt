@@ -13,22 +13,23 @@ use frames::area::keep_open;
 use frames::begin::begin;
 use frames::context::Context;
 use frames::copies::{copies_in, copies_out};
+use frames::way::Way;
 use lingua::errors::Error;
 use lingua::sizes::LIMIT_CELLS_LENGTH;
 use run::memory::Memory;
 use run::steps::Status;
 
 // The procedure's variables begin, and take those that are given, values first; a procedure's variables have no limits.
-pub fn enter(
+pub fn enter<W: Way>(
     call: CallRow,
     setting: &Setting,
     memory: &Memory,
     own: &mut Memory,
     stack: &mut [i64],
 ) -> Result<(), Error>
-    requires calling { Calling call.row call.procedure call.values call.references setting.now.context.way (setting_of setting.now) (lent_in memory.now) (length stack.old) }
-    requires zeros_by { ZerosBy setting.now.context.way (lent_in own.old) }
-    ensures enters { Enters call.row call.procedure call.values call.references setting.now.context.way (setting_of setting.now) (lent_in memory.now) (lent_in own.new) (number_of result) }
+    requires calling { Calling call.row call.procedure call.values call.references W.way (setting_of setting.now) (lent_in memory.now) (length stack.old) }
+    requires zeros_by { ZerosBy W.way (lent_in own.old) }
+    ensures enters { Enters call.row call.procedure call.values call.references W.way (setting_of setting.now) (lent_in memory.now) (lent_in own.new) (number_of result) }
     ensures same_slices { SameSlices own.old own.new }
 {
     let none = [0i64; LIMIT_CELLS_LENGTH];
@@ -41,9 +42,9 @@ pub fn enter(
     let values = given(procedure.values);
     let references = given(procedure.references);
     let variables = rows.variables(call.procedure);
-    begin(&context, variables, setting.types, own);
-    copies_in(&context, memory, call.values, values, 0, own, &mut *stack)?;
-    copies_in(
+    begin::<W>(&context, variables, setting.types, own);
+    copies_in::<W>(&context, memory, call.values, values, 0, own, &mut *stack)?;
+    copies_in::<W>(
         &context,
         memory,
         call.references,
@@ -55,7 +56,7 @@ pub fn enter(
 }
 
 // A body's end: its variables stay open where the run is out of budget, or those that were given by reference come back.
-pub fn leave(
+pub fn leave<W: Way>(
     call: CallRow,
     setting: &Setting,
     own: &Memory,
@@ -64,8 +65,8 @@ pub fn leave(
     ended: Status,
     stack: &mut [i64],
 ) -> Status
-    requires { Leaving call.row call.procedure call.references setting.now.context.way (context_of setting.now.context) (lent_in own.now) (lent_in memory.old) (lent_in area.old) ended (length stack.old) }
-    ensures leaves { Leaves call.row call.procedure call.references setting.now.context.way (context_of setting.now.context) (lent_in own.now) (lent_in memory.old) (lent_in area.old) (lent_in memory.new) (lent_in area.new) ended result }
+    requires { Leaving call.row call.procedure call.references W.way (context_of setting.now.context) (lent_in own.now) (lent_in memory.old) (lent_in area.old) ended (length stack.old) }
+    ensures leaves { Leaves call.row call.procedure call.references W.way (context_of setting.now.context) (lent_in own.now) (lent_in memory.old) (lent_in area.old) (lent_in memory.new) (lent_in area.new) ended result }
     ensures same_slices { SameSlices memory.old memory.new × SameSlices area.old area.new }
 {
     if ended.out {
@@ -77,7 +78,7 @@ pub fn leave(
     let procedure = rows.procedure(call.procedure);
     let values = given(procedure.values);
     let references = given(procedure.references);
-    copies_out(
+    copies_out::<W>(
         call.row as u16,
         context,
         own,

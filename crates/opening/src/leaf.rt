@@ -7,7 +7,7 @@ ghost use Rattle.frames.specs.Lending.{context_of};
 ghost use Rattle.opening.specs.Meaning.{AskedLeaf, AssignAt, SetYokeAt, ExecutesLeaf};
 
 use crate::setting::Setting;
-use frames::leaves::{assign, change_yoke};
+use frames::way::Way;
 use run::memory::Memory;
 use run::steps::{Status, settled, stepped};
 
@@ -23,7 +23,7 @@ pub fn skip(m: Status) -> Status
 
 // Variable n takes what expression row e gives. Drawn into the walk, as its kind is most of what a program does.
 #[inline(always)]
-pub fn assignment(
+pub fn assignment<W: Way>(
     row: usize,
     n: usize,
     e: usize,
@@ -32,9 +32,9 @@ pub fn assignment(
     m: Status,
     stack: &mut [i64],
 ) -> Status
-    requires asked_leaf { AskedLeaf row setting.now.context.way (context_of setting.now.context) (lent_in memory.old) m (length stack.old) }
+    requires asked_leaf { AskedLeaf row W.way (context_of setting.now.context) (lent_in memory.old) m (length stack.old) }
     requires assign_at { AssignAt setting.now.context.rows.now row n e }
-    ensures executes { ExecutesLeaf row setting.now.context.way (context_of setting.now.context) (lent_in memory.old) (lent_in memory.new) m result }
+    ensures executes { ExecutesLeaf row W.way (context_of setting.now.context) (lent_in memory.old) (lent_in memory.new) m result }
     ensures same_slices { SameSlices memory.old memory.new }
 {
     if m.error.is_some() {
@@ -44,12 +44,12 @@ pub fn assignment(
     if taken.out {
         return taken;
     }
-    let stored = assign(&setting.context, memory, n, e, stack);
+    let stored = W::assign(&setting.context, memory, n, e, stack);
     settled(taken, stored, row as u16)
 }
 
 // Variable n's yoke becomes y.
-pub fn yoke_change(
+pub fn yoke_change<W: Way>(
     row: usize,
     n: usize,
     y: usize,
@@ -58,9 +58,9 @@ pub fn yoke_change(
     m: Status,
     stack: &mut [i64],
 ) -> Status
-    requires asked_leaf { AskedLeaf row setting.now.context.way (context_of setting.now.context) (lent_in memory.old) m (length stack.old) }
+    requires asked_leaf { AskedLeaf row W.way (context_of setting.now.context) (lent_in memory.old) m (length stack.old) }
     requires set_yoke_at { SetYokeAt setting.now.context.rows.now row n y }
-    ensures executes { ExecutesLeaf row setting.now.context.way (context_of setting.now.context) (lent_in memory.old) (lent_in memory.new) m result }
+    ensures executes { ExecutesLeaf row W.way (context_of setting.now.context) (lent_in memory.old) (lent_in memory.new) m result }
     ensures cells_same { memory.new.cells.now ≡ memory.old.cells.now }
     ensures bodies_same { memory.new.bodies.now ≡ memory.old.bodies.now }
     ensures same_slices { SameSlices memory.old memory.new }
@@ -72,6 +72,6 @@ pub fn yoke_change(
     if taken.out {
         return taken;
     }
-    let changed = change_yoke(&setting.context, memory, n, y as u16, stack);
+    let changed = W::change_yoke(&setting.context, memory, n, y as u16, stack);
     settled(taken, changed, row as u16)
 }

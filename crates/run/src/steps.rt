@@ -19,9 +19,8 @@ pub struct Status {
 pub fn fresh(budget: u16) -> Status
     ensures { result ≡ record { error = None; left = budget; out = false } }
 {
-    let nothing = None;
     Status {
-        error: nothing,
+        error: None,
         left: budget,
         out: false,
     }

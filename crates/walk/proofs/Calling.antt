@@ -23,8 +23,7 @@ use Rattle.run.specs.declared.steps.Status.{Status}
 use Rattle.run.specs.Statuses.{state_of, StepOf, recorded}
 use Rattle.run.specs.Reached.{Lent, Holding, Going, Reached}
 use Rattle.run.specs.Acting.{passed_over, act_out, act_on, stays, reaches_as, settles}
-use Rattle.frames.specs.declared.way.Way.{Way}
-use Rattle.frames.specs.declared.way.Way.TheVariants as way
+use Rattle.frames.specs.Ways.{Way, checked, erased}
 use Rattle.frames.specs.Meaning.{Context, procedures_in, CallableBy, Callable}
 use Rattle.opening.specs.Meaning.{AreaBodies, AreaOf}
 use Rattle.opening.specs.Calls.{unlimited, fresh_of, given_all, rest, bodies_of_call}
@@ -93,16 +92,16 @@ module _ (rows : List ℕ) (n row k b c : ℕ) (m : Status) (vs : List Variable)
 -- ---- what the body asks
 callable_way : (w : Way) (p : Profile) (c : Context) (types : List ℕ) → CallableBy w p c types → CallableBy w p (unlimited c) types
 unfolding CallableBy
-callable_way way.Checked p c types x = x
-callable_way way.Erased p c types x = x
+callable_way checked p c types x = x
+callable_way erased p c types x = x
 
 pub callable_unlimited : {w : Way} {p : Profile} {c : Context} {types : List ℕ} → Callable w p c types → Callable w p (unlimited c) types
 callable_unlimited {w} {p} {c} {types} h = record { by = callable_way w p c types h.by }
 
 rest_bodies : (w : Way) (n : ℕ) (bodies : List ℕ) → AreaBodies w (suc n) bodies → AreaBodies w n (drop (bodies_of_call w) bodies)
 unfolding AreaBodies
-rest_bodies way.Checked n bodies e = length-drop variable_bodies_length bodies ∙ (let z : length bodies - variable_bodies_length ≡ variable_bodies_length * n = omega (arith, e) in z)
-rest_bodies way.Erased n bodies e = e
+rest_bodies checked n bodies e = length-drop variable_bodies_length bodies ∙ (let z : length bodies - variable_bodies_length ≡ variable_bodies_length * n = omega (arith, e) in z)
+rest_bodies erased n bodies e = e
 
 pub rest_area : {w : Way} {n : ℕ} {o : Lent} → AreaOf w (suc n) o → AreaOf w n (rest (bodies_of_call w) o)
 unfolding rest

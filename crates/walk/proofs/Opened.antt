@@ -26,8 +26,7 @@ use Rattle.run.specs.declared.steps.Status.{Status}
 use Rattle.run.specs.Statuses.{state_of, recorded}
 use Rattle.run.specs.Reached.{Lent, lent, Holding, Going, StoredAs, Reached}
 use Rattle.run.specs.Acting.{reaches_as}
-use Rattle.frames.specs.declared.way.Way.{Way}
-use Rattle.frames.specs.declared.way.Way.TheVariants as way
+use Rattle.frames.specs.Ways.{Way, checked, erased}
 use Rattle.frames.specs.Meaning.{Holds}
 use Rattle.frames.specs.Kept.{BodiesAre, holds_fills}
 use Rattle.frames.proofs.Copying.{fault_number}
@@ -52,12 +51,12 @@ too_deep_at rows vs h (suc n) a z r s row k ns rs e q = absurd (let b : ⊥ = om
 -- ---- the bodies of a scope's variables
 bodies_by : (w : Way) (bodies : List ℕ) (vs : List Variable) → BodiesAre w bodies vs → length bodies ≡ bodies_of_call w
 unfolding BodiesAre
-bodies_by way.Checked bodies vs h = h.1
-bodies_by way.Erased bodies vs h = ap length h
+bodies_by checked bodies vs h = h.1
+bodies_by erased bodies vs h = ap length h
 
 few_bodies : (w : Way) → bodies_of_call w ≤ variable_bodies_length
-few_bodies way.Checked = omega arith
-few_bodies way.Erased = omega arith
+few_bodies checked = omega arith
+few_bodies erased = omega arith
 
 -- what lies behind a list's front, lent and come back
 nothing_left : {A : Type 0} (xs : List A) (n : ℕ) → drop (length xs - n) (drop n xs) ≡ []
@@ -88,13 +87,13 @@ area_behind o after n m e =
 
 zero_front : (w : Way) (bodies : List ℕ) → bodies ≡ replicate variable_bodies_length 0 → ZeroBodies w (take (bodies_of_call w) bodies)
 unfolding ZeroBodies
-zero_front way.Checked bodies e = ap (take variable_bodies_length) e
-zero_front way.Erased bodies e = ap (take 0) e
+zero_front checked bodies e = ap (take variable_bodies_length) e
+zero_front erased bodies e = ap (take 0) e
 
 area_bodies : (w : Way) (n : ℕ) (bodies : List ℕ) → AreaBodies w (suc n) bodies → bodies_of_call w ≤ length bodies
 unfolding AreaBodies
-area_bodies way.Checked n bodies e = omega (arith, e)
-area_bodies way.Erased n bodies e = omega arith
+area_bodies checked n bodies e = omega (arith, e)
+area_bodies erased n bodies e = omega arith
 
 -- the same of other names for it
 pub ran_as : {i j : ℕ} {w : Way} {s : Setting} {l own o before after free : Lent} {m r : Status} → i ≡ j → l ≡ own → o ≡ before → Executes i w s l o after free m r → Executes j w s own before after free m r

@@ -21,7 +21,7 @@ use Rattle.run.specs.Statuses.{state_of}
 use Rattle.run.specs.Reached.{Lent, Going, Reached}
 use Rattle.run.specs.Acting.{reaches_as, area_stays}
 use Rattle.erased_row.specs.Meaning.{Tests, TestRow}
-use Rattle.frames.specs.declared.way.Way.{Way}
+use Rattle.frames.specs.Ways.{Way}
 use Rattle.frames.specs.Meaning.{Holds}
 use Rattle.opening.specs.Meaning.{Setting, AreaOf, AskedLeaf, Means, ExecutesLeaf}
 use Rattle.opening.proofs.Rows.{holds_accepted, scope_is, part_under, row_known, row_narrow, row_facts, tree}

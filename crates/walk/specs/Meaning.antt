@@ -9,7 +9,7 @@ use Rattle.decoder.specs.declared.decode.InstructionRow.TheVariants as does
 use Rattle.run.specs.declared.steps.Status.{Status}
 use Rattle.run.specs.Statuses.{state_of}
 use Rattle.run.specs.Reached.{Lent, Going, Reached}
-use Rattle.frames.specs.declared.way.Way.{Way}
+use Rattle.frames.specs.Ways.{Way}
 use Rattle.frames.specs.Meaning.{Holds, procedures_in, Callable}
 use Rattle.opening.specs.Meaning.{Setting, AreaOf, Under, Means, CallAt}
 

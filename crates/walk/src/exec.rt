@@ -9,7 +9,7 @@ ghost use Rattle.walk.specs.Meaning.{Asked, BranchAt, LoopAt, HandleAt, Executes
 
 use decoder::decode::InstructionRow;
 use frames::context::Context;
-use frames::leaves::test;
+use frames::way::Way;
 use lingua::errors::Error;
 use lingua::sizes::{CELLS_LENGTH, LIMIT_CELLS_LENGTH, STATES_LENGTH, VARIABLE_BODIES_LENGTH};
 use opening::call::{enter, leave};
@@ -21,7 +21,7 @@ use run::steps::{Status, cleared, has_error, settled, stepped};
 
 // The instruction of a row.
 #[cycle(instructions)]
-pub fn exec(
+pub fn exec<W: Way>(
     row: usize,
     setting: &Setting,
     memory: &mut Memory,
@@ -29,25 +29,25 @@ pub fn exec(
     m: Status,
     stack: &mut [i64],
 ) -> Status
-    requires { Asked row setting.now.context.way (setting_of setting.now) (lent_in memory.old) (lent_in area.old) m (length stack.old) }
-    ensures executes { Executes row setting.now.context.way (setting_of setting.now) (lent_in memory.old) (lent_in area.old) (lent_in memory.new) (lent_in area.new) m result }
+    requires { Asked row W.way (setting_of setting.now) (lent_in memory.old) (lent_in area.old) m (length stack.old) }
+    ensures executes { Executes row W.way (setting_of setting.now) (lent_in memory.old) (lent_in area.old) (lent_in memory.new) (lent_in area.new) m result }
     ensures same_slices { SameSlices memory.old memory.new × SameSlices area.old area.new }
 {
     let says = instruction_row(setting.context.rows, row);
     match says {
         InstructionRow::Skip => skip(m),
-        InstructionRow::Assign(n, e) => assignment(row, n, e, setting, memory, m, stack),
-        InstructionRow::SetYoke(n, y) => yoke_change(row, n, y, setting, memory, m, stack),
+        InstructionRow::Assign(n, e) => assignment::<W>(row, n, e, setting, memory, m, stack),
+        InstructionRow::SetYoke(n, y) => yoke_change::<W>(row, n, y, setting, memory, m, stack),
         InstructionRow::Sequence(i, j) => {
-            let first = exec(i, setting, memory, area, m, &mut *stack);
+            let first = exec::<W>(i, setting, memory, area, m, &mut *stack);
             if first.out {
                 return first;
             }
-            exec(j, setting, memory, area, first, stack)
+            exec::<W>(j, setting, memory, area, first, stack)
         }
-        InstructionRow::Branch(e, i, j) => branch(row, e, i, j, setting, memory, area, m, stack),
-        InstructionRow::Loop(e, i) => turns(row, e, i, setting, memory, area, m, stack),
-        InstructionRow::Handle(n, i) => handle(row, n, i, setting, memory, area, m, stack),
+        InstructionRow::Branch(e, i, j) => branch::<W>(row, e, i, j, setting, memory, area, m, stack),
+        InstructionRow::Loop(e, i) => turns::<W>(row, e, i, setting, memory, area, m, stack),
+        InstructionRow::Handle(n, i) => handle::<W>(row, n, i, setting, memory, area, m, stack),
         // The call stands here twice, so that a compiler keeps it a function of its own, and its arrays out of each level's frame.
         InstructionRow::Call(procedure, values, references) => {
             let of = CallRow {
@@ -57,16 +57,16 @@ pub fn exec(
                 references,
             };
             if m.out {
-                return call(of, setting, memory, area, m, stack);
+                return call::<W>(of, setting, memory, area, m, stack);
             }
-            call(of, setting, memory, area, m, stack)
+            call::<W>(of, setting, memory, area, m, stack)
         }
     }
 }
 
 // One of two instructions, by a test.
 #[cycle(instructions)]
-fn branch(
+fn branch<W: Way>(
     row: usize,
     e: usize,
     i: usize,
@@ -77,9 +77,9 @@ fn branch(
     m: Status,
     stack: &mut [i64],
 ) -> Status
-    requires asked { Asked row setting.now.context.way (setting_of setting.now) (lent_in memory.old) (lent_in area.old) m (length stack.old) }
+    requires asked { Asked row W.way (setting_of setting.now) (lent_in memory.old) (lent_in area.old) m (length stack.old) }
     requires branch_at { BranchAt setting.now.context.rows.now row e i j }
-    ensures executes { Executes row setting.now.context.way (setting_of setting.now) (lent_in memory.old) (lent_in area.old) (lent_in memory.new) (lent_in area.new) m result }
+    ensures executes { Executes row W.way (setting_of setting.now) (lent_in memory.old) (lent_in area.old) (lent_in memory.new) (lent_in area.new) m result }
     ensures same_slices { SameSlices memory.old memory.new × SameSlices area.old area.new }
 {
     if m.error.is_some() {
@@ -89,17 +89,17 @@ fn branch(
     if taken.out {
         return taken;
     }
-    let told = test(&setting.context, memory, e, &mut *stack);
+    let told = W::test(&setting.context, memory, e, &mut *stack);
     match told {
-        Ok(true) => exec(i, setting, memory, area, taken, stack),
-        Ok(false) => exec(j, setting, memory, area, taken, stack),
+        Ok(true) => exec::<W>(i, setting, memory, area, taken, stack),
+        Ok(false) => exec::<W>(j, setting, memory, area, taken, stack),
         Err(error) => settled(taken, Err(error), row as u16),
     }
 }
 
 // Each turn's test takes a step, the last one too: the steps that are left bound the turns, and the `while` counts nothing.
 #[cycle(instructions)]
-fn turns(
+fn turns<W: Way>(
     row: usize,
     e: usize,
     i: usize,
@@ -109,9 +109,9 @@ fn turns(
     m: Status,
     stack: &mut [i64],
 ) -> Status
-    requires asked { Asked row setting.now.context.way (setting_of setting.now) (lent_in memory.old) (lent_in area.old) m (length stack.old) }
+    requires asked { Asked row W.way (setting_of setting.now) (lent_in memory.old) (lent_in area.old) m (length stack.old) }
     requires loop_at { LoopAt setting.now.context.rows.now row e i }
-    ensures executes { Executes row setting.now.context.way (setting_of setting.now) (lent_in memory.old) (lent_in area.old) (lent_in memory.new) (lent_in area.new) m result }
+    ensures executes { Executes row W.way (setting_of setting.now) (lent_in memory.old) (lent_in area.old) (lent_in memory.new) (lent_in area.new) m result }
     ensures same_slices { SameSlices memory.old memory.new × SameSlices area.old area.new }
 {
     let mut at = m;
@@ -120,13 +120,13 @@ fn turns(
         if taken.out {
             return taken;
         }
-        let told = test(&setting.context, memory, e, &mut *stack);
+        let told = W::test(&setting.context, memory, e, &mut *stack);
         match told {
             Ok(true) => {}
             Ok(false) => return taken,
             Err(error) => return settled(taken, Err(error), row as u16),
         }
-        at = exec(i, setting, memory, area, taken, &mut *stack);
+        at = exec::<W>(i, setting, memory, area, taken, &mut *stack);
         if at.out {
             return at;
         }
@@ -136,7 +136,7 @@ fn turns(
 
 // A handler takes its step whether or not an error is recorded.
 #[cycle(instructions)]
-fn handle(
+fn handle<W: Way>(
     row: usize,
     n: usize,
     i: usize,
@@ -146,9 +146,9 @@ fn handle(
     m: Status,
     stack: &mut [i64],
 ) -> Status
-    requires asked { Asked row setting.now.context.way (setting_of setting.now) (lent_in memory.old) (lent_in area.old) m (length stack.old) }
+    requires asked { Asked row W.way (setting_of setting.now) (lent_in memory.old) (lent_in area.old) m (length stack.old) }
     requires handle_at { HandleAt setting.now.context.rows.now row n i }
-    ensures executes { Executes row setting.now.context.way (setting_of setting.now) (lent_in memory.old) (lent_in area.old) (lent_in memory.new) (lent_in area.new) m result }
+    ensures executes { Executes row W.way (setting_of setting.now) (lent_in memory.old) (lent_in area.old) (lent_in memory.new) (lent_in area.new) m result }
     ensures same_slices { SameSlices memory.old memory.new × SameSlices area.old area.new }
 {
     let taken = stepped(m);
@@ -158,12 +158,12 @@ fn handle(
     if !has_error(taken, n) {
         return taken;
     }
-    exec(i, setting, memory, area, cleared(taken), stack)
+    exec::<W>(i, setting, memory, area, cleared(taken), stack)
 }
 
 // A call takes its step; where no more may be open, it is too deep before any copy.
 #[cycle(instructions)]
-fn call(
+fn call<W: Way>(
     of: CallRow,
     setting: &Setting,
     memory: &mut Memory,
@@ -171,9 +171,9 @@ fn call(
     m: Status,
     stack: &mut [i64],
 ) -> Status
-    requires asked { Asked of.row setting.now.context.way (setting_of setting.now) (lent_in memory.old) (lent_in area.old) m (length stack.old) }
+    requires asked { Asked of.row W.way (setting_of setting.now) (lent_in memory.old) (lent_in area.old) m (length stack.old) }
     requires call_at { CallAt setting.now.context.rows.now of.row of.procedure of.values of.references }
-    ensures executes { Executes of.row setting.now.context.way (setting_of setting.now) (lent_in memory.old) (lent_in area.old) (lent_in memory.new) (lent_in area.new) m result }
+    ensures executes { Executes of.row W.way (setting_of setting.now) (lent_in memory.old) (lent_in area.old) (lent_in memory.new) (lent_in area.new) m result }
     ensures same_slices { SameSlices memory.old memory.new × SameSlices area.old area.new }
 {
     if m.error.is_some() {
@@ -195,13 +195,13 @@ fn call(
         cells: &mut own_cells,
         states: &mut own_states,
     };
-    opened(of, &mut own, setting, memory, area, taken, stack)
+    opened::<W>(of, &mut own, setting, memory, area, taken, stack)
 }
 
 // Its variables are copied in, its body runs on them, and what was given by reference comes back, or they stay open.
 #[cycle(instructions)]
 #[inline(always)]
-fn opened(
+fn opened<W: Way>(
     of: CallRow,
     own: &mut Memory,
     setting: &Setting,
@@ -210,19 +210,19 @@ fn opened(
     m: Status,
     stack: &mut [i64],
 ) -> Status
-    requires opening { Opening of.row of.procedure of.values of.references setting.now.context.way (setting_of setting.now) (lent_in memory.old) (lent_in area.old) m (length stack.old) }
-    requires zeros { ZerosBy setting.now.context.way (lent_in own.old) }
-    ensures opens { Opens of.row of.procedure of.values of.references setting.now.context.way (setting_of setting.now) (lent_in memory.old) (lent_in area.old) (lent_in memory.new) (lent_in area.new) m result }
+    requires opening { Opening of.row of.procedure of.values of.references W.way (setting_of setting.now) (lent_in memory.old) (lent_in area.old) m (length stack.old) }
+    requires zeros { ZerosBy W.way (lent_in own.old) }
+    ensures opens { Opens of.row of.procedure of.values of.references W.way (setting_of setting.now) (lent_in memory.old) (lent_in area.old) (lent_in memory.new) (lent_in area.new) m result }
     ensures same_slices { SameSlices memory.old memory.new × SameSlices area.old area.new }
 {
-    let entered = enter(of, setting, memory, own, &mut *stack);
+    let entered = enter::<W>(of, setting, memory, own, &mut *stack);
     if entered.is_err() {
         return settled(m, entered, of.row as u16);
     }
     let n = memory.bodies.len();
     let rows = setting.context.rows;
     let procedure = rows.procedure(of.procedure);
-    let ended = body(
+    let ended = body::<W>(
         procedure.body,
         setting,
         own,
@@ -232,12 +232,12 @@ fn opened(
         m,
         &mut *stack,
     );
-    leave(of, setting, own, memory, area, ended, stack)
+    leave::<W>(of, setting, own, memory, area, ended, stack)
 }
 
 // A procedure's body on its variables, which have no limits, with what is left of the area.
 #[cycle(instructions)]
-fn body(
+fn body<W: Way>(
     row: usize,
     setting: &Setting,
     own: &mut Memory,
@@ -247,8 +247,8 @@ fn body(
     m: Status,
     stack: &mut [i64],
 ) -> Status
-    requires { Asked row setting.now.context.way (alone (setting_of setting.now)) (lent_in own.old) (lent cells.old states.old bodies.old) m (length stack.old) }
-    ensures executes { Executes row setting.now.context.way (alone (setting_of setting.now)) (lent_in own.old) (lent cells.old states.old bodies.old) (lent_in own.new) (lent cells.new states.new bodies.new) m result }
+    requires { Asked row W.way (alone (setting_of setting.now)) (lent_in own.old) (lent cells.old states.old bodies.old) m (length stack.old) }
+    ensures executes { Executes row W.way (alone (setting_of setting.now)) (lent_in own.old) (lent cells.old states.old bodies.old) (lent_in own.new) (lent cells.new states.new bodies.new) m result }
     ensures same_slices { SameSlices own.old own.new }
 {
     let none = [0i64; LIMIT_CELLS_LENGTH];
@@ -264,5 +264,5 @@ fn body(
         cells,
         states,
     };
-    exec(row, &inside, own, &mut rest, m, stack)
+    exec::<W>(row, &inside, own, &mut rest, m, stack)
 }

@@ -13,16 +13,15 @@ use Rattle.laws.specs.Lists.{drop_replicate}
 use Rattle.laws.specs.Every.{Every}
 use Rattle.laws.specs.Frames.{Bounded, length_call_cells, length_call_states, length_call_bodies}
 use Rattle.run.specs.Reached.{Lent, onto, overlaid}
-use Rattle.frames.specs.declared.way.Way.{Way}
-use Rattle.frames.specs.declared.way.Way.TheVariants as way
+use Rattle.frames.specs.Ways.{Way, checked, erased}
 use Rattle.opening.specs.Meaning.{AreaBodies, AreaOf}
 use Rattle.whole_run.specs.Meaning.{ClearBodies, Clear}
 
 -- ---- at first
 clear_bodies : (w : Way) (bodies : List ℕ) → ClearBodies w bodies → AreaBodies w 16 bodies
 unfolding ClearBodies AreaBodies
-clear_bodies way.Checked bodies e = ap (λ (x : List ℕ). length x) e ∙ length-replicate {A = ℕ} open_bodies_length 0
-clear_bodies way.Erased bodies e = e
+clear_bodies checked bodies e = ap (λ (x : List ℕ). length x) e ∙ length-replicate {A = ℕ} open_bodies_length 0
+clear_bodies erased bodies e = e
 
 pub clear_area : {w : Way} {o : Lent} → Clear w o → AreaOf w 16 o
 clear_area {w} {o} c = record {
@@ -44,7 +43,7 @@ onto_zeros n z xs l =
 pub record OnZeros (w : Way) (free : Lent) (os : List (List Variable)) : Type 0 where
   pub cells_are : free.cells ≡ open_cells_in os
   pub states_are : free.states ≡ open_states_in os
-  pub bodies_are : w ≡ way.Checked → free.bodies ≡ pad open_bodies_length 0 (call_bodies os)
+  pub bodies_are : w ≡ checked → free.bodies ≡ pad open_bodies_length 0 (call_bodies os)
 
 pub on_zeros : {w : Way} {o free : Lent} {os : List (List Variable)} → Clear w o → Every Bounded os → length os ≤ most_calls → free ≡ overlaid os o → OnZeros w free os
 unfolding overlaid open_cells_in open_states_in ClearBodies

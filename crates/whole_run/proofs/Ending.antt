@@ -26,8 +26,7 @@ use Rattle.decoder.specs.Tables.{IsTable}
 use Rattle.run.specs.Statuses.{state_of, progress_of}
 use Rattle.run.specs.declared.steps.Status.{Status}
 use Rattle.run.specs.Reached.{Lent, Going, Reached}
-use Rattle.frames.specs.declared.way.Way.{Way}
-use Rattle.frames.specs.declared.way.Way.TheVariants as way
+use Rattle.frames.specs.Ways.{Way, checked, erased}
 use Rattle.frames.specs.Meaning.{Context, HoldsBy, Holds, Standing}
 use Rattle.opening.specs.Meaning.{Setting, Under}
 use Rattle.walk.specs.Meaning.{calling, Stands, Asked, Executes}
@@ -39,13 +38,13 @@ use Rattle.whole_run.proofs.Area.{OnZeros, clear_area, on_zeros}
 module _ {p : _} {c : Context} {l : Lent} {vs : List Variable} where
   holds_cells : (w : Way) → Holds w p 0 c l vs → l.cells ≡ cells_in vs
   unfolding HoldsBy
-  holds_cells way.Checked h = h.by.running.world.stored.cells_are
-  holds_cells way.Erased h = h.by.running.world.cells_are
+  holds_cells checked h = h.by.running.world.stored.cells_are
+  holds_cells erased h = h.by.running.world.cells_are
 
   holds_states : (w : Way) → Holds w p 0 c l vs → l.states ≡ states_in vs
   unfolding HoldsBy
-  holds_states way.Checked h = h.by.running.world.stored.states_are
-  holds_states way.Erased h = h.by.running.world.states_are
+  holds_states checked h = h.by.running.world.stored.states_are
+  holds_states erased h = h.by.running.world.states_are
 
 -- ---- a run's start
 pub fresh_going : (m : Status) (budget : ℕ) → m ≡ record { error = None; left = budget; out = false } → Going m

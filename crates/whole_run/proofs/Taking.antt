@@ -25,7 +25,7 @@ use Rattle.run.specs.declared.steps.Status.{Status}
 use Rattle.run.specs.Reached.{Lent, Holding, Going, Reached}
 use Rattle.run.specs.Acting.{some_recorded, none_recorded, settles}
 use Rattle.run.specs.Memory.{reading}
-use Rattle.frames.specs.declared.way.Way.{Way}
+use Rattle.frames.specs.Ways.{Way}
 use Rattle.frames.specs.Meaning.{Context, Holds, Standing, Stores}
 use Rattle.whole_run.specs.Meaning.{Readable, Kept, Takes, TakesAll}
 

@@ -13,8 +13,7 @@ use Rattle.safety.specs.Invariant.{declared_store}
 use Rattle.run.specs.declared.steps.Status.{Status}
 use Rattle.run.specs.Statuses.{state_of}
 use Rattle.run.specs.Reached.{Lent, Holding, Going}
-use Rattle.frames.specs.declared.way.Way.{Way}
-use Rattle.frames.specs.declared.way.Way.TheVariants as way
+use Rattle.frames.specs.Ways.{Way, checked, erased}
 use Rattle.frames.specs.declared.context.Context.{Context as ContextRead}
 use Rattle.frames.specs.Lending.{context_of}
 use Rattle.frames.specs.Meaning.{Context, Holds, Callable}
@@ -50,8 +49,8 @@ pub record TakesAll (w : Way) (c : Context) (l after : Lent) (m r : Status) (rs 
 -- ---- a whole run
 -- the area for calls, in which none is open
 unfoldable pub ClearBodies : Way → List ℕ → Type 0
-ClearBodies way.Checked bodies = bodies ≡ replicate open_bodies_length 0
-ClearBodies way.Erased bodies = bodies ≡ []
+ClearBodies checked bodies = bodies ≡ replicate open_bodies_length 0
+ClearBodies erased bodies = bodies ≡ []
 
 pub record Clear (w : Way) (o : Lent) : Type 0 where
   pub cells_are : o.cells ≡ replicate open_cells_length (pos 0)
@@ -76,5 +75,5 @@ pub record Runs (w : Way) (s : Setting) (l o after free : Lent) (rs : List Readi
       → run_result (Ok r) (buffers after.cells after.states free.cells free.states) ≡ ran budget (run (profile_of s.context.rows limits) rs budget)
   pub left : (limits : List ℕ) → Ready w s l o limits
       → Holds w (profile_of s.context.rows limits) 0 s.context after (last_state (run (profile_of s.context.rows limits) rs budget)).store
-  pub open_bodies : (limits : List ℕ) → Ready w s l o limits → w ≡ way.Checked
+  pub open_bodies : (limits : List ℕ) → Ready w s l o limits → w ≡ checked
       → free.bodies ≡ pad open_bodies_length 0 (call_bodies (open_calls (run (profile_of s.context.rows limits) rs budget)))

@@ -11,13 +11,13 @@ ghost use Rattle.frames.specs.Lending.{context_of};
 ghost use Rattle.whole_run.specs.Meaning.{Readable, Takes, TakesAll};
 
 use frames::context::Context;
-use frames::leaves::take_reading;
+use frames::way::Way;
 use lingua::sizes::READING_PLACE;
 use run::memory::Memory;
 use run::steps::{Status, settled};
 
 // One input: its error is recorded with its place.
-fn take_one(
+fn take_one<W: Way>(
     context: &Context,
     memory: &mut Memory,
     n: usize,
@@ -26,17 +26,17 @@ fn take_one(
     m: Status,
     stack: &mut [i64],
 ) -> Status
-    requires standing { Standing context.now.way (context_of context.now) (lent_in memory.old) (length stack.old) (λ a. a ≡ 0) }
+    requires standing { Standing W.way (context_of context.now) (lent_in memory.old) (length stack.old) (λ a. a ≡ 0) }
     requires n_bound { (n < pair_count context.now.rows.now declaration_section) × (is_quantity_variable context.now.rows.now n ≡ true) }
     requires going { Going m × (is_some m.error ≡ false) }
-    ensures takes { Takes context.now.way (context_of context.now) (lent_in memory.old) (lent_in memory.new) m result place n z }
+    ensures takes { Takes W.way (context_of context.now) (lent_in memory.old) (lent_in memory.new) m result place n z }
     ensures same_slices { SameSlices memory.old memory.new }
 {
-    let taken = take_reading(context, memory, n, z, stack);
+    let taken = W::take_reading(context, memory, n, z, stack);
     settled(m, taken, place)
 }
 
-pub fn take_readings(
+pub fn take_readings<W: Way>(
     context: &Context,
     memory: &mut Memory,
     who: &[u16],
@@ -44,10 +44,10 @@ pub fn take_readings(
     m: Status,
     stack: &mut [i64],
 ) -> Status
-    requires standing { Standing context.now.way (context_of context.now) (lent_in memory.old) (length stack.old) (λ a. a ≡ 0) }
+    requires standing { Standing W.way (context_of context.now) (lent_in memory.old) (length stack.old) (λ a. a ≡ 0) }
     requires going { Going m }
     requires readable { Readable context.now.rows.now who.now numbers.now }
-    ensures takes { TakesAll context.now.way (context_of context.now) (lent_in memory.old) (lent_in memory.new) m result (readings_of who.now numbers.now) }
+    ensures takes { TakesAll W.way (context_of context.now) (lent_in memory.old) (lent_in memory.new) m result (readings_of who.now numbers.now) }
     ensures same_slices { SameSlices memory.old memory.new }
 {
     let mut moment = m;
@@ -58,7 +58,7 @@ pub fn take_readings(
         let n = who[i] as usize;
         let z = numbers[i];
         let place = (READING_PLACE + i) as u16;
-        moment = take_one(context, memory, n, z, place, moment, &mut *stack);
+        moment = take_one::<W>(context, memory, n, z, place, moment, &mut *stack);
     }
     moment
 }

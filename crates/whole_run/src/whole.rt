@@ -5,6 +5,7 @@ ghost use Rattle.whole_run.specs.Meaning.{setting_in, Begins, Readable, Runs};
 
 use crate::inputs::take_readings;
 use frames::context::Context;
+use frames::way::Way;
 use lingua::RunEnd;
 use lingua::sizes::STACK_LENGTH;
 use opening::setting::Setting;
@@ -13,7 +14,7 @@ use run::steps::{ended, fresh};
 use walk::exec::exec;
 
 // Each level of an expression's tree has 64 cells of the operand stack.
-pub fn run(
+pub fn run<W: Way>(
     context: &Context,
     types: &[u8],
     memory: &mut Memory,
@@ -22,9 +23,9 @@ pub fn run(
     numbers: &[i64],
     budget: u16,
 ) -> RunEnd
-    requires begins { Begins context.now.way (setting_in context.now types.now) (lent_in memory.old) (lent_in area.old) }
+    requires begins { Begins W.way (setting_in context.now types.now) (lent_in memory.old) (lent_in area.old) }
     requires readable { Readable context.now.rows.now who.now numbers.now }
-    ensures runs { Runs context.now.way (setting_in context.now types.now) (lent_in memory.old) (lent_in area.old) (lent_in memory.new) (lent_in area.new) (readings_of who.now numbers.now) budget result }
+    ensures runs { Runs W.way (setting_in context.now types.now) (lent_in memory.old) (lent_in area.old) (lent_in memory.new) (lent_in area.new) (readings_of who.now numbers.now) budget result }
     ensures same_slices { SameSlices memory.old memory.new × SameSlices area.old area.new }
 {
     let rows = context.rows;
@@ -34,9 +35,9 @@ pub fn run(
     };
     let mut stack = [0i64; STACK_LENGTH];
     let first = fresh(budget);
-    let taken = take_readings(context, memory, who, numbers, first, &mut stack);
+    let taken = take_readings::<W>(context, memory, who, numbers, first, &mut stack);
     let instructions = rows.instructions();
     let row = instructions.count - 1;
-    let last = exec(row, &setting, memory, area, taken, &mut stack);
+    let last = exec::<W>(row, &setting, memory, area, taken, &mut stack);
     ended(last, budget)
 }

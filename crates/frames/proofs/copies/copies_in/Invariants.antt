@@ -6,5 +6,5 @@ use Rattle.frames.proofs.Copying.{GoingIn}
 use Rattle.frames.proofs.copies.copies_in.Given as goal
 
 abbrev pub invariant-loop-i : goal.invariant-loop-i
-invariant-loop-i l =
-    GoingIn l.context.way (lent_in l.from) (context_of l.context) (lent_in l.initial.own) (lent_in l.own) l.field l.count l.first l.i × SameSlices l.initial.own l.own
+invariant-loop-i g l =
+    GoingIn g.W.Way.way (lent_in l.from) (context_of l.context) (lent_in l.initial.own) (lent_in l.own) l.field l.count l.first l.i × SameSlices l.initial.own l.own

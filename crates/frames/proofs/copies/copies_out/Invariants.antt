@@ -6,5 +6,5 @@ use Rattle.frames.proofs.Copying.{GoingOut}
 use Rattle.frames.proofs.copies.copies_out.Given as goal
 
 abbrev pub invariant-loop-i : goal.invariant-loop-i
-invariant-loop-i l =
-    GoingOut l.context.way (lent_in l.own) (context_of l.context) (lent_in l.initial.memory) (lent_in l.memory) l.row l.field l.count l.first l.m l.i × SameSlices l.initial.memory l.memory
+invariant-loop-i g l =
+    GoingOut g.W.Way.way (lent_in l.own) (context_of l.context) (lent_in l.initial.memory) (lent_in l.memory) l.row l.field l.count l.first l.m l.i × SameSlices l.initial.memory l.memory

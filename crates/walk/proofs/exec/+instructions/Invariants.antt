@@ -18,31 +18,31 @@ use Rattle.walk.specs.Meaning.{calling, Stands}
 use Rattle.walk.proofs.exec.+instructions.Given as goal
 
 abbrev pub decreases-body : goal.decreases-body
-decreases-body l = 4 * (length l.cells.now + l.row) + 4
+decreases-body g l = 4 * (length l.cells.now + l.row) + 4
 
 abbrev pub decreases-branch : goal.decreases-branch
-decreases-branch l = 4 * (length l.area.now.cells.now + l.row) + 2
+decreases-branch g l = 4 * (length l.area.now.cells.now + l.row) + 2
 
 abbrev pub decreases-call : goal.decreases-call
-decreases-call l = 4 * (length l.area.now.cells.now + l.of.row) + 2
+decreases-call g l = 4 * (length l.area.now.cells.now + l.of.row) + 2
 
 abbrev pub decreases-exec : goal.decreases-exec
-decreases-exec l = 4 * (length l.area.now.cells.now + l.row) + 3
+decreases-exec g l = 4 * (length l.area.now.cells.now + l.row) + 3
 
 abbrev pub decreases-handle : goal.decreases-handle
-decreases-handle l = 4 * (length l.area.now.cells.now + l.row) + 2
+decreases-handle g l = 4 * (length l.area.now.cells.now + l.row) + 2
 
 abbrev pub decreases-opened : goal.decreases-opened
-decreases-opened l = 4 * (length l.area.now.cells.now + l.of.row) + 1
+decreases-opened g l = 4 * (length l.area.now.cells.now + l.of.row) + 1
 
 abbrev pub decreases-turns : goal.decreases-turns
-decreases-turns l = 4 * (length l.area.now.cells.now + l.row) + 2
+decreases-turns g l = 4 * (length l.area.now.cells.now + l.row) + 2
 
 abbrev pub invariant-turns-loop-at : goal.invariant-turns-loop-at
-invariant-turns-loop-at l =
-    SameSlices l.initial.memory l.memory × SameSlices l.initial.area l.area × ((p : Profile) (b n : ℕ) (vs : List Variable) → Stands l.row l.setting.context.way p b n (setting_of l.setting) (lent_in l.initial.memory) (lent_in l.initial.area) vs
-    → Turning (calling l.setting.context.rows.now n) (Holds l.setting.context.way p b (context_of l.setting.context)) (lent_in l.initial.area) (lent_in l.memory) (lent_in l.area) l.row (expression_tree l.setting.context.rows.now l.e) (instruction_tree l.setting.context.rows.now l.i) l.at
+invariant-turns-loop-at g l =
+    SameSlices l.initial.memory l.memory × SameSlices l.initial.area l.area × ((p : Profile) (b n : ℕ) (vs : List Variable) → Stands l.row g.W.Way.way p b n (setting_of l.setting) (lent_in l.initial.memory) (lent_in l.initial.area) vs
+    → Turning (calling l.setting.context.rows.now n) (Holds g.W.Way.way p b (context_of l.setting.context)) (lent_in l.initial.area) (lent_in l.memory) (lent_in l.area) l.row (expression_tree l.setting.context.rows.now l.e) (instruction_tree l.setting.context.rows.now l.i) l.at
     (meaning (calling l.setting.context.rows.now n) (loop l.row (expression_tree l.setting.context.rows.now l.e) (instruction_tree l.setting.context.rows.now l.i)) (state_of l.initial.at vs)))
 
 abbrev pub decreases-turns-loop-at : goal.decreases-turns-loop-at
-decreases-turns-loop-at l = l.at.left
+decreases-turns-loop-at g l = l.at.left

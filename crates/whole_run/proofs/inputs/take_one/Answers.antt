@@ -5,4 +5,4 @@ use Rattle.whole_run.proofs.Taking.{takes}
 use Rattle.whole_run.proofs.inputs.take_one.Goals as goal
 
 pub returns-clause-takes : goal.returns-clause-takes
-returns-clause-takes c = takes _ _ c.args.place _ _ c.requires.going.0 c.settled.ensures (stores_number _ (to_z-of_z _ _ c.ranges.z) c.take_reading-taken.ensures.stores)
+returns-clause-takes g c = takes _ _ c.args.place _ _ c.requires.going.0 c.settled.ensures (stores_number _ (to_z-of_z _ _ c.ranges.z) c.take_reading-taken.ensures.stores)

@@ -5,22 +5,22 @@ use Rattle.whole_run.proofs.Ending.{fresh_going, begins_standing, some_row, prog
 use Rattle.whole_run.proofs.whole.run.Goals as goal
 
 pub take_readings-taken-requires-clause-standing : goal.take_readings-taken-requires-clause-standing
-take_readings-taken-requires-clause-standing c = (begins_standing c.requires.begins)
+take_readings-taken-requires-clause-standing g c = (begins_standing c.requires.begins)
 
 pub take_readings-taken-requires-clause-going : goal.take_readings-taken-requires-clause-going
-take_readings-taken-requires-clause-going c = (fresh_going _ c.args.budget c.fresh-first.ensures)
+take_readings-taken-requires-clause-going g c = (fresh_going _ c.args.budget c.fresh-first.ensures)
 
 pub overflow_sub-row : goal.overflow_sub-row
-overflow_sub-row c = some_row c.requires.begins c.instructions-instructions.ensures
+overflow_sub-row g c = some_row c.requires.begins c.instructions-instructions.ensures
 
 pub exec-last-requires : goal.exec-last-requires
-exec-last-requires c = program_asked c.requires.begins c.instructions-instructions.ensures c.take_readings-taken.ensures.takes (omega (arith, c.take_readings-taken.auto.stack))
+exec-last-requires g c = program_asked c.requires.begins c.instructions-instructions.ensures c.take_readings-taken.ensures.takes (omega (arith, c.take_readings-taken.auto.stack))
 
 pub ended-requires : goal.ended-requires
-ended-requires c = (left_within c.instructions-instructions.ensures c.args.budget c.fresh-first.ensures c.take_readings-taken.ensures.takes c.exec-last.ensures.executes c.requires.begins)
+ended-requires g c = (left_within c.instructions-instructions.ensures c.args.budget c.fresh-first.ensures c.take_readings-taken.ensures.takes c.exec-last.ensures.executes c.requires.begins)
 
 pub returns-clause-runs : goal.returns-clause-runs
-returns-clause-runs c = run_answered c.instructions-instructions.ensures c.args.budget c.fresh-first.ensures c.take_readings-taken.ensures.takes c.exec-last.ensures.executes _ c.ended.ensures
+returns-clause-runs g c = run_answered c.instructions-instructions.ensures c.args.budget c.fresh-first.ensures c.take_readings-taken.ensures.takes c.exec-last.ensures.executes _ c.ended.ensures
 
 pub returns-clause-same_slices : goal.returns-clause-same_slices
-returns-clause-same_slices c = (slices_after c.take_readings-taken.ensures.same_slices c.exec-last.ensures.same_slices.0, c.exec-last.ensures.same_slices.1)
+returns-clause-same_slices g c = (slices_after c.take_readings-taken.ensures.same_slices c.exec-last.ensures.same_slices.0, c.exec-last.ensures.same_slices.1)
