@@ -5,6 +5,7 @@ ghost use Rattle.calls.specs.Both.{BothRuns};
 use lingua::RunAnswer;
 use lingua::sizes::{AREA_BYTES, AREAS_LENGTH, TYPE_BODIES_LENGTH};
 use pair::take_pair;
+use taken::given::{Asked, Registers};
 use taken_checked::checked_run::checked_taken;
 use taken_erased::erased_run::erased_taken;
 
@@ -38,18 +39,30 @@ pub fn run_both(
     let mut others = [0u8; AREA_BYTES];
     let mut types = [0u8; TYPE_BODIES_LENGTH];
     let pair = take_pair(profile, limits, &mut areas, &mut others, &mut types);
+    let asked = Asked {
+        variables: who,
+        numbers,
+        budget,
+    };
+    let mut registers = Registers {
+        cells,
+        states,
+        open_cells,
+        open_states,
+    };
+    let mut erased_registers = Registers {
+        cells: erased_cells,
+        states: erased_states,
+        open_cells: erased_open_cells,
+        open_states: erased_open_states,
+    };
     let checked = checked_taken(
         pair,
         &areas,
         &others,
         &types,
-        who,
-        numbers,
-        budget,
-        cells,
-        states,
-        open_cells,
-        open_states,
+        &asked,
+        &mut registers,
         bodies,
     );
     let erased = erased_taken(
@@ -57,13 +70,8 @@ pub fn run_both(
         &areas,
         &others,
         &types,
-        who,
-        numbers,
-        budget,
-        erased_cells,
-        erased_states,
-        erased_open_cells,
-        erased_open_states,
+        &asked,
+        &mut erased_registers,
         layout,
     );
     BothAnswers {

@@ -9,6 +9,7 @@ ghost use Rattle.safety.specs.TwoRuns.{CheckedHolds};
 use lingua::RunAnswer;
 use lingua::sizes::{AREA_BYTES, AREAS_LENGTH, TYPE_BODIES_LENGTH};
 use pair::take_pair;
+use taken::given::{Asked, Registers};
 use taken_checked::checked_run::checked_taken;
 
 pub fn run_checked(
@@ -31,18 +32,24 @@ pub fn run_checked(
     let mut others = [0u8; AREA_BYTES];
     let mut types = [0u8; TYPE_BODIES_LENGTH];
     let pair = take_pair(profile, limits, &mut areas, &mut others, &mut types);
+    let asked = Asked {
+        variables: who,
+        numbers,
+        budget,
+    };
+    let mut registers = Registers {
+        cells,
+        states,
+        open_cells,
+        open_states,
+    };
     checked_taken(
         pair,
         &areas,
         &others,
         &types,
-        who,
-        numbers,
-        budget,
-        cells,
-        states,
-        open_cells,
-        open_states,
+        &asked,
+        &mut registers,
         bodies,
     )
 }

@@ -7,6 +7,7 @@ ghost use Rattle.lingua.specs.Calls.{erased_call, erased_result};
 use lingua::RunAnswer;
 use lingua::sizes::{AREA_BYTES, AREAS_LENGTH, TYPE_BODIES_LENGTH};
 use pair::take_pair;
+use taken::given::{Asked, Registers};
 use taken_erased::erased_run::erased_taken;
 
 pub fn run_erased(
@@ -28,18 +29,24 @@ pub fn run_erased(
     let mut others = [0u8; AREA_BYTES];
     let mut types = [0u8; TYPE_BODIES_LENGTH];
     let pair = take_pair(profile, limits, &mut areas, &mut others, &mut types);
+    let asked = Asked {
+        variables: who,
+        numbers,
+        budget,
+    };
+    let mut registers = Registers {
+        cells,
+        states,
+        open_cells,
+        open_states,
+    };
     erased_taken(
         pair,
         &areas,
         &others,
         &types,
-        who,
-        numbers,
-        budget,
-        cells,
-        states,
-        open_cells,
-        open_states,
+        &asked,
+        &mut registers,
         layout,
     )
 }

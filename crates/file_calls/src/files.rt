@@ -6,10 +6,10 @@ ghost use Rattle.lingua.specs.Calls.{read_call, read_result, write_call, write_r
 use blocks::rows::copy_rows;
 use blocks::words::word16_at;
 use blocks::writer::{file_length, write_file};
-use decoder::tables::tables_of;
+use decoder::rows::Rows;
 use lingua::errors::Refusal;
 use lingua::sizes::{AREAS_LENGTH, ROW_BYTES, ROWS_LENGTH, TYPE_BODIES_LENGTH};
-use lingua::{FileKind, ReadAnswer, WriteAnswer};
+use lingua::{FileKind, ReadAnswer, RowsRead, WriteAnswer};
 use pair::file::take;
 use rules::refusal::rows_refusal;
 
@@ -18,19 +18,16 @@ pub fn read(kind: FileKind, file: &[u8], rows: &mut [u8]) -> ReadAnswer
     ensures { read_result result rows.new ≡ read_call (file_meaning kind) file.now rows.old }
 {
     if rows.len() != ROWS_LENGTH {
-        return ReadAnswer::Refused(Refusal::BadBuffer.number());
+        return Err(Refusal::BadBuffer);
     }
     let mut areas = [0u8; AREAS_LENGTH];
     let mut bodies = [0u8; TYPE_BODIES_LENGTH];
-    let taken = match take(kind, file, &mut areas, &mut bodies) {
-        Ok(taken) => taken,
-        Err(refusal) => return ReadAnswer::Refused(refusal.number()),
-    };
+    let taken = take(kind, file, &mut areas, &mut bodies)?;
     copy_rows(&areas[..taken.length], rows);
-    ReadAnswer::Rows {
+    Ok(RowsRead {
         model: word16_at(file, 6),
         count: (taken.length / ROW_BYTES) as u16,
-    }
+    })
 }
 
 // document 01: the writer.
@@ -38,18 +35,13 @@ pub fn write(kind: FileKind, model: u16, rows: &[u8], file: &mut [u8]) -> WriteA
     ensures { write_result result file.new ≡ write_call (file_meaning kind) model rows.now file.old }
 {
     if rows.len() % ROW_BYTES != 0 {
-        return WriteAnswer::Refused(Refusal::BadBuffer.number());
+        return Err(Refusal::BadBuffer);
     }
     if file.len() != file_length(kind, rows) {
-        return WriteAnswer::Refused(Refusal::BadBuffer.number());
+        return Err(Refusal::BadBuffer);
     }
-    let tables = tables_of(rows);
     let mut bodies = [0u8; TYPE_BODIES_LENGTH];
-    match rows_refusal(kind, rows, tables, &mut bodies) {
-        Ok(()) => {
-            write_file(kind, model, rows, file);
-            WriteAnswer::Written
-        }
-        Err(refusal) => WriteAnswer::Refused(refusal.number()),
-    }
+    rows_refusal(kind, &Rows::of(rows), &mut bodies)?;
+    write_file(kind, model, rows, file);
+    Ok(())
 }

@@ -3,8 +3,9 @@ ghost use Rattle.std.specs.Prelude.{◌≡◌};
 ghost use Rattle.lingua.specs.Answers.{find_meaning};
 ghost use Rattle.lingua.specs.Calls.{find_call};
 
+use decoder::rows::Rows;
 use lingua::sizes::{AREAS_LENGTH, NAME_BYTES, TYPE_BODIES_LENGTH};
-use lingua::{FileKind, FindAnswer};
+use lingua::{FileKind, FindAnswer, Search};
 use pair::file::take;
 use profile::find::find;
 
@@ -14,17 +15,11 @@ pub fn find_variable(profile: &[u8], name: [u8; NAME_BYTES]) -> FindAnswer
 {
     let mut areas = [0u8; AREAS_LENGTH];
     let mut bodies = [0u8; TYPE_BODIES_LENGTH];
-    let taken = match take(FileKind::Profile, profile, &mut areas, &mut bodies) {
-        Ok(taken) => taken,
-        Err(refusal) => return FindAnswer::Refused(refusal.number()),
-    };
-    let search = find(&areas[..taken.length], taken.tables.declarations, &name);
-    let looked = search.looked as u16;
-    match search.index {
-        Some(index) => FindAnswer::Found {
-            index: index as u16,
-            looked: looked,
-        },
-        None => FindAnswer::Missing { looked: looked },
-    }
+    let taken = take(FileKind::Profile, profile, &mut areas, &mut bodies)?;
+    let rows = Rows::with(&areas[..taken.length], taken.tables);
+    let found = find(&rows, &name);
+    Ok(Search {
+        index: found.index.map(|index| index as u16),
+        looked: found.looked as u16,
+    })
 }

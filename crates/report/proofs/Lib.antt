@@ -1,5 +1,4 @@
 mod Putting
-mod Answering
 mod Bounds
 mod Stores
 mod Taking

@@ -2,7 +2,7 @@
 use mathlib.Core.Path.{◌≡◌, refl, sym, ap, ◌∙◌, subst}
 use mathlib.Core.Bool.{Bool, true, false}
 use mathlib.Core.List.{List, ◌++◌, append_assoc, append-nil}
-use Prim.Native.Nat.{ℕ, zero, suc, ◌+◌, ◌-◌, ◌*◌, ◌/◌, ◌≤◌, ◌<◌}
+use Prim.Native.Nat.{ℕ, zero, suc, ◌+◌, ◌-◌, ◌*◌, ◌<◌}
 use native.Mathlib.Nat.{zero-add}
 use native.Mathlib.Numerals.{add-one}
 use native.Mathlib.Omega.{arith}
@@ -19,15 +19,15 @@ use Rattle.lingua.specs.Rows.{bytes_at, pair_count}
 use Rattle.lingua.specs.Trees.{name_at}
 use Rattle.decoder.specs.Tables.{IsTable}
 use Rattle.decoder.specs.declared.tables.Table.{Table}
-use Rattle.profile.proofs.Declaring.{name_place, pairs}
-use Rattle.text.specs.Appended.{Appended}
+use Rattle.profile.proofs.Declaring.{name_place}
+use Rattle.text.specs.Appended.{Sheet, Appended}
 use Rattle.text.specs.Line.{variable_line}
 use Rattle.text.proofs.Texts.{append_none, append_both}
 use Rattle.report.specs.Memory.{Left, cells_of_bodies, memory_line, memory_lines}
 
 -- ---- one variable
-pub there : {rows present : List ℕ} {cells : List ℤ} {states : List ℕ} {vs : List Variable} {t : Table} {d : ℕ} → Left rows present cells states vs → IsTable rows declaration_section t → d < t.count / 2 → d < length vs
-there {rows} {t = t} h is l = omega (arith, h.count, pairs rows declaration_section t is)
+pub there : {rows present : List ℕ} {cells : List ℤ} {states : List ℕ} {vs : List Variable} {d : ℕ} → Left rows present cells states vs → d < pair_count rows declaration_section → d < length vs
+there h l = omega (arith, h.count, l)
 
 -- the cells that are lent, where there are any
 pub lent : (filled : Bool) (cells : Bor (List ℤ)) → option_copied (then_some filled cells) ≡ then_some filled cells.now
@@ -35,24 +35,24 @@ lent true cells = refl
 lent false cells = refl
 
 pub line_put :
-    {out last : List ℕ} {at end : ℕ} (rows : List ℕ) (cells : List ℤ) (states : List ℕ) (vs : List Variable) (name : List ℕ) (content : Option (List ℤ)) (t : Table) (d count : ℕ) (filled : Bool) →
+    {p q : Sheet} (rows : List ℕ) (cells : List ℤ) (states : List ℕ) (vs : List Variable) (name : List ℕ) (content : Option (List ℤ)) (t : Table) (d count : ℕ) (filled : Bool) →
     IsTable rows declaration_section t →
     name ≡ bytes_at rows (t.start + 2 * d) →
     count ≡ size (present_body (variable_at vs d)) →
     filled ≡ filled_at states d →
     content ≡ then_some filled (take (body_cells * d + count - body_cells * d) (drop (body_cells * d) cells)) →
-    Appended out at (variable_line name content) last end →
-    Appended out at (memory_line rows cells states vs d) last end
+    Appended p (variable_line name content) q →
+    Appended p (memory_line rows cells states vs d) q
 unfolding memory_line cells_of_bodies name_at
-line_put {out} {last} {at} {end} rows cells states vs name content t d count filled is named counted flag held p =
+line_put {p} {q} rows cells states vs name content t d count filled is named counted flag held h =
     let n : name ≡ name_at rows declaration_section d = named ∙ ap (bytes_at rows) (name_place rows declaration_section t is d) in
     let k : body_cells * d + count - body_cells * d ≡ size (present_body (variable_at vs d)) = omega (arith, counted) in
     let c : content ≡ then_some (filled_at states d) (cells_of_bodies cells vs d) =
     held
     ∙ ap (λ (b : Bool). then_some b (take (body_cells * d + count - body_cells * d) (drop (body_cells * d) cells))) flag
     ∙ ap (λ (j : ℕ). then_some (filled_at states d) (take j (drop (body_cells * d) cells))) k in
-    subst (λ (l : List ℕ). Appended out at (variable_line l (then_some (filled_at states d) (cells_of_bodies cells vs d))) last end) n
-    (subst (λ (o : Option (List ℤ)). Appended out at (variable_line name o) last end) c p)
+    subst (λ (l : List ℕ). Appended p (variable_line l (then_some (filled_at states d) (cells_of_bodies cells vs d))) q) n
+    (subst (λ (o : Option (List ℤ)). Appended p (variable_line name o) q) c h)
 
 -- ---- all of them
 module _ (rows : List ℕ) (cells : List ℤ) (states : List ℕ) (vs : List Variable) where
@@ -65,24 +65,12 @@ module _ (rows : List ℕ) (cells : List ℤ) (states : List ℕ) (vs : List Var
       ∙ sym (append_assoc (memory_line rows cells states vs d) (memory_lines rows cells states vs (suc d) n) (memory_line rows cells states vs (suc d + n)))
       ∙ ap (λ (k : ℕ). (memory_line rows cells states vs d ++ memory_lines rows cells states vs (suc d) n) ++ memory_line rows cells states vs k) (let e : suc d + n ≡ d + suc n = omega arith in e)
 
-  pub lines_begin : (out : List ℕ) (at : ℕ) → Appended out at (memory_lines rows cells states vs 0 0) out at
+  pub lines_begin : (p : Sheet) → Appended p (memory_lines rows cells states vs 0 0) p
   unfolding memory_lines
-  lines_begin out at = append_none out at
+  lines_begin p = append_none p
 
-  pub lines_next :
-      {out mid last : List ℕ} {at then end : ℕ} (d : ℕ) →
-      Appended out at (memory_lines rows cells states vs 0 d) mid then →
-      length mid ≡ length out →
-      Appended mid then (memory_line rows cells states vs d) last end →
-      Appended out at (memory_lines rows cells states vs 0 (d + 1)) last end
-  lines_next d p e q = rw (add-one, lines_one_more 0 d, zero-add) (append_both p e q)
+  pub lines_next : {p q r : Sheet} (d : ℕ) → Appended p (memory_lines rows cells states vs 0 d) q → Appended q (memory_line rows cells states vs d) r → Appended p (memory_lines rows cells states vs 0 (d + 1)) r
+  lines_next d a b = rw (add-one, lines_one_more 0 d, zero-add) (append_both a b)
 
-  pub lines_all :
-      {out last : List ℕ} {at end : ℕ} (d n : ℕ) →
-      d ≤ n →
-      n ≤ d →
-      n ≡ pair_count rows declaration_section →
-      Appended out at (memory_lines rows cells states vs 0 d) last end →
-      Appended out at (memory_lines rows cells states vs 0 (pair_count rows declaration_section)) last end
-  lines_all {out} {last} {at} {end} d n a b e p =
-      subst (λ (k : ℕ). Appended out at (memory_lines rows cells states vs 0 k) last end) (let k : d ≡ n = omega arith in k ∙ e) p
+  pub lines_all : {p q : Sheet} (d : ℕ) → d ≡ pair_count rows declaration_section → Appended p (memory_lines rows cells states vs 0 d) q → Appended p (memory_lines rows cells states vs 0 (pair_count rows declaration_section)) q
+  lines_all {p} {q} d e a = subst (λ (k : ℕ). Appended p (memory_lines rows cells states vs 0 k) q) e a

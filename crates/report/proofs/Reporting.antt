@@ -16,17 +16,16 @@ use Rattle.lingua.specs.Run.{run, last_state}
 use Rattle.lingua.specs.Trees.{profile_of}
 use Rattle.lingua.specs.Inputs.{inputs, Buffers, buffers}
 use Rattle.lingua.specs.Refusal.{lowest, pair_rules, reading_wrong, run_fits, checked_refusal}
-use Rattle.lingua.specs.Answers.{run_meaning}
-use Rattle.lingua.specs.declared.RunAnswer.{RunAnswer}
+use Rattle.lingua.specs.Answers.{RunAnswer, run_meaning}
 use Rattle.lingua.specs.Calls.{CheckedCall, readings_of, ending_of, registers_of, ran, run_of, checked_unless, checked_call, checked_result}
 use Rattle.lingua.specs.Report.{end_line, refused_text, run_text, report_unless, report_text}
 use Rattle.safety.specs.RunRules.{files_alone}
 use Rattle.safety.specs.Memory.{accepted_bodies}
-use Rattle.text.specs.Appended.{Appended}
+use Rattle.text.specs.Appended.{Sheet, Appended}
 use Rattle.text.proofs.Texts.{append_both}
 use Rattle.report.specs.Call.{report_call, answer_text}
 use Rattle.report.specs.Memory.{Left, memory_lines, lines_unless, variables_text}
-use Rattle.report.specs.Written.{most_text, Written}
+use Rattle.report.specs.Written.{most_text}
 use Rattle.report.proofs.Bounds.{report_fits}
 use Rattle.report.proofs.Stores.{store_left, store_lines}
 
@@ -42,7 +41,7 @@ module _ (prof lims : List ℕ) where
   unfolding checked_refusal run_fits reading_wrong all_of
   refusal_is = files_alone (inputs prof lims [] []) refl
 
-  abbrev last : List Variable
+  abbrev pub last : List Variable
   last = (last_state (run (profile_of (rows_of prof) (rows_of lims)) [] report_budget)).store
 
   module _ (answer : RunAnswer) (after : Buffers) (bodies : List ℕ) where
@@ -71,20 +70,16 @@ module _ (prof lims : List ℕ) where
     report_is e = text_by (lowest (pair_rules prof lims)) refl (by_rules e) ∙ ap (λ (n : ℕ). report_unless n prof lims) (sym refusal_is)
 
     pub report_written :
-        {out mid end-bytes : List ℕ} {then end : ℕ} →
-        most_text ≤ length out →
+        {page mid end : Sheet} →
+        page.text ≡ [] →
+        most_text ≤ page.left →
         checked_result answer after bodies ≡ report_call prof lims →
-        Appended out 0 (answer_text (run_meaning answer)) mid then →
-        length mid ≡ length out →
-        Appended mid then (variables_text prof lims after.cells after.states last) end-bytes end →
-        Written end-bytes end (report_text prof lims)
-    report_written {out} room e p l q =
-        let whole = append_both p l q in
-        record {
-          within = whole.within (omega arith);
-          is =
-              whole.bytes
-              ∙ take_all (length out) (answer_text (run_meaning answer) ++ variables_text prof lims after.cells after.states last)
-              (omega (arith, report_fits prof lims (run_left e) (run_meaning answer)))
-              ∙ report_is e;
-        }
+        Appended page (answer_text (run_meaning answer)) mid →
+        Appended mid (variables_text prof lims after.cells after.states last) end →
+        end.text ≡ report_text prof lims
+    report_written {page} blank room e p q =
+        let whole = append_both p q in
+        whole.bytes
+        ∙ ap (λ (l : List ℕ). l ++ take page.left (answer_text (run_meaning answer) ++ variables_text prof lims after.cells after.states last)) blank
+        ∙ take_all page.left (answer_text (run_meaning answer) ++ variables_text prof lims after.cells after.states last) (omega (arith, report_fits prof lims (run_left e) (run_meaning answer)))
+        ∙ report_is e

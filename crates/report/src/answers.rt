@@ -3,8 +3,9 @@ ghost use Rattle.lingua.specs.Answers.{run_meaning};
 ghost use Rattle.text.specs.Appended.{Appended};
 ghost use Rattle.report.specs.Call.{answer_text};
 
-use lingua::RunAnswer;
 use lingua::errors::NO_ERROR;
+use lingua::{RunAnswer, RunEnd};
+use text::page::Page;
 use text::report::{put_end_line, put_refused_line};
 
 // document 01: end
@@ -16,21 +17,23 @@ const OUT: u8 = 2;
 // document 01: place, with no error
 const NO_PLACE: u16 = 0;
 
-pub(crate) fn put_answer(answer: RunAnswer, out: &mut [u8]) -> usize
-    ensures { Appended out.old 0 (answer_text (run_meaning answer)) out.new result }
+#[tactic(auto, unfolding(crate::specs::Call::answer_text, lingua::specs::Answers::run_meaning))]
+pub(crate) fn put_answer(answer: RunAnswer, page: &mut Page<'_>)
+    ensures { Appended page.old (answer_text (run_meaning answer)) page.new }
 {
     match answer {
-        RunAnswer::Refused(number) => put_refused_line(out, 0, number),
-        RunAnswer::Finished { steps } => put_end_line(out, 0, FINISHED, NO_ERROR, NO_PLACE, steps),
-        RunAnswer::Failed {
-            error,
-            place,
+        Err(refusal) => put_refused_line(page, refusal.number()),
+        Ok(RunEnd::Finished { steps }) => put_end_line(page, FINISHED, NO_ERROR, NO_PLACE, steps),
+        Ok(RunEnd::Failed { at, steps }) => {
+            put_end_line(page, FAILED, at.error.number(), at.place, steps)
+        }
+        Ok(RunEnd::Out {
+            recorded: Some(at),
             steps,
-        } => put_end_line(out, 0, FAILED, error, place, steps),
-        RunAnswer::Out {
-            error,
-            place,
+        }) => put_end_line(page, OUT, at.error.number(), at.place, steps),
+        Ok(RunEnd::Out {
+            recorded: None,
             steps,
-        } => put_end_line(out, 0, OUT, error, place, steps),
+        }) => put_end_line(page, OUT, NO_ERROR, NO_PLACE, steps),
     }
 }

@@ -10,6 +10,7 @@ mod variables; // variables.rt: the variables' lines of two files
 use lingua::sizes::LONGEST_FILE;
 use std::io;
 use std::io::Write;
+use text::page::Page;
 
 // A profile has at most 11,264 bytes, so a file that fills a buffer is refused for its length, as it would be whole.
 fn main(rt: HostRuntime) -> io::Result<()> {
@@ -18,6 +19,7 @@ fn main(rt: HostRuntime) -> io::Result<()> {
     let p = files::read_file(&rt, "clinic.prf", &mut profile);
     let l = files::read_file(&rt, "motor.lim", &mut limits);
     let mut out = [0u8; 22778];
-    let n = report::report_text(&profile[..p], &limits[..l], &mut out);
-    io::writer(&rt).write_all(&out[..n])
+    let mut page = Page::new(&mut out);
+    report::report_text(&profile[..p], &limits[..l], &mut page);
+    io::writer(&rt).write_all(page.text())
 }

@@ -17,15 +17,14 @@ use Rattle.lingua.specs.Trees.{declaration_in, declaration_at, profile_of}
 use Rattle.lingua.specs.References.{yoke_in, declared_yoke}
 use Rattle.laws.specs.Formed.{formed_bounds}
 use Rattle.laws.specs.Outcomes.{none_is_some}
-use Rattle.safety.specs.Accepted.{AcceptedRows, declared_root, few_procedures_lem, profile_well_made}
+use Rattle.safety.specs.Accepted.{AcceptedRows, declared_root, profile_well_made}
 use Rattle.safety.specs.Formed.{declared_formed, bodies_formed}
 use Rattle.safety.specs.Invariant.{start_kept, start_empty}
 use Rattle.safety.specs.Programs.{ReadsQuantity, start_fit}
 use Rattle.safety.specs.Passed.{reads_quantity, profile_body}
 use Rattle.safety.specs.Once.{profile_laid_out, rows_laid_out}
-use Rattle.decoder.specs.Tables.{IsTable, AreTables}
+use Rattle.decoder.specs.Tables.{IsTable}
 use Rattle.decoder.specs.declared.tables.Table.{Table}
-use Rattle.decoder.specs.declared.tables.Tables.{Tables}
 use Rattle.rules.specs.Accepted.{counts}
 use Rattle.rules.specs.Types.{BodiesBelow}
 use Rattle.profile.specs.Variables.{VariablesKnown, scope_of}
@@ -38,16 +37,12 @@ use Rattle.run.specs.Reached.{Lent, lent}
 use Rattle.checked_row.specs.Meaning.{Holdable}
 use Rattle.checked_store.specs.Meaning.{Running as CheckedRunning}
 use Rattle.erased_row.specs.Meaning.{Running as ErasedRunning}
-use Rattle.frames.specs.declared.way.Way.TheVariants as way
-use Rattle.frames.specs.Meaning.{HoldsBy, HeadsOf, WhollyPassed, CallableBy}
+use Rattle.frames.specs.Ways.{checked, erased}
+use Rattle.frames.specs.Meaning.{HoldsBy, WhollyPassed, CallableBy}
 use Rattle.opening.specs.Meaning.{setting}
 use Rattle.whole_run.specs.Meaning.{ClearBodies, Clear, Ready}
 use Rattle.taken.specs.Ways.{QuantitiesLimited, PassedRows}
 use mathlib.Core.Bool.{true}
-
--- ---- procedures, by where they begin
-pub heads_known : {rows : List ℕ} {t : Tables} → AcceptedRows rows → AreTables rows t → length t.procedures.heads ≡ 9 → HeadsOf rows t.procedures.heads
-heads_known {rows} accepted are long = record { few = few_procedures_lem rows accepted; long = long; each = are.heads }
 
 pub declarations_known : {rows bodies : List ℕ} {t : Table} → AcceptedRows rows → IsTable rows declaration_section t → BodiesBelow rows bodies (table_count rows type_section) → VariablesKnown rows t bodies
 declarations_known accepted is held = record { scope = scope_of 0 (omega arith) is; accepted = accepted; held = held }
@@ -72,13 +67,12 @@ module _ {rows limits : List ℕ} {kept cells : List ℤ} {states : List ℕ} (a
       let bounds = formed_bounds (declared_formed rows accepted limits n (declared l)) in
       subst (λ (v : Variable). Holdable (present_body v)) (sym (start_at rows limits 0 (omega arith) n (declared l))) (record { few_cells = bounds.few_cells; few_nodes = bounds.few_nodes })
 
-  checked_start : (t own : Table) → IsTable rows expression_section t → IsTable rows declaration_section own → {present : List ℕ} → BodiesKept rows own present (own.count / 2)
-      → CheckedRunning rows t kept (lent cells states present) (start_store rows limits)
-  checked_start t own table is k =
+  checked_start : (own : Table) → IsTable rows declaration_section own → {present : List ℕ} → BodiesKept rows own present (own.count / 2)
+      → CheckedRunning rows kept (lent cells states present) (start_store rows limits)
+  checked_start own is k =
       record {
         world = record {
           accepted = accepted;
-          table = table;
           stored = record {
             cells_are = b.cells_are;
             states_are = b.states_are;
@@ -93,14 +87,14 @@ module _ {rows limits : List ℕ} {kept cells : List ℤ} {states : List ℕ} (a
         yokes = start_yoke;
       }
 
-  pub checked_begins : (t : Tables) → AreTables rows t → {types heads present layout : List ℕ} {o : Lent} → BodiesBelow rows types (table_count rows type_section) → HeadsOf rows heads
-      → BodiesKept rows t.declarations present (t.declarations.count / 2) → layout ≡ [] → Clear way.Checked o
-      → Ready way.Checked (setting rows t.expressions layout kept types heads) (lent cells states present) o limits
+  pub checked_begins : {own : Table} → IsTable rows declaration_section own → {types present layout : List ℕ} {o : Lent} → BodiesBelow rows types (table_count rows type_section)
+      → BodiesKept rows own present (own.count / 2) → layout ≡ [] → Clear checked o
+      → Ready checked (setting rows layout kept types) (lent cells states present) o limits
   unfolding HoldsBy CallableBy
-  checked_begins t are held heads k e o =
+  checked_begins {own} is held k e o =
       record {
-        holds = record { by = record { no_layout = e; running = checked_start t.expressions t.declarations are.expressions are.declarations k }; here = omega arith; count = b.count };
-        callable = record { by = record { held = held }; heads_are = heads };
+        holds = record { by = record { no_layout = e; running = checked_start own is k }; here = omega arith; count = b.count };
+        callable = record { by = record { held = held } };
         clear = o;
       }
 
@@ -109,13 +103,12 @@ module _ {rows limits : List ℕ} {kept cells : List ℤ} {states : List ℕ} (a
   unfolding declaration_at
   limited_quantity h n l i e = h.limited n (declared i) l (sym (ap (λ (v : Variable). v.limit) (start_at rows limits 0 (omega arith) n (declared i))) ∙ e)
 
-  erased_start : (t : Table) → IsTable rows expression_section t → (es : List Entry) → check_profile (profile_of rows limits) ≡ ok es → length (layout_of es) ≡ layout_length → QuantitiesLimited rows limits
-      → ErasedRunning (profile_of rows limits) 0 rows t (layout_of es) kept (lent cells states []) (start_store rows limits)
-  erased_start t table es e long h =
+  erased_start : (es : List Entry) → check_profile (profile_of rows limits) ≡ ok es → length (layout_of es) ≡ layout_length → QuantitiesLimited rows limits
+      → ErasedRunning (profile_of rows limits) 0 rows (layout_of es) kept (lent cells states []) (start_store rows limits)
+  erased_start es e long h =
       record {
         world = record {
           accepted = accepted;
-          table = table;
           long = long;
           cells_are = b.cells_are;
           states_are = b.states_are;
@@ -141,28 +134,28 @@ module _ {rows limits : List ℕ} {kept cells : List ℤ} {states : List ℕ} (a
       subst (λ (x : List ℕ). WhollyPassed (profile_of rows limits) rows x) (sym p.layout_is)
       (record { limits = limits; is = refl; typed = profile_laid_out rows accepted limits p.entries p.passed })
 
-  pub erased_begins : (t : Tables) → AreTables rows t → {layout types heads : List ℕ} {o : Lent} → PassedRows rows limits layout → QuantitiesLimited rows limits → HeadsOf rows heads → Clear way.Erased o
-      → Ready way.Erased (setting rows t.expressions layout kept types heads) (lent cells states []) o limits
+  pub erased_begins : {layout types : List ℕ} {o : Lent} → PassedRows rows limits layout → QuantitiesLimited rows limits → Clear erased o
+      → Ready erased (setting rows layout kept types) (lent cells states []) o limits
   unfolding HoldsBy CallableBy
-  erased_begins t are {layout} p h heads o =
+  erased_begins {layout} p h o =
       let q = p.layout_is in
       record {
         holds = record {
-          by = record { no_bodies = refl; running = subst (λ (x : List ℕ). ErasedRunning (profile_of rows limits) 0 rows t.expressions x kept (lent cells states []) (start_store rows limits)) (sym q) (erased_start t.expressions are.expressions p.entries p.passed (sym (ap length q) ∙ p.long) h) };
+          by = record { no_bodies = refl; running = subst (λ (x : List ℕ). ErasedRunning (profile_of rows limits) 0 rows x kept (lent cells states []) (start_store rows limits)) (sym q) (erased_start p.entries p.passed (sym (ap length q) ∙ p.long) h) };
           here = omega arith;
           count = b.count;
         };
-        callable = record { by = wholly_passed p; heads_are = heads };
+        callable = record { by = wholly_passed p };
         clear = o;
       }
 
 -- ---- the area for calls, cleared
 pub checked_clear : {cells : List ℤ} {states bodies : List ℕ} (n m k : ℕ) → cells ≡ replicate n (pos 0) → states ≡ replicate m 0 → bodies ≡ replicate k 0 → n ≡ open_cells_length → m ≡ open_states_length → k ≡ open_bodies_length
-    → Clear way.Checked (lent cells states bodies)
+    → Clear checked (lent cells states bodies)
 unfolding ClearBodies
 checked_clear n m k c s b i j l =
     record { cells_are = c ∙ ap (λ (x : ℕ). replicate x (pos 0)) i; states_are = s ∙ ap (λ (x : ℕ). replicate x 0) j; bodies_are = b ∙ ap (λ (x : ℕ). replicate x 0) l }
 
-pub erased_clear : {cells : List ℤ} {states : List ℕ} (n m : ℕ) → cells ≡ replicate n (pos 0) → states ≡ replicate m 0 → n ≡ open_cells_length → m ≡ open_states_length → Clear way.Erased (lent cells states [])
+pub erased_clear : {cells : List ℤ} {states : List ℕ} (n m : ℕ) → cells ≡ replicate n (pos 0) → states ≡ replicate m 0 → n ≡ open_cells_length → m ≡ open_states_length → Clear erased (lent cells states [])
 unfolding ClearBodies
 erased_clear n m c s i j = record { cells_are = c ∙ ap (λ (x : ℕ). replicate x (pos 0)) i; states_are = s ∙ ap (λ (x : ℕ). replicate x 0) j; bodies_are = refl }

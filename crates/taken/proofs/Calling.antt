@@ -7,9 +7,7 @@ use native.Mathlib.Omega.{arith}
 use lib.IntN.{ℤ}
 use lib.ListN.{length, take, drop, length-drop, drop_of_length-le}
 use lib.Seq.{drop_at, length-take-le}
-use Rattle.lingua.specs.Numbers.{layout_length, present_bodies_length, type_section}
-use Rattle.lingua.specs.Errors.{bad_buffer, type_error_found}
-use Rattle.lingua.specs.Rows.{table_count}
+use Rattle.lingua.specs.Numbers.{layout_length, present_bodies_length}
 use Rattle.lingua.specs.Outcome.{Outcome, ok, fail}
 use Rattle.lingua.specs.Store.{Reading, present_in}
 use Rattle.lingua.specs.Run.{run}
@@ -20,32 +18,30 @@ use Rattle.lingua.specs.Inputs.{Inputs, Buffers, buffers}
 use Rattle.lingua.specs.Refusal.{run_refusal, checked_refusal, erased_refusal}
 use Rattle.std.specs.Prelude.{Result, Ok, Err}
 use Rattle.lingua.specs.declared.errors.Refusal.{Refusal}
+use Rattle.lingua.specs.declared.errors.Refusal.TheVariants.{BadBuffer, TypeErrorFound}
 use Rattle.lingua.specs.Faults.{refusal_number, refusal_of}
-use Rattle.lingua.specs.Answers.{run_meaning}
-use Rattle.lingua.specs.declared.RunAnswer.{RunAnswer}
-use Rattle.lingua.specs.declared.RunAnswer.TheVariants as run_answer
+use Rattle.lingua.specs.Answers.{RunAnswer, run_meaning}
+use Rattle.lingua.specs.declared.RunEnd.{RunEnd}
 use Rattle.lingua.specs.Calls.{RunCall, readings_of, ran, run_of, with_bodies, checked_unless, checked_call, with_layout, erased_unless, erased_call, run_result, checked_result, erased_result}
 use Rattle.safety.specs.Limited.{accepted_limited}
 use Rattle.safety.specs.TwoRuns.{checked_shares, passed_layout}
 use Rattle.pair.specs.declared.Pair.{Pair}
 use Rattle.pair.proofs.Returns.{some_refusal}
-use Rattle.pair.proofs.Given.{rows_accepted, tables_there, limits_there, bodies_held}
-use Rattle.decoder.specs.Tables.{AreTables}
-use Rattle.rules.specs.Types.{BodiesBelow}
-use Rattle.profile.specs.Find.{LimitsOwned}
+use Rattle.pair.proofs.Given.{rows_accepted, limits_there, bodies_held}
 use Rattle.typecheck.specs.Verdicts.{ConcludesPassed}
 use Rattle.run.specs.Reached.{Lent}
-use Rattle.frames.specs.declared.way.Way.TheVariants as way
+use Rattle.frames.specs.Ways.{checked, erased}
 use Rattle.frames.specs.Meaning.{HoldsBy}
 use Rattle.opening.specs.Meaning.{Setting}
 use Rattle.whole_run.specs.Meaning.{Readable, Ready, Runs}
+use Rattle.taken.specs.Given.{RowsKnown}
 use Rattle.taken.specs.Taken.{RunTaken, RunIs}
 use Rattle.taken.specs.Ways.{Startable, checked_end, QuantitiesLimited, PassedRows, erased_verdict, erased_rows}
 use Rattle.taken.proofs.Refusing.{short_present, short_layout, run_refuses, type_error_refuses, none_refuses}
 
 -- ---- what is taken serves both runs
 module _ {i : Inputs} {b : Buffers} {areas others bodies : List ℕ} {p : Pair} (t : RunTaken p i b areas others bodies) where
-  startable : Startable (take p.rows areas) i.variables i.numbers b
+  startable : Startable (take p.profile.length areas) i.variables i.numbers b
   startable = record {
     accepted = rows_accepted t.files t.accepted;
     readable = subst (λ (rows : List ℕ). Readable rows i.variables i.numbers) (sym t.files.rows) t.readable;
@@ -55,22 +51,26 @@ module _ {i : Inputs} {b : Buffers} {areas others bodies : List ℕ} {p : Pair} 
     long_open_states = t.long_open_states;
   }
 
-  quantities_limited : QuantitiesLimited (take p.rows areas) (take p.limits others)
+  quantities_limited : QuantitiesLimited (take p.profile.length areas) (take p.limits.length others)
   quantities_limited =
-      subst (λ (limits : List ℕ). QuantitiesLimited (take p.rows areas) limits) (sym t.files.limits)
+      subst (λ (limits : List ℕ). QuantitiesLimited (take p.profile.length areas) limits) (sym t.files.limits)
       (subst (λ (rows : List ℕ). QuantitiesLimited rows (rows_of i.limits)) (sym t.files.rows) (record { limited = λ n h l q. accepted_limited i.profile i.limits t.accepted n h l q }))
 
-  -- all that the run of a taken pair's rows asks, besides the length of what is its own
-  pub checked_asks : {n m : ℕ} → n ≡ m → Startable (take p.rows areas) i.variables i.numbers b × ((AreTables (take p.rows areas) p.tables × LimitsOwned (take p.rows areas) (take p.limits others) p.named p.owners) × (BodiesBelow (take p.rows areas) bodies (table_count (take p.rows areas) type_section) × (n ≡ m)))
-  checked_asks e = (startable, ((tables_there t.files, limits_there t.files), (bodies_held t.files, e)))
+  known : RowsKnown (take p.profile.length areas) (take p.limits.length others) p.owners bodies
+  known = record { owned = limits_there t.files; held = bodies_held t.files }
 
-  pub erased_asks : {n m : ℕ} → n ≡ m → Startable (take p.rows areas) i.variables i.numbers b × ((AreTables (take p.rows areas) p.tables × LimitsOwned (take p.rows areas) (take p.limits others) p.named p.owners) × (BodiesBelow (take p.rows areas) bodies (table_count (take p.rows areas) type_section) × ((n ≡ m) × QuantitiesLimited (take p.rows areas) (take p.limits others))))
-  erased_asks e = (startable, ((tables_there t.files, limits_there t.files), (bodies_held t.files, (e, quantities_limited))))
+  -- all that the run of a taken pair's rows asks, besides the length of what is its own
+  module _ {rows limits : List ℕ} (r : rows ≡ take p.profile.length areas) (l : limits ≡ take p.limits.length others) where
+    pub asks : Startable rows i.variables i.numbers b × RowsKnown rows limits p.owners bodies
+    asks = rw (r, l) (startable, known)
+
+    pub asks_limited : QuantitiesLimited rows limits
+    asks_limited = rw (r, l) quantities_limited
 
 -- ---- the checked run
 -- where a run of its way ended: the answer, the registers and the present bodies, the profile's and those of the open calls
-pub checked_end_lem : {s : Setting} (limits : List ℕ) {l o after free : Lent} {rs : List Reading} {budget : ℕ} {r : RunAnswer} → Runs way.Checked s l o after free rs budget r → Ready way.Checked s l o limits
-    → checked_result r (buffers after.cells after.states free.cells free.states) (after.bodies ++ free.bodies) ≡ checked_end budget (run (profile_of s.context.rows limits) rs budget)
+pub checked_end_lem : {s : Setting} (limits : List ℕ) {l o after free : Lent} {rs : List Reading} {budget : ℕ} {r : RunEnd} → Runs checked s l o after free rs budget r → Ready checked s l o limits
+    → checked_result (Ok r) (buffers after.cells after.states free.cells free.states) (after.bodies ++ free.bodies) ≡ checked_end budget (run (profile_of s.context.rows limits) rs budget)
 unfolding checked_result checked_end run_result HoldsBy present_in
 checked_end_lem limits h b =
     ap₂ (λ (c : RunCall) (l : List ℕ). with_bodies c l) (h.is limits b)
@@ -88,38 +88,36 @@ front_back own area before n l e =
     ∙ ap (λ (x : List ℕ). own ++ x) (append-nil area)
 
 module _ (i : Inputs) (b : Buffers) (present : List ℕ) (budget : ℕ) where
-  checked_refused : (n m : ℕ) → checked_refusal i b present ≡ n → n ≡ suc m → checked_result (run_answer.Refused n) b present ≡ checked_call i budget b present
+  checked_refused : (e : Refusal) → checked_refusal i b present ≡ refusal_number e → checked_result (Err e) b present ≡ checked_call i budget b present
   unfolding checked_result checked_call checked_unless run_meaning
-  checked_refused n m e s = rw (e, s)
+  checked_refused e q = rw (q, sym (suc-pred-eq_of_ne-zero (some_refusal e)))
 
-  pub present_wrong : {n : ℕ} → n ≡ bad_buffer → (length present ≡ present_bodies_length → ⊥) → checked_result (run_answer.Refused n) b present ≡ checked_call i budget b present
-  present_wrong {n} e h = checked_refused n 0 (short_present i b present h ∙ sym e) e
+  pub present_wrong : (length present ≡ present_bodies_length → ⊥) → checked_result (Err BadBuffer) b present ≡ checked_call i budget b present
+  present_wrong h = checked_refused BadBuffer (short_present i b present h)
 
   module _ {areas others bodies : List ℕ} {r : Result Pair Refusal} (l : length present ≡ present_bodies_length) (h : RunIs r i b areas others bodies) where
     shares : refusal_of r ≡ checked_refusal i b present
     shares = h.refusal ∙ sym (checked_shares i b present l)
 
-    pub run_refused : {e : Refusal} {n : ℕ} → n ≡ refusal_number e → r ≡ Err e → checked_result (run_answer.Refused n) b present ≡ checked_call i budget b present
-    run_refused {e} {n} k q =
-        checked_refused n _ (sym shares ∙ ap (λ (x : Result Pair Refusal). refusal_of x) q ∙ sym k) (k ∙ sym (suc-pred-eq_of_ne-zero (some_refusal e)))
+    pub run_refused : {e : Refusal} → r ≡ Err e → checked_result (Err e) b present ≡ checked_call i budget b present
+    run_refused {e} q = checked_refused e (sym shares ∙ ap (λ (x : Result Pair Refusal). refusal_of x) q)
 
-    pub run_done : {p : Pair} (q : r ≡ Ok p) (a : RunAnswer) (after : Buffers) (bytes : List ℕ)
-        → checked_result a after bytes ≡ checked_end budget (run (profile_of (take p.rows areas) (take p.limits others)) (readings_of i.variables i.numbers) budget)
+    pub run_done : {p : Pair} (q : r ≡ Ok p) {rows limits : List ℕ} (is : rows ≡ take p.profile.length areas) (lims : limits ≡ take p.limits.length others) (a : RunAnswer) (after : Buffers) (bytes : List ℕ)
+        → checked_result a after bytes ≡ checked_end budget (run (profile_of rows limits) (readings_of i.variables i.numbers) budget)
         → checked_result a after bytes ≡ checked_call i budget b present
     unfolding checked_call checked_unless checked_end run_of
-    run_done {p} q a after bytes e =
+    run_done {p} q is lims a after bytes e =
         e
-        ∙ ap₂ (λ (rows limits : List ℕ). checked_end budget (run (profile_of rows limits) (readings_of i.variables i.numbers) budget)) (h.taken p q).files.rows (h.taken p q).files.limits
+        ∙ ap₂ (λ (rows limits : List ℕ). checked_end budget (run (profile_of rows limits) (readings_of i.variables i.numbers) budget)) (is ∙ (h.taken p q).files.rows) (lims ∙ (h.taken p q).files.limits)
         ∙ ap (λ (k : ℕ). checked_unless k i budget b present) (sym (ap (λ (x : Result Pair Refusal). refusal_of x) q) ∙ shares)
 
 -- ---- the type check's verdict on rows
 module _ (rows limits : List ℕ) where
-  pub faulted : {f : TypeError} (who : List ℕ) (numbers : List ℤ) (budget : ℕ) (b : Buffers) (layout : List ℕ) {n : ℕ} → n ≡ type_error_found → check_profile (profile_of rows limits) ≡ fail f
-      → erased_result (run_answer.Refused n) b layout ≡ erased_rows rows limits who numbers budget b layout
+  pub faulted : {f : TypeError} (who : List ℕ) (numbers : List ℤ) (budget : ℕ) (b : Buffers) (layout : List ℕ) → check_profile (profile_of rows limits) ≡ fail f
+      → erased_result (Err TypeErrorFound) b layout ≡ erased_rows rows limits who numbers budget b layout
   unfolding erased_rows erased_verdict erased_result run_meaning
-  faulted who numbers budget b layout e is =
-      ap (λ (k : ℕ). erased_result (run_answer.Refused k) b layout) e
-      ∙ ap (λ (o : Outcome TypeError (List Entry)). erased_verdict o budget (run (profile_of rows limits) (readings_of who numbers) budget) b layout) (sym is)
+  faulted who numbers budget b layout is =
+      ap (λ (o : Outcome TypeError (List Entry)). erased_verdict o budget (run (profile_of rows limits) (readings_of who numbers) budget) b layout) (sym is)
 
   pub passed_rows : {table : List ℕ} → ConcludesPassed table (check_profile (profile_of rows limits)) → {copy : List ℕ} → copy ≡ table → length table ≡ layout_length → PassedRows rows limits copy
   passed_rows p e l = record { entries = p.entries; passed = p.is; layout_is = e ∙ p.layout; long = ap length e ∙ l }
@@ -133,25 +131,22 @@ passed_done rows limits who numbers budget b layout copy p r after e =
 
 -- ---- the erased run
 module _ (i : Inputs) (b : Buffers) (layout : List ℕ) (budget : ℕ) where
-  erased_refused : (n m : ℕ) → erased_refusal i b layout ≡ n → n ≡ suc m → erased_result (run_answer.Refused n) b layout ≡ erased_call i budget b layout
+  erased_refused : (e : Refusal) → erased_refusal i b layout ≡ refusal_number e → erased_result (Err e) b layout ≡ erased_call i budget b layout
   unfolding erased_result erased_call erased_unless run_meaning
-  erased_refused n m e s = rw (e, s)
+  erased_refused e q = rw (q, sym (suc-pred-eq_of_ne-zero (some_refusal e)))
 
-  pub layout_wrong : {n : ℕ} → n ≡ bad_buffer → (length layout ≡ layout_length → ⊥) → erased_result (run_answer.Refused n) b layout ≡ erased_call i budget b layout
-  layout_wrong {n} e h = erased_refused n 0 (short_layout i b layout h ∙ sym e) e
+  pub layout_wrong : (length layout ≡ layout_length → ⊥) → erased_result (Err BadBuffer) b layout ≡ erased_call i budget b layout
+  layout_wrong h = erased_refused BadBuffer (short_layout i b layout h)
 
   module _ {areas others bodies : List ℕ} {r : Result Pair Refusal} (l : length layout ≡ layout_length) (h : RunIs r i b areas others bodies) where
-    pub erased_run_refused : {e : Refusal} {n : ℕ} → n ≡ refusal_number e → r ≡ Err e → erased_result (run_answer.Refused n) b layout ≡ erased_call i budget b layout
-    erased_run_refused {e} {n} k q =
+    pub erased_run_refused : {e : Refusal} → r ≡ Err e → erased_result (Err e) b layout ≡ erased_call i budget b layout
+    erased_run_refused {e} q =
         let g : run_refusal i b ≡ refusal_number e = sym h.refusal ∙ ap (λ (x : Result Pair Refusal). refusal_of x) q in
-        erased_refused n _ (run_refuses i b layout l (λ z. some_refusal e (sym g ∙ z)) ∙ g ∙ sym k) (k ∙ sym (suc-pred-eq_of_ne-zero (some_refusal e)))
+        erased_refused e (run_refuses i b layout l (λ z. some_refusal e (sym g ∙ z)) ∙ g)
 
     module _ {p : Pair} (q : r ≡ Ok p) where
       none_applies : run_refusal i b ≡ 0
       none_applies = sym h.refusal ∙ ap (λ (x : Result Pair Refusal). refusal_of x) q
-
-      rows_are : erased_rows (take p.rows areas) (take p.limits others) i.variables i.numbers budget b layout ≡ erased_rows (rows_of i.profile) (rows_of i.limits) i.variables i.numbers budget b layout
-      rows_are = ap₂ (λ (rows limits : List ℕ). erased_rows rows limits i.variables i.numbers budget b layout) (h.taken p q).files.rows (h.taken p q).files.limits
 
       by_verdict : (o : Outcome TypeError (List Entry)) → check_profile (profile_of (rows_of i.profile) (rows_of i.limits)) ≡ o
           → erased_verdict o budget (run_of i budget) b layout ≡ erased_call i budget b layout
@@ -162,8 +157,10 @@ module _ (i : Inputs) (b : Buffers) (layout : List ℕ) (budget : ℕ) where
       by_verdict (fail e) f =
           ap (λ (k : ℕ). erased_unless k i budget b layout) (sym (type_error_refuses i b layout l none_applies (fail e) f refl))
 
-      pub erased_done : (a : RunAnswer) (after : Buffers) (table : List ℕ)
-          → erased_result a after table ≡ erased_rows (take p.rows areas) (take p.limits others) i.variables i.numbers budget b layout
+      pub erased_done : {rows limits : List ℕ} (is : rows ≡ take p.profile.length areas) (lims : limits ≡ take p.limits.length others) (a : RunAnswer) (after : Buffers) (table : List ℕ)
+          → erased_result a after table ≡ erased_rows rows limits i.variables i.numbers budget b layout
           → erased_result a after table ≡ erased_call i budget b layout
-      erased_done a after table e =
-          e ∙ rows_are ∙ (unfold erased_rows run_of in by_verdict (check_profile (profile_of (rows_of i.profile) (rows_of i.limits))) refl)
+      erased_done is lims a after table e =
+          e
+          ∙ ap₂ (λ (rows limits : List ℕ). erased_rows rows limits i.variables i.numbers budget b layout) (is ∙ (h.taken p q).files.rows) (lims ∙ (h.taken p q).files.limits)
+          ∙ (unfold erased_rows run_of in by_verdict (check_profile (profile_of (rows_of i.profile) (rows_of i.limits))) refl)

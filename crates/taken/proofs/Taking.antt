@@ -51,12 +51,12 @@ module _ (i : Inputs) (b : Buffers) (areas others bodies : List ℕ) where
     files_wrong {r} {e} h q =
         refused_by (files_refused i b f (refusal_number e) (sym (ap (λ (x : Result Pair Refusal). refusal_of x) q) ∙ h.refusal) (some_refusal e))
 
-    module _ {r : Result Pair Refusal} {p : Pair} (h : PairIs r i.profile i.limits areas others bodies) (given : r ≡ Ok p) (w : Bool) (is : w ≡ reading_wrong (take p.rows areas) i.variables) where
+    module _ {r : Result Pair Refusal} {p : Pair} (h : PairIs r i.profile i.limits areas others bodies) (given : r ≡ Ok p) {rows : List ℕ} (are : rows ≡ take p.profile.length areas) (w : Bool) (is : w ≡ reading_wrong rows i.variables) where
       accepted : lowest (pair_rules i.profile i.limits) ≡ 0
       accepted = sym h.refusal ∙ ap (λ (x : Result Pair Refusal). refusal_of x) given
 
       wrong_is : reading_wrong (rows_of i.profile) i.variables ≡ w
-      wrong_is = ap (λ (rows : List ℕ). reading_wrong rows i.variables) (sym (h.taken p given).rows) ∙ sym is
+      wrong_is = ap (λ (x : List ℕ). reading_wrong x i.variables) (sym (are ∙ (h.taken p given).rows)) ∙ sym is
 
       pub readings_wrong : w ≡ true → RunIs (Err BadReading) i b areas others bodies
       readings_wrong q = refused_by (inputs_refused i b f accepted (wrong_is ∙ q))

@@ -1,141 +1,106 @@
 // The erased run of a pair of files that was taken (document 01: chair run). It fills the layout table (sheet) itself, whatever that held; a
 // refusal, 17 included, leaves all lent memory as it was.
 ghost use Rattle.std.specs.Prelude.{◌≡◌, List, ℕ, length};
-ghost use Rattle.lingua.specs.Numbers.{layout_length, type_section};
-ghost use Rattle.lingua.specs.Rows.{table_count};
+ghost use Rattle.lingua.specs.Numbers.{layout_length};
 ghost use Rattle.lingua.specs.Run.{run as meaning};
 ghost use Rattle.lingua.specs.Trees.{profile_of};
-ghost use Rattle.lingua.specs.Inputs.{inputs, buffers};
+ghost use Rattle.lingua.specs.Inputs.{inputs};
 ghost use Rattle.lingua.specs.Calls.{readings_of, ran, run_result, erased_call, erased_result};
 ghost use Rattle.pair.specs.Pair.{PairIs};
-ghost use Rattle.decoder.specs.Tables.{AreTables};
-ghost use Rattle.rules.specs.Types.{BodiesBelow};
-ghost use Rattle.profile.specs.Find.{LimitsOwned};
+ghost use Rattle.taken.specs.Given.{IsKnown, buffers_in, SameRegisters};
 ghost use Rattle.taken.specs.Taken.{PairOf};
 ghost use Rattle.taken.specs.Ways.{Startable, QuantitiesLimited, PassedRows, erased_rows};
 
-use decoder::tables::{Table, Tables};
-use frames::memory::{Context, Memory};
-use frames::way::Way;
+use decoder::rows::Rows;
+use frames::context::Context;
+use frames::erased_way::Erased;
 use lingua::RunAnswer;
 use lingua::errors::Refusal;
-use lingua::sizes::{LAYOUT_LENGTH, LIMIT_CELLS_LENGTH, MOST_LIMITS};
+use lingua::sizes::{LAYOUT_LENGTH, LIMIT_CELLS_LENGTH};
 use pair::Pair;
+use run::memory::Memory;
 use run::start::start;
+use taken::given::{Asked, Registers, Runnable};
 use taken::refusal::run_refusal;
 use typecheck::whole::check_profile;
 use whole_run::whole::run;
 
 // The run of passed rows, with the layout table and no body; what an earlier run left in lent memory does not stay.
 fn passed_rows(
-    rows: &[u8],
-    tables: Tables,
-    limits: &[u8],
-    named: Table,
-    owners: [u8; MOST_LIMITS],
+    from: &Runnable,
     layout: &[u16],
-    who: &[u16],
-    numbers: &[i64],
-    budget: u16,
-    cells: &mut [i64],
-    states: &mut [u16],
-    open_cells: &mut [i64],
-    open_states: &mut [u16],
+    asked: &Asked,
+    registers: &mut Registers,
 ) -> RunAnswer
-    requires startable { Startable rows.now who.now numbers.now (buffers cells.old states.old open_cells.old open_states.old) }
-    requires are_tables { AreTables rows.now tables × LimitsOwned rows.now limits.now named owners }
-    requires passed_rows { PassedRows rows.now limits.now layout.now × QuantitiesLimited rows.now limits.now }
-    ensures { run_result result (buffers cells.new states.new open_cells.new open_states.new) ≡ ran budget (meaning (profile_of rows.now limits.now) (readings_of who.now numbers.now) budget) }
+    requires startable { Startable from.now.rows.now asked.now.variables.now asked.now.numbers.now (buffers_in registers.old) }
+    requires is_known { IsKnown from.now }
+    requires passed_rows { PassedRows from.now.rows.now from.now.limits.now layout.now }
+    requires quantities_limited { QuantitiesLimited from.now.rows.now from.now.limits.now }
+    ensures run { run_result result (buffers_in registers.new) ≡ ran asked.now.budget (meaning (profile_of from.now.rows.now from.now.limits.now) (readings_of asked.now.variables.now asked.now.numbers.now) asked.now.budget) }
+    ensures same_registers { SameRegisters registers.old registers.new }
 {
-    let declarations = tables.declarations;
+    let rows = from.rows;
     let mut kept = [0i64; LIMIT_CELLS_LENGTH];
     let types = [0u8; 0];
     let mut bodies = [0u8; 0];
     let mut none = [0u8; 0];
-    open_cells.fill(0);
-    open_states.fill(0);
+    registers.open_cells.fill(0);
+    registers.open_states.fill(0);
     start(
         rows,
-        declarations,
-        limits,
-        named,
-        owners,
+        from.limits,
+        from.owners,
         &mut kept,
-        &mut *cells,
-        &mut *states,
+        &mut *registers.cells,
+        &mut *registers.states,
     );
     let context = Context {
-        way: Way::Erased,
         rows,
-        expressions: tables.expressions,
         layout,
         limits: &kept,
     };
     let mut memory = Memory {
         bodies: &mut bodies,
-        cells,
-        states,
+        cells: &mut *registers.cells,
+        states: &mut *registers.states,
     };
     let mut open = Memory {
         bodies: &mut none,
-        cells: open_cells,
-        states: open_states,
+        cells: &mut *registers.open_cells,
+        states: &mut *registers.open_states,
     };
-    run(
+    Ok(run::<Erased>(
         &context,
-        tables,
         &types,
         &mut memory,
         &mut open,
-        who,
-        numbers,
-        budget,
-    )
+        asked.variables,
+        asked.numbers,
+        asked.budget,
+    ))
 }
 
 // The type check works on a table of its own, which becomes the caller's once no rule applies any more: rule 17 leaves that as it was.
 fn erased_rows(
-    rows: &[u8],
-    tables: Tables,
-    limits: &[u8],
-    named: Table,
-    owners: [u8; MOST_LIMITS],
-    bodies: &[u8],
-    who: &[u16],
-    numbers: &[i64],
-    budget: u16,
-    cells: &mut [i64],
-    states: &mut [u16],
-    open_cells: &mut [i64],
-    open_states: &mut [u16],
+    from: &Runnable,
+    asked: &Asked,
+    registers: &mut Registers,
     layout: &mut [u16],
 ) -> RunAnswer
-    requires startable { Startable rows.now who.now numbers.now (buffers cells.old states.old open_cells.old open_states.old) }
-    requires are_tables { AreTables rows.now tables × LimitsOwned rows.now limits.now named owners }
-    requires bodies_below { BodiesBelow rows.now bodies.now (table_count rows.now type_section) × ((length layout.old ≡ layout_length) × QuantitiesLimited rows.now limits.now) }
-    ensures { erased_result result (buffers cells.new states.new open_cells.new open_states.new) layout.new ≡ erased_rows rows.now limits.now who.now numbers.now budget (buffers cells.old states.old open_cells.old open_states.old) layout.old }
+    requires startable { Startable from.now.rows.now asked.now.variables.now asked.now.numbers.now (buffers_in registers.old) }
+    requires is_known { IsKnown from.now }
+    requires layout_len { length layout.old ≡ layout_length }
+    requires quantities_limited { QuantitiesLimited from.now.rows.now from.now.limits.now }
+    ensures run { erased_result result (buffers_in registers.new) layout.new ≡ erased_rows from.now.rows.now from.now.limits.now asked.now.variables.now asked.now.numbers.now asked.now.budget (buffers_in registers.old) layout.old }
+    ensures same_registers { SameRegisters registers.old registers.new }
 {
     let mut table = [0u16; LAYOUT_LENGTH];
-    match check_profile(rows, tables, bodies, &mut table) {
+    match check_profile(from.rows, from.bodies, &mut table) {
         Ok(()) => {
             layout.copy_from_slice(&table);
-            passed_rows(
-                rows,
-                tables,
-                limits,
-                named,
-                owners,
-                layout,
-                who,
-                numbers,
-                budget,
-                cells,
-                states,
-                open_cells,
-                open_states,
-            )
+            passed_rows(from, layout, asked, registers)
         }
-        Err(_) => RunAnswer::Refused(Refusal::TypeErrorFound.number()),
+        Err(_) => Err(Refusal::TypeErrorFound),
     }
 }
 
@@ -145,50 +110,27 @@ pub fn erased_taken(
     areas: &[u8],
     others: &[u8],
     bodies: &[u8],
-    who: &[u16],
-    numbers: &[i64],
-    budget: u16,
-    cells: &mut [i64],
-    states: &mut [u16],
-    open_cells: &mut [i64],
-    open_states: &mut [u16],
+    asked: &Asked,
+    registers: &mut Registers,
     layout: &mut [u16],
 ) -> RunAnswer
     requires { PairOf pair areas.now others.now bodies.now }
-    ensures { (prof lims : List ℕ) → PairIs pair prof lims areas.now others.now bodies.now → erased_result result (buffers cells.new states.new open_cells.new open_states.new) layout.new ≡ erased_call (inputs prof lims who.now numbers.now) budget (buffers cells.old states.old open_cells.old open_states.old) layout.old }
+    ensures run { (prof lims : List ℕ) → PairIs pair prof lims areas.now others.now bodies.now
+        → erased_result result (buffers_in registers.new) layout.new ≡ erased_call (inputs prof lims asked.now.variables.now asked.now.numbers.now) asked.now.budget (buffers_in registers.old) layout.old }
+    ensures same_registers { SameRegisters registers.old registers.new }
 {
     if layout.len() != LAYOUT_LENGTH {
-        return RunAnswer::Refused(Refusal::BadBuffer.number());
+        return Err(Refusal::BadBuffer);
     }
-    let runnable = run_refusal(
-        pair,
-        areas,
+    let taken = run_refusal(pair, areas, bodies, asked, &*registers)?;
+    let rows = Rows::with(&areas[..taken.profile.length], taken.profile.tables);
+    let limits = Rows::with(&others[..taken.limits.length], taken.limits.tables);
+    let owners = taken.owners;
+    let from = Runnable {
+        rows: &rows,
+        limits: &limits,
+        owners,
         bodies,
-        who,
-        numbers,
-        cells,
-        states,
-        open_cells,
-        open_states,
-    );
-    let taken = match runnable {
-        Ok(taken) => taken,
-        Err(refusal) => return RunAnswer::Refused(refusal.number()),
     };
-    erased_rows(
-        &areas[..taken.rows],
-        taken.tables,
-        &others[..taken.limits],
-        taken.named,
-        taken.owners,
-        bodies,
-        who,
-        numbers,
-        budget,
-        cells,
-        states,
-        open_cells,
-        open_states,
-        layout,
-    )
+    erased_rows(&from, asked, registers, layout)
 }

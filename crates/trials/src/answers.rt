@@ -1,8 +1,9 @@
 // Each call's answer as a line.
 use crate::nonsense::Lent;
-use crate::shown::{Hex, Places};
+use crate::shown::{At, Hex, Places};
+use lingua::errors::Refusal;
 use lingua::sizes::ROW_BYTES;
-use lingua::{CheckAnswer, FindAnswer, ReadAnswer, RunAnswer, WriteAnswer};
+use lingua::{CheckAnswer, FindAnswer, ReadAnswer, RowsRead, RunAnswer, RunEnd, Search, WriteAnswer};
 use std::io;
 use std::io::Write;
 
@@ -11,9 +12,9 @@ pub(crate) fn bad_case<W: Write>(out: &mut W) -> io::Result<()> {
 }
 
 // A refusal; `kept` is whether the lent buffers still hold what they held.
-fn refused<W: Write>(number: u8, kept: bool, out: &mut W) -> io::Result<()> {
+fn refused<W: Write>(refusal: Refusal, kept: bool, out: &mut W) -> io::Result<()> {
     if kept {
-        writeln!(out, "refused {number}")
+        writeln!(out, "refused {}", refusal.number())
     } else {
         writeln!(out, "changed")
     }
@@ -26,18 +27,17 @@ pub(crate) fn run_line<W: Write>(
     out: &mut W,
 ) -> io::Result<()> {
     match answer {
-        RunAnswer::Refused(number) => return refused(number, kept, out),
-        RunAnswer::Finished { steps } => write!(out, "run 0 0 0 {steps}")?,
-        RunAnswer::Failed {
-            error,
-            place,
+        Err(refusal) => return refused(refusal, kept, out),
+        Ok(RunEnd::Finished { steps }) => write!(out, "run 0 0 0 {steps}")?,
+        Ok(RunEnd::Failed { at, steps }) => write!(out, "run 1 {} {steps}", At(at))?,
+        Ok(RunEnd::Out {
+            recorded: Some(at),
             steps,
-        } => write!(out, "run 1 {error} {place} {steps}")?,
-        RunAnswer::Out {
-            error,
-            place,
+        }) => write!(out, "run 2 {} {steps}", At(at))?,
+        Ok(RunEnd::Out {
+            recorded: None,
             steps,
-        } => write!(out, "run 2 {error} {place} {steps}")?,
+        }) => write!(out, "run 2 0 0 {steps}")?,
     }
     write!(out, " cells {}", Places(&lent.cells))?;
     write!(out, " marks {}", Places(&lent.states))?;
@@ -53,8 +53,8 @@ pub(crate) fn bodies_line<W: Write>(
     out: &mut W,
 ) -> io::Result<()> {
     match answer {
-        RunAnswer::Refused(number) => refused(number, kept, out),
-        _ => writeln!(out, "bodies {}", Places(bodies)),
+        Err(refusal) => refused(refusal, kept, out),
+        Ok(_) => writeln!(out, "bodies {}", Places(bodies)),
     }
 }
 
@@ -65,9 +65,9 @@ pub(crate) fn check_line<W: Write>(
     out: &mut W,
 ) -> io::Result<()> {
     match answer {
-        CheckAnswer::Refused(number) => refused(number, kept, out),
-        CheckAnswer::Passed => writeln!(out, "pass {}", Places(layout)),
-        CheckAnswer::TypeError { error, place } => writeln!(out, "fault {error} {place}"),
+        Err(refusal) => refused(refusal, kept, out),
+        Ok(Ok(())) => writeln!(out, "pass {}", Places(layout)),
+        Ok(Err(at)) => writeln!(out, "fault {}", At(at)),
     }
 }
 
@@ -79,8 +79,8 @@ pub(crate) fn read_line<W: Write>(
     out: &mut W,
 ) -> io::Result<()> {
     match answer {
-        ReadAnswer::Refused(number) => refused(number, kept, out),
-        ReadAnswer::Rows { model, count } => {
+        Err(refusal) => refused(refusal, kept, out),
+        Ok(RowsRead { model, count }) => {
             let counted = rows.get(..count as usize * ROW_BYTES).unwrap_or(rows);
             writeln!(out, "rows {model} {count} {}", Hex(counted))
         }
@@ -89,9 +89,15 @@ pub(crate) fn read_line<W: Write>(
 
 pub(crate) fn find_line<W: Write>(answer: FindAnswer, out: &mut W) -> io::Result<()> {
     match answer {
-        FindAnswer::Refused(number) => refused(number, true, out),
-        FindAnswer::Found { index, looked } => writeln!(out, "found {index} {looked}"),
-        FindAnswer::Missing { looked } => writeln!(out, "none {looked}"),
+        Err(refusal) => refused(refusal, true, out),
+        Ok(Search {
+            index: Some(index),
+            looked,
+        }) => writeln!(out, "found {index} {looked}"),
+        Ok(Search {
+            index: None,
+            looked,
+        }) => writeln!(out, "none {looked}"),
     }
 }
 
@@ -102,7 +108,7 @@ pub(crate) fn write_line<W: Write>(
     out: &mut W,
 ) -> io::Result<()> {
     match answer {
-        WriteAnswer::Refused(number) => refused(number, kept, out),
-        WriteAnswer::Written => writeln!(out, "file {}", Hex(file)),
+        Err(refusal) => refused(refusal, kept, out),
+        Ok(()) => writeln!(out, "file {}", Hex(file)),
     }
 }

@@ -32,12 +32,18 @@ pub struct Run<'a> {
     budget: u16,
 }
 
-// Which run a line asks for, and what of it is shown.
+// What is shown of a checked run.
+#[derive(Clone, Copy)]
+pub enum Part {
+    Cells,
+    Bodies,
+}
+
+// Which run a line asks for.
 #[derive(Clone, Copy)]
 pub enum RunKind {
-    Desk,
-    Bodies,
-    Chair,
+    Checked(Part),
+    Erased,
 }
 
 pub(crate) fn answer<W: Write>(line: &[u8], out: &mut W) -> io::Result<()> {
@@ -55,9 +61,9 @@ fn case<W: Write>(line: &[u8], out: &mut W) -> Option<io::Result<()>> {
         "find" => find_case(fields, out),
         "write" => write_case(fields, out),
         "inspect" => inspect_case(fields, out),
-        "desk" => run_case(RunKind::Desk, fields, out),
-        "bodies" => run_case(RunKind::Bodies, fields, out),
-        "chair" => run_case(RunKind::Chair, fields, out),
+        "desk" => run_case(RunKind::Checked(Part::Cells), fields, out),
+        "bodies" => run_case(RunKind::Checked(Part::Bodies), fields, out),
+        "chair" => run_case(RunKind::Erased, fields, out),
         _ => None,
     }
 }
@@ -164,14 +170,13 @@ fn run_case<W: Write>(
         budget,
     };
     Some(match kind {
-        RunKind::Desk => run_checked(run, false, out),
-        RunKind::Bodies => run_checked(run, true, out),
-        RunKind::Chair => run_erased(run, out),
+        RunKind::Checked(part) => run_checked(run, part, out),
+        RunKind::Erased => run_erased(run, out),
     })
 }
 
-// A desk line shows the cells and the state words; `present` asks for the present bodies of the same run in their place.
-fn run_checked<W: Write>(run: Run<'_>, present: bool, out: &mut W) -> io::Result<()> {
+// A desk line shows the cells and the state words, a bodies line the present bodies of the same run in their place.
+fn run_checked<W: Write>(run: Run<'_>, part: Part, out: &mut W) -> io::Result<()> {
     let mut lent = Lent::new();
     let mut bodies = [BYTE; PRESENT_BODIES_LENGTH];
     let answer = calls::checked_run::run_checked(
@@ -187,10 +192,9 @@ fn run_checked<W: Write>(run: Run<'_>, present: bool, out: &mut W) -> io::Result
         &mut bodies,
     );
     let kept = lent.is_kept() && is_kept(&bodies, &BYTE);
-    if present {
-        bodies_line(answer, kept, &bodies, out)
-    } else {
-        run_line(answer, kept, &lent, out)
+    match part {
+        Part::Cells => run_line(answer, kept, &lent, out),
+        Part::Bodies => bodies_line(answer, kept, &bodies, out),
     }
 }
 

@@ -1,4 +1,5 @@
-// Bytes and lists of places, to text.
+// Bytes, lists of places and errors, to text.
+use lingua::errors::ErrorAt;
 use std::fmt;
 use std::fmt::Display;
 
@@ -36,5 +37,15 @@ impl<T: Copy + Into<i64>> Display for Places<'_, T> {
             }
         }
         if some { Ok(()) } else { write!(f, "-") }
+    }
+}
+
+// An error's number and its place.
+#[derive(Clone, Copy)]
+pub struct At(pub ErrorAt);
+
+impl Display for At {
+    fn fmt<W: fmt::Write>(&self, f: &mut fmt::Formatter<W>) -> fmt::Result {
+        write!(f, "{} {}", self.0.error.number(), self.0.place)
     }
 }

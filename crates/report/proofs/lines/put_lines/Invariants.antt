@@ -7,4 +7,4 @@ use Rattle.report.proofs.lines.put_lines.Given as goal
 
 abbrev pub invariant-loop-d : goal.invariant-loop-d
 invariant-loop-d l =
-    (vs : List Variable) → Left l.rows l.bodies l.cells l.states vs → Appended l.initial.out l.at (memory_lines l.rows l.cells l.states vs 0 l.d) l.out l.end
+    (vs : List Variable) → Left l.rows l.bodies l.cells l.states vs → Appended l.initial.page (memory_lines l.rows l.cells l.states vs 0 l.d) l.page

@@ -7,7 +7,7 @@ use lib.Seq.{length-take-le}
 use Rattle.lingua.specs.Faults.{refusal_of}
 use Rattle.pair.proofs.Given.{room_there}
 use Rattle.report.specs.Call.{report_call}
-use Rattle.report.proofs.Reporting.{run_left, report_written}
+use Rattle.report.proofs.Reporting.{last, run_left, report_written}
 use Rattle.report.proofs.Taking.{left_rows}
 use Rattle.report.proofs.report.report_text.Goals as goal
 
@@ -27,12 +27,15 @@ pub put_variables-requires-clause-has_left : goal.put_variables-requires-clause-
 unfolding report_call
 put_variables-requires-clause-has_left c = λ t z.
     let h = c.take_pair-pair.ensures in
-    record { store = _; left = left_rows h t z (run_left c.args.profile.now c.args.limits.now _ _ _ (c.checked_taken-answer.ensures _ _ h) (sym h.refusal ∙ ap refusal_of z)) }
+    let k = left_rows h t z (run_left c.args.profile.now c.args.limits.now _ _ _ (c.checked_taken-answer.ensures.run _ _ h) (sym h.refusal ∙ ap refusal_of z)) in
+    record { store = last c.args.profile.now c.args.limits.now; left = search (rules, k, c.checked_taken-answer.ensures.same_registers) }
 
 pub returns : goal.returns
 unfolding report_call
 returns c =
     let h = c.take_pair-pair.ensures in
-    let e = c.checked_taken-answer.ensures _ _ h in
-    report_written c.args.profile.now c.args.limits.now _ _ _ c.requires e c.put_answer-end.ensures (search rules)
-    (c.put_variables.ensures _ _ _ _ _ h (λ t z. left_rows h t z (run_left c.args.profile.now c.args.limits.now _ _ _ e (sym h.refusal ∙ ap refusal_of z))))
+    let e = c.checked_taken-answer.ensures.run _ _ h in
+    let put =
+    c.put_variables.ensures _ _ _ _ (last c.args.profile.now c.args.limits.now) h
+    (λ t z. let k = left_rows h t z (run_left c.args.profile.now c.args.limits.now _ _ _ e (sym h.refusal ∙ ap refusal_of z)) in search (rules, k, c.checked_taken-answer.ensures.same_registers)) in
+    report_written c.args.profile.now c.args.limits.now _ _ _ c.requires.blank c.requires.room e c.put_answer.ensures (search (rules, put, c.checked_taken-answer.ensures.same_registers))

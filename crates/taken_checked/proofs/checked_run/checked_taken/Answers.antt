@@ -1,29 +1,36 @@
 -- `taken_checked::checked_run::checked_taken` meets its contract: refused, or as the run of both files ends. Assumes nothing.
 use mathlib.Core.Path.{sym}
 use lib.Seq.{length-take-le}
-use Rattle.lingua.specs.Inputs.{buffers}
-use Rattle.taken.proofs.Calling.{checked_asks, present_wrong, run_refused, run_done}
+use Rattle.pair.proofs.Given.{tables_there, limit_tables_there}
+use Rattle.pair.proofs.Returns.{passed_on}
+use Rattle.taken.proofs.Calling.{asks, present_wrong, run_refused, run_done}
 use Rattle.taken_checked.proofs.checked_run.checked_taken.Goals as goal
 
-pub returns-then-present-ne-PRESENT_BODIES_LENGTH : goal.returns-then-present-ne-PRESENT_BODIES_LENGTH
-returns-then-present-ne-PRESENT_BODIES_LENGTH c = λ prof lims h. present_wrong _ (buffers _ _ _ _) _ c.args.budget c.number.ensures c.if-present-ne-PRESENT_BODIES_LENGTH.true
+pub returns-then-present-ne-PRESENT_BODIES_LENGTH-clause-run : goal.returns-then-present-ne-PRESENT_BODIES_LENGTH-clause-run
+returns-then-present-ne-PRESENT_BODIES_LENGTH-clause-run c = λ prof lims h. present_wrong _ _ _ _ c.if-present-ne-PRESENT_BODIES_LENGTH.true
 
-pub run_refusal-runnable-requires : goal.run_refusal-runnable-requires
-run_refusal-runnable-requires c = (c.args.others.now, c.requires)
+pub run_refusal-requires : goal.run_refusal-requires
+run_refusal-requires c = (c.args.others.now, c.requires)
 
-pub returns-in-Err : goal.returns-in-Err
-returns-in-Err c = λ prof lims h. run_refused _ _ _ c.args.budget c.if-present-ne-PRESENT_BODIES_LENGTH.false (c.run_refusal-runnable.ensures prof lims _ h) c.number-in-Err.ensures c.in-Err.is
+pub returns-in_err-taken-clause-run : goal.returns-in_err-taken-clause-run
+returns-in_err-taken-clause-run c = λ prof lims h. rw (passed_on _ c.from_residual.ensures.1) (run_refused _ _ _ _ c.if-present-ne-PRESENT_BODIES_LENGTH.false (c.run_refusal.ensures prof lims _ h) c.in_err-taken.was)
 
-pub slice_bounds-checked_lent-end : goal.slice_bounds-checked_lent-end
-slice_bounds-checked_lent-end c = sym (length-take-le _ _ ((c.run_refusal-runnable.ensures _ _ _ c.requires.is).taken _ c.in-Ok.is).files.within)
+pub slice_bounds-with-end : goal.slice_bounds-with-end
+slice_bounds-with-end c = sym (length-take-le _ _ ((c.run_refusal.ensures _ _ _ c.requires.is).taken _ c.in_ok-taken.was).files.within)
 
-pub slice_bounds-checked_lent-end-2 : goal.slice_bounds-checked_lent-end-2
-slice_bounds-checked_lent-end-2 c = sym (length-take-le _ _ ((c.run_refusal-runnable.ensures _ _ _ c.requires.is).taken _ c.in-Ok.is).files.within_others)
+pub with-rows-requires : goal.with-rows-requires
+with-rows-requires c = tables_there ((c.run_refusal.ensures _ _ _ c.requires.is).taken _ c.in_ok-taken.was).files
+
+pub slice_bounds-with-end-2 : goal.slice_bounds-with-end-2
+slice_bounds-with-end-2 c = sym (length-take-le _ _ ((c.run_refusal.ensures _ _ _ c.requires.is).taken _ c.in_ok-taken.was).files.within_others)
+
+pub with-limits-requires : goal.with-limits-requires
+with-limits-requires c = limit_tables_there ((c.run_refusal.ensures _ _ _ c.requires.is).taken _ c.in_ok-taken.was).files
 
 pub checked_lent-requires : goal.checked_lent-requires
 checked_lent-requires c =
-    let k = checked_asks ((c.run_refusal-runnable.ensures _ _ _ c.requires.is).taken _ c.in-Ok.is) c.if-present-ne-PRESENT_BODIES_LENGTH.false in
-    record { startable = k.0; are_tables = k.1.0; bodies_below = k.1.1 }
+    let k = asks ((c.run_refusal.ensures _ _ _ c.requires.is).taken _ c.in_ok-taken.was) c.with-rows.ensures c.with-limits.ensures in
+    record { startable = k.0; is_known = k.1; present_len = c.if-present-ne-PRESENT_BODIES_LENGTH.false }
 
-pub returns : goal.returns
-returns c = λ prof lims h. run_done _ _ _ c.args.budget c.if-present-ne-PRESENT_BODIES_LENGTH.false (c.run_refusal-runnable.ensures prof lims _ h) c.in-Ok.is _ _ _ c.checked_lent.ensures
+pub returns-clause-run : goal.returns-clause-run
+returns-clause-run c = λ prof lims h. run_done _ _ _ _ c.if-present-ne-PRESENT_BODIES_LENGTH.false (c.run_refusal.ensures prof lims _ h) c.in_ok-taken.was c.with-rows.ensures c.with-limits.ensures _ _ _ c.checked_lent.ensures.run
