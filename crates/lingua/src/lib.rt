@@ -19,9 +19,17 @@ pub enum FileKind {
 // How a run ended, with its steps. Out of budget may leave an error recorded.
 #[derive(Clone, Copy, Debug, PartialEq, Eq)]
 pub enum RunEnd {
-    Finished { steps: u16 },
-    Failed { at: ErrorAt, steps: u16 },
-    Out { recorded: Option<ErrorAt>, steps: u16 },
+    Finished {
+        steps: u16,
+    },
+    Failed {
+        at: ErrorAt,
+        steps: u16,
+    },
+    Out {
+        recorded: Option<ErrorAt>,
+        steps: u16,
+    },
 }
 
 // What the reader found; the rows are in the caller's buffer.
@@ -42,7 +50,9 @@ pub struct Search {
 pub type RunAnswer = Result<RunEnd, Refusal>;
 // The type check (document 01: inspection) finds a profile in order, or its fault.
 pub type CheckAnswer = Result<Result<(), ErrorAt>, Refusal>;
+
 pub type ReadAnswer = Result<RowsRead, Refusal>;
 // The file is in the caller's buffer.
 pub type WriteAnswer = Result<(), Refusal>;
+
 pub type FindAnswer = Result<Search, Refusal>;

@@ -42,13 +42,7 @@ fn ends_fit(body: [u8; BODY_BYTES], low: i64, high: i64) -> bool
 
 // Whose a limit is: a number or hundredths variable of the profile, or nobody's.
 // The variable that has the name, where a value of it may have either end.
-fn owner_named(
-    rows: &Rows,
-    bodies: &[u8],
-    name: &[u8],
-    low: i64,
-    high: i64,
-) -> Option<usize>
+fn owner_named(rows: &Rows, bodies: &[u8], name: &[u8], low: i64, high: i64) -> Option<usize>
     requires declarations_known { DeclarationsKnown rows.now bodies.now }
     requires name_len { length name.now ≡ name_bytes }
     ensures { OneNamed (ends_fit (limit low high)) result rows.now name.now }

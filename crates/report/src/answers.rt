@@ -27,13 +27,17 @@ pub(crate) fn put_answer(answer: RunAnswer, page: &mut Page<'_>)
         Ok(RunEnd::Failed { at, steps }) => {
             put_end_line(page, FAILED, at.error.number(), at.place, steps)
         }
-        Ok(RunEnd::Out {
-            recorded: Some(at),
-            steps,
-        }) => put_end_line(page, OUT, at.error.number(), at.place, steps),
-        Ok(RunEnd::Out {
-            recorded: None,
-            steps,
-        }) => put_end_line(page, OUT, NO_ERROR, NO_PLACE, steps),
+        Ok(
+            RunEnd::Out {
+                recorded: Some(at),
+                steps,
+            },
+        ) => put_end_line(page, OUT, at.error.number(), at.place, steps),
+        Ok(
+            RunEnd::Out {
+                recorded: None,
+                steps,
+            },
+        ) => put_end_line(page, OUT, NO_ERROR, NO_PLACE, steps),
     }
 }

@@ -11,8 +11,8 @@ ghost use Rattle.taken.specs.Taken.{PairOf};
 ghost use Rattle.taken.specs.Ways.{Startable, checked_end};
 
 use decoder::rows::Rows;
-use frames::context::Context;
 use frames::checked_way::Checked;
+use frames::context::Context;
 use lingua::RunAnswer;
 use lingua::errors::Refusal;
 use lingua::sizes::{LIMIT_CELLS_LENGTH, PRESENT_BODIES_LENGTH, VARIABLE_BODIES_LENGTH};

@@ -3,7 +3,9 @@ use crate::nonsense::Lent;
 use crate::shown::{At, Hex, Places};
 use lingua::errors::Refusal;
 use lingua::sizes::ROW_BYTES;
-use lingua::{CheckAnswer, FindAnswer, ReadAnswer, RowsRead, RunAnswer, RunEnd, Search, WriteAnswer};
+use lingua::{
+    CheckAnswer, FindAnswer, ReadAnswer, RowsRead, RunAnswer, RunEnd, Search, WriteAnswer,
+};
 use std::io;
 use std::io::Write;
 
@@ -30,14 +32,18 @@ pub(crate) fn run_line<W: Write>(
         Err(refusal) => return refused(refusal, kept, out),
         Ok(RunEnd::Finished { steps }) => write!(out, "run 0 0 0 {steps}")?,
         Ok(RunEnd::Failed { at, steps }) => write!(out, "run 1 {} {steps}", At(at))?,
-        Ok(RunEnd::Out {
-            recorded: Some(at),
-            steps,
-        }) => write!(out, "run 2 {} {steps}", At(at))?,
-        Ok(RunEnd::Out {
-            recorded: None,
-            steps,
-        }) => write!(out, "run 2 0 0 {steps}")?,
+        Ok(
+            RunEnd::Out {
+                recorded: Some(at),
+                steps,
+            },
+        ) => write!(out, "run 2 {} {steps}", At(at))?,
+        Ok(
+            RunEnd::Out {
+                recorded: None,
+                steps,
+            },
+        ) => write!(out, "run 2 0 0 {steps}")?,
     }
     write!(out, " cells {}", Places(&lent.cells))?;
     write!(out, " marks {}", Places(&lent.states))?;
@@ -90,14 +96,18 @@ pub(crate) fn read_line<W: Write>(
 pub(crate) fn find_line<W: Write>(answer: FindAnswer, out: &mut W) -> io::Result<()> {
     match answer {
         Err(refusal) => refused(refusal, true, out),
-        Ok(Search {
-            index: Some(index),
-            looked,
-        }) => writeln!(out, "found {index} {looked}"),
-        Ok(Search {
-            index: None,
-            looked,
-        }) => writeln!(out, "none {looked}"),
+        Ok(
+            Search {
+                index: Some(index),
+                looked,
+            },
+        ) => writeln!(out, "found {index} {looked}"),
+        Ok(
+            Search {
+                index: None,
+                looked,
+            },
+        ) => writeln!(out, "none {looked}"),
     }
 }
 

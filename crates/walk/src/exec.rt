@@ -45,7 +45,9 @@ pub fn exec<W: Way>(
             }
             exec::<W>(j, setting, memory, area, first, stack)
         }
-        InstructionRow::Branch(e, i, j) => branch::<W>(row, e, i, j, setting, memory, area, m, stack),
+        InstructionRow::Branch(e, i, j) => branch::<W>(
+            row, e, i, j, setting, memory, area, m, stack,
+        ),
         InstructionRow::Loop(e, i) => turns::<W>(row, e, i, setting, memory, area, m, stack),
         InstructionRow::Handle(n, i) => handle::<W>(row, n, i, setting, memory, area, m, stack),
         // The call stands here twice, so that a compiler keeps it a function of its own, and its arrays out of each level's frame.
