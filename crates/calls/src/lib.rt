@@ -1,4 +1,6 @@
-// What hosts and programs call: the reader, the writer, the search for a variable by its name, the type check and both runs. Any bytes and any buffers may be handed in.
+// What hosts and programs call: the reader, the writer, the search for a variable by its name, the type check and both runs. Any bytes and any
+// buffers may be handed in. They are handed in one by one, as a host in C has them: each slice a pointer and a length, the inputs' variables and
+// numbers two slices.
 #![tactic(auto)]
 
 pub mod both; // both.rt: both runs of one profile

@@ -34,7 +34,8 @@ pub fn copies_in<W: Way>(
     Ok(())
 }
 
-// The variables from first on, one after the other, to those of a field, unless an error is recorded; what came back before one stays.
+// The variables from first on, one after the other, to those of a field, unless an error is recorded; what came back before one stays. Field,
+// count and first are read off the call's row where they are handed over: a struct of the three would be made only to be taken apart.
 pub fn copies_out<W: Way>(
     row: u16,
     context: &Context,

@@ -24,5 +24,5 @@ write_file-requires c =
 
 pub returns : goal.returns
 returns c =
-    let j = c.in_ok-rows_refusal.ensures.refusal in
-    write_done (file_meaning c.args.kind) _ _ _ c.if-rows-ne0.false (c.if-file-file_length.false ∙ c.file_length.ensures) _ (rw c.of.ensures at j) c.write_file.ensures
+    let none = c.in_ok-rows_refusal.ensures.refusal in
+    write_done (file_meaning c.args.kind) _ _ _ c.if-rows-ne0.false (c.if-file-file_length.false ∙ c.file_length.ensures) _ (rw c.of.ensures at none) c.write_file.ensures

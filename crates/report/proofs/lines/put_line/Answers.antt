@@ -2,13 +2,15 @@
 use mathlib.Core.Path.{ap, ◌∙◌}
 use native.Mathlib.Omega.{arith}
 use Rattle.std.specs.Option.{option_copied}
+use Rattle.lingua.specs.Numbers.{declaration_section}
+use Rattle.profile.proofs.Declaring.{pairs}
 use Rattle.run.proofs.Parts.{states_room, cells_room}
 use Rattle.checked_row.proofs.Storing.{memory_of}
 use Rattle.report.proofs.Putting.{there, lent, line_put}
 use Rattle.report.proofs.lines.put_line.Goals as goal
 
 pub bytes_at-name-requires : goal.bytes_at-name-requires
-bytes_at-name-requires c = ?
+bytes_at-name-requires c = rw c.bytes.ensures (omega (arith, c.declarations-t.ensures.within, c.requires.d_bound, pairs c.args.rows.now declaration_section _ c.declarations-t.ensures))
 
 pub present_cells-requires : goal.present_cells-requires
 present_cells-requires c =
