@@ -71,15 +71,14 @@ module _ (prof lims : List ℕ) where
 
     pub report_written :
         {page mid end : Sheet} →
-        page.text ≡ [] →
         most_text ≤ page.left →
         checked_result answer after bodies ≡ report_call prof lims →
         Appended page (answer_text (run_meaning answer)) mid →
         Appended mid (variables_text prof lims after.cells after.states last) end →
-        end.text ≡ report_text prof lims
-    report_written {page} blank room e p q =
+        end.text ≡ page.text ++ report_text prof lims
+    report_written {page} room e p q =
         let whole = append_both p q in
         whole.bytes
-        ∙ ap (λ (l : List ℕ). l ++ take page.left (answer_text (run_meaning answer) ++ variables_text prof lims after.cells after.states last)) blank
-        ∙ take_all page.left (answer_text (run_meaning answer) ++ variables_text prof lims after.cells after.states last) (omega (arith, report_fits prof lims (run_left e) (run_meaning answer)))
-        ∙ report_is e
+        ∙ ap (λ (l : List ℕ). page.text ++ l)
+        (take_all page.left (answer_text (run_meaning answer) ++ variables_text prof lims after.cells after.states last) (omega (arith, report_fits prof lims (run_left e) (run_meaning answer)))
+        ∙ report_is e)

@@ -1,5 +1,5 @@
 // The whole report. Both files are taken once, for the run and for the names. It tells of the profile's own variables, not of open calls.
-ghost use Rattle.std.specs.Prelude.{◌≡◌, ◌≤◌, []};
+ghost use Rattle.std.specs.Prelude.{◌≡◌, ◌≤◌, ◌++◌};
 ghost use Rattle.lingua.specs.Report.{report_text};
 ghost use Rattle.report.specs.Written.{most_text};
 
@@ -15,11 +15,10 @@ use taken::given::{Asked, Registers};
 use taken_checked::checked_run::checked_taken;
 use text::page::Page;
 
-// The report of two files, on a blank page that has room for any report.
+// The report of two files, on a page that has room for any report.
 pub(crate) fn report_text(profile: &[u8], limits: &[u8], page: &mut Page<'_>)
-    requires blank { page.old.text ≡ [] }
-    requires room { most_text ≤ page.old.left }
-    ensures { page.new.text ≡ report_text profile.now limits.now }
+    requires { most_text ≤ page.old.left }
+    ensures { page.new.text ≡ page.old.text ++ report_text profile.now limits.now }
 {
     let mut areas = [0u8; AREAS_LENGTH];
     let mut others = [0u8; AREA_BYTES];

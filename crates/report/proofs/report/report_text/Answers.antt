@@ -38,4 +38,4 @@ returns c =
     let put =
     c.put_variables.ensures _ _ _ _ (last c.args.profile.now c.args.limits.now) h
     (λ t z. let k = left_rows h t z (run_left c.args.profile.now c.args.limits.now _ _ _ e (sym h.refusal ∙ ap refusal_of z)) in search (rules, k, c.checked_taken-answer.ensures.same_registers)) in
-    report_written c.args.profile.now c.args.limits.now _ _ _ {end = c.put_variables.new.page} c.requires.blank c.requires.room e c.put_answer.ensures (search (rules, put, c.checked_taken-answer.ensures.same_registers))
+    report_written c.args.profile.now c.args.limits.now _ _ _ {end = c.put_variables.new.page} c.requires e c.put_answer.ensures (search (rules, put, c.checked_taken-answer.ensures.same_registers))
