@@ -12,7 +12,6 @@ use Rattle.lingua.specs.Lookup.{Lookup, lookup, look_up}
 use Rattle.lingua.specs.Format.{profile, rows_of}
 use Rattle.std.specs.Prelude.{Ok, Err, Option, Some, None, IfSome}
 use Rattle.lingua.specs.declared.errors.Refusal.{Refusal}
-use Rattle.lingua.specs.Faults.{refusal_number}
 use Rattle.lingua.specs.Refusal.{find_refusal}
 use Rattle.lingua.specs.Answers.{answered, index_found, find_meaning}
 use Rattle.lingua.specs.Calls.{find_unless, find_call}

@@ -4,7 +4,7 @@ use mathlib.Core.Path.{◌≡◌, refl, sym, ap, ◌∙◌, subst}
 use mathlib.Core.List.{List, [], ◌++◌, append-nil}
 use Prim.Native.Nat.{ℕ, zero, suc, ◌≤◌}
 use native.Mathlib.Omega.{arith}
-use lib.ListN.{length, take, replicate}
+use lib.ListN.{take, replicate}
 use lib.Seq.{take_all}
 use lib.IntN.{pos}
 use Rattle.lingua.specs.Numbers.{cells_length, states_length, open_cells_length, open_states_length, variable_bodies_length, present_bodies_length, report_budget, declaration_section}

@@ -1,6 +1,6 @@
 -- `taken_checked::checked_run::checked_lent` meets its contract: the run on what is lent behind the profile's bodies, which then come to the front.
 -- Assumes nothing.
-use mathlib.Core.Path.{refl, ap, ◌∙◌}
+use mathlib.Core.Path.{ap, ◌∙◌}
 use Prim.Native.Nat.{◌-◌}
 use native.Mathlib.Omega.{arith}
 use lib.ListN.{length}
