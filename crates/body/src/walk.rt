@@ -6,7 +6,7 @@ ghost use Rattle.body.specs.Walk.{At, AttributesAt, SomeAt, SomeAttributesAt, Me
 
 use lingua::sizes::{BODY_BYTES, LIST_PLACES};
 
-// Tags, the bytes that bodies are written in (specs/Encode). They are compared where they stand: an enum would be decoded at each step.
+// Tags, the bytes that bodies are written in (specs/Encode).
 pub const BOOLEAN: u8 = 1;
 
 pub const NUMBER: u8 = 2;

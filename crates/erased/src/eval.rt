@@ -73,8 +73,6 @@ pub fn eval(
 }
 
 // Kinds 11 and 12: the second operand is evaluated unless the first settles the result.
-// What eval is lent goes on to lazy and choice one by one: a struct of it would be made for each such row and taken apart at once. The clauses ask for
-// the row.
 #[cycle(all_choice_eval_lazy)]
 fn lazy(
     row: usize,

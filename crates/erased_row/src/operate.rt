@@ -37,7 +37,6 @@ pub fn unary(
 }
 
 // The operands are those of rows a and b, evaluated. The second lies 64 cells up the stack.
-// The eight parameters share no fact and go together nowhere else, so a struct of some would only be made here and taken apart.
 pub fn binary(
     o: BinaryOperation,
     first: Result<(), Error>,

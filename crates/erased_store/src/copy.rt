@@ -1,6 +1,5 @@
 // Copies, between a call's variables and its caller's: variable n of one memory is assigned to variable m of another. Both have one body, so the
 // variable's 64 cells are the value, and no size is asked. It is taken where it lies. Of the one memory's state words the flags alone are asked.
-// Two memories, a variable of each, and what the other stores read too: a struct of the three that are read would be made for a copy alone.
 ghost use Rattle.std.specs.Prelude.{◌≡◌, List, ℕ, ◌+◌, ◌*◌, ◌<◌, ◌≤◌, ℤ, length};
 ghost use Rattle.lingua.specs.Faults.{number_of};
 ghost use Rattle.lingua.specs.Numbers.{body_cells, expression_section};

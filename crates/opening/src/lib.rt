@@ -3,4 +3,4 @@
 
 pub mod call; // call.rt: a call before and behind its body
 pub mod leaf; // leaf.rt: instructions that no other is part of
-pub mod setting; // setting.rt: what the walk reads
+pub mod setting; // setting.rt: what the walk reads, and a call's row

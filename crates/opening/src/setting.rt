@@ -1,4 +1,4 @@
-// What the walk of instructions reads.
+// What the walk of instructions reads, and a call as its row tells it.
 use frames::context::Context;
 
 // Beside the context the bodies of the type rows, which the erased run does without.

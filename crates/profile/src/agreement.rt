@@ -40,7 +40,6 @@ fn ends_fit(body: [u8; BODY_BYTES], low: i64, high: i64) -> bool
     false
 }
 
-// Whose a limit is: a number or hundredths variable of the profile, or nobody's.
 // The variable that has the name, where a value of it may have either end.
 fn owner_named(rows: &Rows, bodies: &[u8], name: &[u8], low: i64, high: i64) -> Option<usize>
     requires declarations_known { DeclarationsKnown rows.now bodies.now }

@@ -1,4 +1,4 @@
-// What the check finds of an expression row: its body, or that it has none, and the lowest fault among its rows.
+// What the check finds of an expression row: its body, or the lowest fault among its rows, or neither.
 ghost use Rattle.std.specs.Prelude.{◌≡◌, ◌<◌};
 ghost use Rattle.std.proofs.Math.Option.{Option};
 ghost use Rattle.lingua.specs.Body.{Body};

@@ -1,7 +1,5 @@
 // Instructions by their rows, the row number falling at each call, the same for both ways to run. A loop's turns each take a
-// step, so the steps that are left bound them. A procedure's body is any row again, but the area for calls has become shorter. The memory, the
-// area and the stack go on one by one: a call takes its own memory out of the area, so that a struct of the three would be taken apart and made
-// again at each.
+// step, so the steps that are left bound them. A procedure's body is any row again, but the area for calls has become shorter.
 ghost use Rattle.std.specs.Prelude.{length};
 ghost use Rattle.run.specs.Lending.{lent_in, SameSlices};
 ghost use Rattle.run.specs.Reached.{lent};

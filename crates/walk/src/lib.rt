@@ -1,4 +1,4 @@
-// One walk of instructions for both runs, which differ in an assignment, a yoke change, a test and a copy alone.
+// One walk of instructions for both runs, which differ in what the trait `Way` has alone.
 #![tactic(auto)]
 
 pub mod exec; // exec.rt: instructions, by their rows
