@@ -6,7 +6,7 @@ ghost use Rattle.lingua.specs.Rows.{table_count};
 ghost use Rattle.lingua.specs.Value.{Composite, as_whole};
 ghost use Rattle.lingua.specs.Expression.{always};
 ghost use Rattle.lingua.specs.Faults.{number_of};
-ghost use Rattle.lingua.specs.Store.{Variable, variable_at, yoke_place, yoke_at, admitted as checks};
+ghost use Rattle.lingua.specs.Store.{Variable, variable_at, admitted as checks};
 ghost use Rattle.run.specs.Lending.{lent_in};
 ghost use Rattle.run.specs.Memory.{Admits};
 ghost use Rattle.checked_row.specs.Meaning.{Current, HasCurrent};
@@ -21,7 +21,7 @@ use decoder::rows::Rows;
 use lingua::errors::Error;
 use run::limits::in_limits;
 use run::memory::Memory;
-use run::words::yoke_of;
+use run::words::yoke_in;
 
 // The cell of a number or of a count; for a value of another body 0 stands.
 fn whole(value: &CurrentValue) -> i64
@@ -33,14 +33,6 @@ fn whole(value: &CurrentValue) -> i64
         return value.cells[0];
     }
     0
-}
-
-// Variable n's yoke.
-pub fn yoke_in(memory: &Memory, n: usize) -> usize
-    requires { yoke_place n < length memory.now.states.now }
-    ensures { result ≡ yoke_at memory.now.states.now n }
-{
-    yoke_of(memory.states, n)
 }
 
 // Whether variable n, whose yoke is always true, may take a value of a body.

@@ -10,7 +10,7 @@ ghost use Rattle.run.specs.Lending.{lent_in, SameSlices};
 ghost use Rattle.checked_row.specs.Meaning.{Gives};
 ghost use Rattle.checked_store.specs.Meaning.{Running, Assignable, Assigns};
 
-use crate::admit::{admitted, unyoked, yoke_in};
+use crate::admit::{admitted, unyoked};
 use crate::keep::keep;
 use checked_row::answer::{CurrentValue, Evaluated};
 use decoder::rows::Rows;
@@ -18,6 +18,7 @@ use lingua::errors::Error;
 use lingua::sizes::BODY_CELLS;
 use run::copies::copy;
 use run::memory::Memory;
+use run::words::yoke_in;
 
 // Variable n takes an evaluated value, which lies on the stack, once it is admitted; an error leaves the store as it was. Only a yoke that is
 // run asks for a copy: it is evaluated on the stack. Drawn into its caller, it is handed no body of 96 bytes.

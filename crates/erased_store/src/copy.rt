@@ -13,12 +13,12 @@ ghost use Rattle.erased_row.specs.Meaning.{bare_in, Running};
 ghost use Rattle.erased_store.specs.Meaning.{HasCopy};
 
 use crate::holds::satisfies;
-use crate::store::{current_yoke, store_within};
+use crate::store::store_within;
 use decoder::rows::Rows;
 use lingua::errors::Error;
 use lingua::sizes::BODY_CELLS;
 use run::memory::Memory;
-use run::words::is_filled;
+use run::words::{is_filled, yoke_in};
 
 pub fn copy(
     rows: &Rows,
@@ -45,7 +45,7 @@ pub fn copy(
     let at = BODY_CELLS * n;
     let end = at + BODY_CELLS;
     let value = &from.cells[at..end];
-    let yoke = current_yoke(memory, m);
+    let yoke = yoke_in(memory, m);
     satisfies(rows, layout, memory, yoke, value, stack)?;
     store_within(limits, memory, m, value, BODY_CELLS)
 }

@@ -4,7 +4,7 @@ ghost use Rattle.std.specs.Prelude.{◌≡◌, List, ℕ, ◌+◌, ◌*◌, ◌<
 ghost use Rattle.lingua.specs.Faults.{number_of};
 ghost use Rattle.lingua.specs.Numbers.{body_cells, expression_section};
 ghost use Rattle.lingua.specs.Value.{Composite};
-ghost use Rattle.lingua.specs.Store.{Variable, assigned, yoke_at, yoke_place};
+ghost use Rattle.lingua.specs.Store.{Variable, assigned};
 ghost use Rattle.lingua.specs.Rows.{table_count};
 ghost use Rattle.lingua.specs.Run.{Profile};
 ghost use Rattle.lingua.specs.Typing.{scope_bodies};
@@ -21,15 +21,7 @@ use run::copies::copy;
 use run::limits::in_limits;
 use run::memory::Memory;
 use run::part::put;
-use run::words::yoke_of;
-
-// The number of variable n's current yoke. It is read behind `&Memory`: behind `&mut Memory` a field that is lent counts as written.
-pub fn current_yoke(memory: &Memory, n: usize) -> usize
-    requires { yoke_place n < length memory.now.states.now }
-    ensures { result ≡ yoke_at memory.now.states.now n }
-{
-    yoke_of(memory.states, n)
-}
+use run::words::yoke_in;
 
 // A value that satisfies its yoke. Only numbers have limits, so its first cell is asked.
 pub fn store_within(
@@ -71,7 +63,7 @@ pub fn store(
     ensures bodies_same { memory.new.bodies.now ≡ memory.old.bodies.now }
     ensures same_slices { SameSlices memory.old memory.new }
 {
-    let yoke = current_yoke(memory, n);
+    let yoke = yoke_in(memory, n);
     if yoke == 0 {
         return store_within(limits, memory, n, stack, width);
     }

@@ -2,6 +2,7 @@
 ghost use Rattle.std.specs.Prelude.{◌≡◌, ◌<◌, length};
 ghost use Rattle.lingua.specs.Store.{flag_place, yoke_place, yoke_at, filled_at, fill_at, set_yoke_at};
 
+use crate::memory::Memory;
 use lingua::sizes::STATE_WORDS;
 
 pub fn is_filled(states: &[u16], n: usize) -> bool
@@ -16,6 +17,14 @@ pub fn yoke_of(states: &[u16], n: usize) -> usize
     ensures { result ≡ yoke_at states.now n }
 {
     states[STATE_WORDS * n + 1] as usize
+}
+
+// The same of lent memory. It is read behind `&Memory`: behind `&mut Memory` a field that is lent counts as written.
+pub fn yoke_in(memory: &Memory, n: usize) -> usize
+    requires { yoke_place n < length memory.now.states.now }
+    ensures { result ≡ yoke_at memory.now.states.now n }
+{
+    yoke_of(memory.states, n)
 }
 
 pub fn set_filled(states: &mut [u16], n: usize)

@@ -22,23 +22,23 @@ returns-then-not-is_filled-clause-settles c = λ p a b theirs bodies vs ws v l w
 pub slice_bounds-value-end : goal.slice_bounds-value-end
 slice_bounds-value-end c = let r = c.requires.has_copy in cells_room (memory_of r.giving.world) _ r.there
 
-pub current_yoke-yoke-requires : goal.current_yoke-yoke-requires
-current_yoke-yoke-requires c = let r = c.requires.has_copy in word_room (memory_of r.running.world) _ r.taking
+pub yoke_in-yoke-requires : goal.yoke_in-yoke-requires
+yoke_in-yoke-requires c = let r = c.requires.has_copy in word_room (memory_of r.running.world) _ r.taking
 
 pub satisfies-requires-clause-ready_yoke : goal.satisfies-requires-clause-ready_yoke
 satisfies-requires-clause-ready_yoke c =
     let r = c.requires.has_copy in
     let f = given_part r.giving c.args.n r.there (sym c.is_filled.ensures ∙ c.if-not-is_filled.false) r.same in
-    value_ready r.running c.args.m r.taking f c.current_yoke-yoke.ensures
+    value_ready r.running c.args.m r.taking f c.yoke_in-yoke.ensures
 
 pub satisfies-requires-clause-y_le_count : goal.satisfies-requires-clause-y_le_count
-satisfies-requires-clause-y_le_count c = let r = c.requires.has_copy in yoke_there r.running c.args.m r.taking c.current_yoke-yoke.ensures
+satisfies-requires-clause-y_le_count c = let r = c.requires.has_copy in yoke_there r.running c.args.m r.taking c.yoke_in-yoke.ensures
 
 pub satisfies-requires-clause-y_in_bounds : goal.satisfies-requires-clause-y_in_bounds
-satisfies-requires-clause-y_in_bounds c = let r = c.requires.has_copy in omega (arith, yoke_there r.running c.args.m r.taking c.current_yoke-yoke.ensures, c.requires.count_in_bounds)
+satisfies-requires-clause-y_in_bounds c = let r = c.requires.has_copy in omega (arith, yoke_there r.running c.args.m r.taking c.yoke_in-yoke.ensures, c.requires.count_in_bounds)
 
 pub returns-in_err-satisfies-clause-settles : goal.returns-in_err-satisfies-clause-settles
-returns-in_err-satisfies-clause-settles c = λ p a b theirs bodies vs ws v l w k q. let e = sym c.is_filled.ensures ∙ c.if-not-is_filled.false in let f = given_part v c.args.n l e q in rw (passed_on _ _ c.from_residual.ensures.1) (keeps _ (no_zero _) (sym (copied_is v c.args.n l e ws c.args.m) ∙ yoke_fails w c.args.m _ f.declared_body_lem (own_admits w c.args.m k f c.current_yoke-yoke.ensures c.in_err-satisfies.ensures) (no_zero _)))
+returns-in_err-satisfies-clause-settles c = λ p a b theirs bodies vs ws v l w k q. let e = sym c.is_filled.ensures ∙ c.if-not-is_filled.false in let f = given_part v c.args.n l e q in rw (passed_on _ _ c.from_residual.ensures.1) (keeps _ (no_zero _) (sym (copied_is v c.args.n l e ws c.args.m) ∙ yoke_fails w c.args.m _ f.declared_body_lem (own_admits w c.args.m k f c.yoke_in-yoke.ensures c.in_err-satisfies.ensures) (no_zero _)))
 
 pub store_within-requires : goal.store_within-requires
 store_within-requires c =
@@ -50,4 +50,4 @@ pub returns-clause-settles : goal.returns-clause-settles
 returns-clause-settles c = λ p a b theirs bodies vs ws v l w k q.
     let e = sym c.is_filled.ensures ∙ c.if-not-is_filled.false in
     let f = given_part v c.args.n l e q in
-    settles_as (copied_is v c.args.n l e ws c.args.m) (c.store_within.ensures.settles p b _ _ ws _ w k f (record { holds = (own_admits w c.args.m k f c.current_yoke-yoke.ensures c.satisfies.ensures).answer (ap number_of c.in_ok-satisfies.was) }))
+    settles_as (copied_is v c.args.n l e ws c.args.m) (c.store_within.ensures.settles p b _ _ ws _ w k f (record { holds = (own_admits w c.args.m k f c.yoke_in-yoke.ensures c.satisfies.ensures).answer (ap number_of c.in_ok-satisfies.was) }))
