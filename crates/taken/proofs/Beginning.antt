@@ -7,7 +7,7 @@ use Prim.Native.Nat.{ℕ, ◌/◌, ◌≤◌, ◌<◌}
 use native.Mathlib.Omega.{arith}
 use lib.IntN.{ℤ, pos}
 use lib.ListN.{length, replicate}
-use Rattle.lingua.specs.Numbers.{declaration_section, type_section, expression_section, layout_length, open_cells_length, open_states_length, open_bodies_length}
+use Rattle.lingua.specs.Numbers.{declaration_section, type_section, expression_section, layout_length, open_cells_length, open_states_length}
 use Rattle.lingua.specs.Outcome.{ok}
 use Rattle.lingua.specs.Body.{is_quantity}
 use Rattle.lingua.specs.Rows.{table_count, pair_count}
@@ -37,11 +37,11 @@ use Rattle.run.specs.Reached.{Lent, lent}
 use Rattle.checked_row.specs.Meaning.{Holdable}
 use Rattle.checked_store.specs.Meaning.{Running as CheckedRunning}
 use Rattle.erased_row.specs.Meaning.{Running as ErasedRunning}
-use Rattle.frames.specs.Ways.{checked, erased}
-use Rattle.frames.specs.Meaning.{HoldsBy, WhollyPassed, CallableBy}
+use Rattle.frames.specs.Ways.{Way, checked, erased}
+use Rattle.frames.specs.Meaning.{HoldsBy, WhollyPassed, CallableBy, BeginsBy, FreshBy}
 use Rattle.opening.specs.Meaning.{setting}
 use Rattle.whole_run.specs.Meaning.{ClearBodies, Clear, Ready}
-use Rattle.taken.specs.Ways.{QuantitiesLimited, PassedRows}
+use Rattle.taken.specs.Ways.{QuantitiesLimited, PassedRows, LendsBy, Lends}
 use mathlib.Core.Bool.{true}
 
 pub declarations_known : {rows bodies : List ℕ} {t : Table} → AcceptedRows rows → IsTable rows declaration_section t → BodiesBelow rows bodies (table_count rows type_section) → VariablesKnown rows t bodies
@@ -87,7 +87,7 @@ module _ {rows limits : List ℕ} {kept cells : List ℤ} {states : List ℕ} (a
         yokes = start_yoke;
       }
 
-  pub checked_begins : {own : Table} → IsTable rows declaration_section own → {types present layout : List ℕ} {o : Lent} → BodiesBelow rows types (table_count rows type_section)
+  checked_begins : {own : Table} → IsTable rows declaration_section own → {types present layout : List ℕ} {o : Lent} → BodiesBelow rows types (table_count rows type_section)
       → BodiesKept rows own present (own.count / 2) → layout ≡ [] → Clear checked o
       → Ready checked (setting rows layout kept types) (lent cells states present) o limits
   unfolding HoldsBy CallableBy
@@ -134,7 +134,7 @@ module _ {rows limits : List ℕ} {kept cells : List ℤ} {states : List ℕ} (a
       subst (λ (x : List ℕ). WhollyPassed (profile_of rows limits) rows x) (sym p.layout_is)
       (record { limits = limits; is = refl; typed = profile_laid_out rows accepted limits p.entries p.passed })
 
-  pub erased_begins : {layout types : List ℕ} {o : Lent} → PassedRows rows limits layout → QuantitiesLimited rows limits → Clear erased o
+  erased_begins : {layout types : List ℕ} {o : Lent} → PassedRows rows limits layout → QuantitiesLimited rows limits → Clear erased o
       → Ready erased (setting rows layout kept types) (lent cells states []) o limits
   unfolding HoldsBy CallableBy
   erased_begins {layout} p h o =
@@ -149,13 +149,28 @@ module _ {rows limits : List ℕ} {kept cells : List ℤ} {states : List ℕ} (a
         clear = o;
       }
 
--- ---- the area for calls, cleared
-pub checked_clear : {cells : List ℤ} {states bodies : List ℕ} (n m k : ℕ) → cells ≡ replicate n (pos 0) → states ≡ replicate m 0 → bodies ≡ replicate k 0 → n ≡ open_cells_length → m ≡ open_states_length → k ≡ open_bodies_length
-    → Clear checked (lent cells states bodies)
-unfolding ClearBodies
-checked_clear n m k c s b i j l =
-    record { cells_are = c ∙ ap (λ (x : ℕ). replicate x (pos 0)) i; states_are = s ∙ ap (λ (x : ℕ). replicate x 0) j; bodies_are = b ∙ ap (λ (x : ℕ). replicate x 0) l }
+  -- ---- in either way, with what a run of that way is lent
+  pub readies : (w : Way) {own : Table} → IsTable rows declaration_section own → {types present layout before area : List ℕ} {o : Lent} → BodiesBelow rows types (table_count rows type_section)
+      → Lends w rows limits layout before area → FreshBy w rows own present → Clear w o → Ready w (setting rows layout kept types) (lent cells states present) o limits
+  unfolding LendsBy FreshBy
+  readies checked is held l f o = checked_begins is held f l.by.no_layout o
+  readies erased is {types = types} {layout = layout} {o = o'} held l f o =
+      subst (λ (x : List ℕ). Ready erased (setting rows layout kept types) (lent cells states x) o' limits) (sym f) (erased_begins l.by.passed l.by.limited o)
 
-pub erased_clear : {cells : List ℤ} {states : List ℕ} (n m : ℕ) → cells ≡ replicate n (pos 0) → states ≡ replicate m 0 → n ≡ open_cells_length → m ≡ open_states_length → Clear erased (lent cells states [])
-unfolding ClearBodies
-erased_clear n m c s i j = record { cells_are = c ∙ ap (λ (x : ℕ). replicate x (pos 0)) i; states_are = s ∙ ap (λ (x : ℕ). replicate x 0) j; bodies_are = refl }
+module _ {rows limits layout own area : List ℕ} where
+  -- ---- the room for the present bodies
+  pub begins_by : (w : Way) {types : List ℕ} → BodiesBelow rows types (table_count rows type_section) → Lends w rows limits layout own area → BeginsBy w rows types own
+  unfolding BeginsBy LendsBy
+  begins_by checked held l = (record { held = held }, l.by.own_zeros)
+  begins_by erased held l = l.by.no_own
+
+  -- ---- the area for calls, cleared
+  clear_bodies : (w : Way) {bodies : List ℕ} → Lends w rows limits layout own area → bodies ≡ replicate (length area) 0 → ClearBodies w bodies
+  unfolding ClearBodies LendsBy
+  clear_bodies checked l b = b ∙ ap (λ (x : ℕ). replicate x 0) l.by.long_area
+  clear_bodies erased l b = b ∙ ap (λ (x : List ℕ). replicate (length x) 0) l.by.no_area
+
+  pub clears : (w : Way) {cells : List ℤ} {states bodies : List ℕ} (n m : ℕ) → Lends w rows limits layout own area → cells ≡ replicate n (pos 0) → states ≡ replicate m 0 → bodies ≡ replicate (length area) 0 → n ≡ open_cells_length → m ≡ open_states_length
+      → Clear w (lent cells states bodies)
+  clears w n m l c s b i j =
+      record { cells_are = c ∙ ap (λ (x : ℕ). replicate x (pos 0)) i; states_are = s ∙ ap (λ (x : ℕ). replicate x 0) j; bodies_are = clear_bodies w l b }

@@ -1,7 +1,7 @@
 -- The ways in which a run of a taken pair ends: refused, or as the run of both files ends. Assumes nothing.
 use mathlib.Core.Path.{◌≡◌, refl, sym, ap, ap₂, ◌∙◌, subst}
 use mathlib.Core.List.{List, ◌++◌, append-nil}
-use Prim.Native.Nat.{ℕ, suc, ◌-◌, ◌≤◌}
+use Prim.Native.Nat.{ℕ, ◌-◌, ◌≤◌}
 use native.Mathlib.Nat.{suc-pred-eq_of_ne-zero}
 use native.Mathlib.Omega.{arith}
 use lib.IntN.{ℤ}
@@ -10,11 +10,11 @@ use lib.Seq.{drop_at, length-take-le}
 use Rattle.lingua.specs.Numbers.{layout_length, present_bodies_length}
 use Rattle.lingua.specs.Outcome.{Outcome, ok, fail}
 use Rattle.lingua.specs.Store.{Reading, present_in}
-use Rattle.lingua.specs.Run.{run}
+use Rattle.lingua.specs.Run.{Progress, run, last_state, open_calls}
 use Rattle.lingua.specs.Typing.{TypeError, Entry, check_profile}
 use Rattle.lingua.specs.Trees.{profile_of}
 use Rattle.lingua.specs.Format.{rows_of}
-use Rattle.lingua.specs.Inputs.{Inputs, Buffers, buffers}
+use Rattle.lingua.specs.Inputs.{Inputs, Buffers}
 use Rattle.lingua.specs.Refusal.{run_refusal, checked_refusal, erased_refusal}
 use Rattle.std.specs.Prelude.{Result, Ok, Err}
 use Rattle.lingua.specs.declared.errors.Refusal.{Refusal}
@@ -30,7 +30,7 @@ use Rattle.pair.proofs.Returns.{some_refusal}
 use Rattle.pair.proofs.Given.{rows_accepted, limits_there, bodies_held}
 use Rattle.typecheck.specs.Verdicts.{ConcludesPassed}
 use Rattle.run.specs.Reached.{Lent}
-use Rattle.frames.specs.Ways.{checked, erased}
+use Rattle.frames.specs.Ways.{Way, checked, erased}
 use Rattle.frames.specs.Meaning.{HoldsBy}
 use Rattle.opening.specs.Meaning.{Setting}
 use Rattle.whole_run.specs.Meaning.{Readable, Ready, Runs}
@@ -68,13 +68,18 @@ module _ {i : Inputs} {b : Buffers} {areas others bodies : List ℕ} {p : Pair} 
     asks_limited = rw (r, l) quantities_limited
 
 -- ---- the checked run
--- where a run of its way ended: the answer, the registers and the present bodies, the profile's and those of the open calls
-pub checked_end_lem : {s : Setting} (limits : List ℕ) {l o after free : Lent} {rs : List Reading} {budget : ℕ} {r : RunEnd} → Runs checked s l o after free rs budget r → Ready checked s l o limits
-    → checked_result (Ok r) (buffers after.cells after.states free.cells free.states) (after.bodies ++ free.bodies) ≡ checked_end budget (run (profile_of s.context.rows limits) rs budget)
-unfolding checked_result checked_end run_result HoldsBy present_in
-checked_end_lem limits h b =
-    ap₂ (λ (c : RunCall) (l : List ℕ). with_bodies c l) (h.is limits b)
-    (ap₂ (λ (x y : List ℕ). x ++ y) (h.left limits b).by.running.world.stored.bodies_are (h.open_bodies limits b refl))
+-- the present bodies where a run of its way ended, the profile's and those of the open calls
+pub present_left : (w : Way) {s : Setting} (limits : List ℕ) {l o after free : Lent} {rs : List Reading} {budget : ℕ} {r : RunEnd} → Runs w s l o after free rs budget r → Ready w s l o limits
+    → w ≡ checked → after.bodies ++ free.bodies ≡ present_in (last_state (run (profile_of s.context.rows limits) rs budget)).store (open_calls (run (profile_of s.context.rows limits) rs budget))
+unfolding HoldsBy present_in
+present_left checked limits h b e = ap₂ (λ (x y : List ℕ). x ++ y) (h.left limits b).by.running.world.stored.bodies_are (h.open_bodies limits b refl)
+present_left erased limits h b e = cc
+
+-- the answer and the registers, with those bodies
+pub checked_ends : (p : Progress) (budget : ℕ) (r : RunEnd) (after : Buffers) (bytes : List ℕ) → run_result (Ok r) after ≡ ran budget p → bytes ≡ present_in (last_state p).store (open_calls p)
+    → checked_result (Ok r) after bytes ≡ checked_end budget p
+unfolding checked_result checked_end run_result
+checked_ends p budget r after bytes e f = ap₂ (λ (c : RunCall) (l : List ℕ). with_bodies c l) e f
 
 -- what was lent behind the first n comes back, and others of that number come to the front
 pub lent_length : (before : List ℕ) (n : ℕ) → length (take (length before - n) (drop n before)) ≡ length before - n

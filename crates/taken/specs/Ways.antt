@@ -1,7 +1,7 @@
 -- The run of accepted rows in each way. Assumes nothing: these are definitions.
-use Rattle.std.specs.Prelude.{◌≡◌, List, ℕ, ◌<◌, ℤ, length, true}
+use Rattle.std.specs.Prelude.{◌≡◌, List, [], ℕ, ◌<◌, ℤ, length, replicate, true}
 use Rattle.std.proofs.Math.Option.{some}
-use Rattle.lingua.specs.Numbers.{cells_length, states_length, open_cells_length, open_states_length, layout_length, declaration_section}
+use Rattle.lingua.specs.Numbers.{cells_length, states_length, open_cells_length, open_states_length, layout_length, variable_bodies_length, open_bodies_length, declaration_section}
 use Rattle.lingua.specs.Errors.{type_error_found}
 use Rattle.lingua.specs.Outcome.{Outcome, ok, fail}
 use Rattle.lingua.specs.Body.{is_quantity}
@@ -14,6 +14,7 @@ use Rattle.lingua.specs.Answers.{refused}
 use Rattle.lingua.specs.Inputs.{Buffers}
 use Rattle.lingua.specs.Calls.{CheckedCall, ErasedCall, readings_of, ran, with_bodies, with_layout}
 use Rattle.safety.specs.Accepted.{AcceptedRows}
+use Rattle.frames.specs.Ways.{Way, checked, erased}
 use Rattle.whole_run.specs.Meaning.{Readable}
 
 -- what a run of accepted rows asks: lent memory of the listed lengths, and readings for number variables
@@ -39,6 +40,26 @@ pub record PassedRows (rows limits layout : List ℕ) : Type 0 where
   pub passed : check_profile (profile_of rows limits) ≡ ok entries
   pub layout_is : layout ≡ layout_of entries
   pub long : length layout ≡ layout_length
+
+-- what a run of its way is lent besides: the checked one room for the present bodies, the profile's and those of the open calls, and the erased
+-- one the layout table of rows that the type check passed
+pub record LendsChecked (layout own area : List ℕ) : Type 0 where
+  pub no_layout : layout ≡ []
+  pub own_zeros : own ≡ replicate variable_bodies_length 0
+  pub long_area : length area ≡ open_bodies_length
+
+pub record LendsErased (rows limits layout own area : List ℕ) : Type 0 where
+  pub passed : PassedRows rows limits layout
+  pub limited : QuantitiesLimited rows limits
+  pub no_own : own ≡ []
+  pub no_area : area ≡ []
+
+unfoldable pub LendsBy : Way → List ℕ → List ℕ → List ℕ → List ℕ → List ℕ → Type 0
+LendsBy checked rows limits layout own area = LendsChecked layout own area
+LendsBy erased rows limits layout own area = LendsErased rows limits layout own area
+
+pub record Lends (w : Way) (rows limits layout own area : List ℕ) : Type 0 where
+  pub by : LendsBy w rows limits layout own area
 
 -- the erased run where the type check passes, and rule 17 where it does not
 unfoldable pub erased_verdict : Outcome TypeError (List Entry) → ℕ → Progress → Buffers → List ℕ → ErasedCall

@@ -1,6 +1,6 @@
 // The checked run of a pair of files that was taken (document 01: desk run). A refusal leaves all lent memory as it was.
-ghost use Rattle.std.specs.Prelude.{◌≡◌, List, ◌++◌ as followed, ℕ, length, replicate};
-ghost use Rattle.lingua.specs.Numbers.{variable_bodies_length, open_bodies_length, present_bodies_length};
+ghost use Rattle.std.specs.Prelude.{◌≡◌, List, ℕ, length};
+ghost use Rattle.lingua.specs.Numbers.{present_bodies_length};
 ghost use Rattle.lingua.specs.Run.{run as meaning};
 ghost use Rattle.lingua.specs.Trees.{profile_of};
 ghost use Rattle.lingua.specs.Inputs.{inputs};
@@ -12,77 +12,16 @@ ghost use Rattle.taken.specs.Ways.{Startable, checked_end};
 
 use decoder::rows::Rows;
 use frames::checked_way::Checked;
-use frames::context::Context;
 use lingua::RunAnswer;
 use lingua::errors::Refusal;
-use lingua::sizes::{LIMIT_CELLS_LENGTH, PRESENT_BODIES_LENGTH, VARIABLE_BODIES_LENGTH};
+use lingua::sizes::{PRESENT_BODIES_LENGTH, VARIABLE_BODIES_LENGTH};
 use pair::Pair;
-use run::bodies::keep_bodies;
-use run::memory::Memory;
-use run::start::start;
 use taken::given::{Asked, Registers, Runnable};
 use taken::present::copy_front;
 use taken::refusal::run_refusal;
-use whole_run::whole::run;
+use taken::ways::run_rows;
 
-// The run of accepted rows, with the present bodies and no layout table. The profile's lie by themselves, since an open call's come to the
-// front of the area behind them. What an earlier run left in any of it does not stay.
-fn checked_rows(
-    from: &Runnable,
-    asked: &Asked,
-    registers: &mut Registers,
-    own: &mut [u8],
-    area: &mut [u8],
-) -> RunAnswer
-    requires startable { Startable from.now.rows.now asked.now.variables.now asked.now.numbers.now (buffers_in registers.old) }
-    requires is_known { IsKnown from.now }
-    requires own_value { own.old ≡ replicate variable_bodies_length 0 }
-    requires area_len { length area.old ≡ open_bodies_length }
-    ensures run { checked_result result (buffers_in registers.new) (followed own.new area.new) ≡ checked_end asked.now.budget (meaning (profile_of from.now.rows.now from.now.limits.now) (readings_of asked.now.variables.now asked.now.numbers.now) asked.now.budget) }
-    ensures same_registers { SameRegisters registers.old registers.new }
-{
-    let rows = from.rows;
-    let mut kept = [0i64; LIMIT_CELLS_LENGTH];
-    let layout = [0u16; 0];
-    registers.open_cells.fill(0);
-    registers.open_states.fill(0);
-    area.fill(0);
-    keep_bodies(rows, rows.declarations(), from.bodies, &mut *own);
-    start(
-        rows,
-        from.limits,
-        from.owners,
-        &mut kept,
-        &mut *registers.cells,
-        &mut *registers.states,
-    );
-    let context = Context {
-        rows,
-        layout: &layout,
-        limits: &kept,
-    };
-    let mut memory = Memory {
-        bodies: own,
-        cells: &mut *registers.cells,
-        states: &mut *registers.states,
-    };
-    let mut open = Memory {
-        bodies: area,
-        cells: &mut *registers.open_cells,
-        states: &mut *registers.open_states,
-    };
-    Ok(run::<Checked>(
-        &context,
-        from.bodies,
-        &mut memory,
-        &mut open,
-        asked.variables,
-        asked.numbers,
-        asked.budget,
-    ))
-}
-
-// The same with the present bodies as they are lent.
+// The run of accepted rows, with the present bodies as they are lent: the profile's lie by themselves until it ends, and no layout table.
 fn checked_lent(
     from: &Runnable,
     asked: &Asked,
@@ -96,15 +35,17 @@ fn checked_lent(
     ensures same_registers { SameRegisters registers.old registers.new }
 {
     let mut own = [0u8; VARIABLE_BODIES_LENGTH];
-    let answer = checked_rows(
+    let layout = [0u16; 0];
+    let end = run_rows::<Checked>(
         from,
+        &layout,
         asked,
         registers,
         &mut own,
         &mut present[VARIABLE_BODIES_LENGTH..],
     );
     copy_front(&own, present);
-    answer
+    Ok(end)
 }
 
 // The lent present bodies must be as long as listed, as cells and state words must.

@@ -12,20 +12,17 @@ ghost use Rattle.taken.specs.Taken.{PairOf};
 ghost use Rattle.taken.specs.Ways.{Startable, QuantitiesLimited, PassedRows, erased_rows};
 
 use decoder::rows::Rows;
-use frames::context::Context;
 use frames::erased_way::Erased;
 use lingua::RunAnswer;
 use lingua::errors::Refusal;
-use lingua::sizes::{LAYOUT_LENGTH, LIMIT_CELLS_LENGTH};
+use lingua::sizes::LAYOUT_LENGTH;
 use pair::Pair;
-use run::memory::Memory;
-use run::start::start;
 use taken::given::{Asked, Registers, Runnable};
 use taken::refusal::run_refusal;
+use taken::ways::run_rows;
 use typecheck::whole::check_profile;
-use whole_run::whole::run;
 
-// The run of passed rows, with the layout table and no body; what an earlier run left in lent memory does not stay.
+// The run of passed rows, with the layout table and no body.
 fn passed_rows(
     from: &Runnable,
     layout: &[u16],
@@ -39,45 +36,9 @@ fn passed_rows(
     ensures run { run_result result (buffers_in registers.new) ≡ ran asked.now.budget (meaning (profile_of from.now.rows.now from.now.limits.now) (readings_of asked.now.variables.now asked.now.numbers.now) asked.now.budget) }
     ensures same_registers { SameRegisters registers.old registers.new }
 {
-    let rows = from.rows;
-    let mut kept = [0i64; LIMIT_CELLS_LENGTH];
-    let types = [0u8; 0];
-    let mut bodies = [0u8; 0];
     let mut none = [0u8; 0];
-    registers.open_cells.fill(0);
-    registers.open_states.fill(0);
-    start(
-        rows,
-        from.limits,
-        from.owners,
-        &mut kept,
-        &mut *registers.cells,
-        &mut *registers.states,
-    );
-    let context = Context {
-        rows,
-        layout,
-        limits: &kept,
-    };
-    let mut memory = Memory {
-        bodies: &mut bodies,
-        cells: &mut *registers.cells,
-        states: &mut *registers.states,
-    };
-    let mut open = Memory {
-        bodies: &mut none,
-        cells: &mut *registers.open_cells,
-        states: &mut *registers.open_states,
-    };
-    Ok(run::<Erased>(
-        &context,
-        &types,
-        &mut memory,
-        &mut open,
-        asked.variables,
-        asked.numbers,
-        asked.budget,
-    ))
+    let mut no_area = [0u8; 0];
+    Ok(run_rows::<Erased>(from, layout, asked, registers, &mut none, &mut no_area))
 }
 
 // The type check works on a table of its own, which becomes the caller's once no rule applies any more: rule 17 leaves that as it was.
