@@ -28,6 +28,7 @@ pub fn run_checked(
         ≡ checked_call (inputs profile.now limits.now who.now numbers.now) budget (buffers cells.old states.old open_cells.old open_states.old) bodies.old }
     ensures checked_holds { CheckedHolds (inputs profile.now limits.now who.now numbers.now) (buffers cells.old states.old open_cells.old open_states.old) bodies.old (checked_result result (buffers cells.new states.new open_cells.new open_states.new) bodies.new) }
 {
+    // Each call begins with these lines: what is taken lies in areas of the call's own, and a function that was lent them would be handed as much.
     let mut areas = [0u8; AREAS_LENGTH];
     let mut others = [0u8; AREA_BYTES];
     let mut types = [0u8; TYPE_BODIES_LENGTH];

@@ -25,6 +25,7 @@ pub fn run_erased(
     ensures { erased_result result (buffers cells.new states.new open_cells.new open_states.new) layout.new
         ≡ erased_call (inputs profile.now limits.now who.now numbers.now) budget (buffers cells.old states.old open_cells.old open_states.old) layout.old }
 {
+    // Each call begins with these lines: what is taken lies in areas of the call's own, and a function that was lent them would be handed as much.
     let mut areas = [0u8; AREAS_LENGTH];
     let mut others = [0u8; AREA_BYTES];
     let mut types = [0u8; TYPE_BODIES_LENGTH];

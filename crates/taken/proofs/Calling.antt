@@ -1,5 +1,5 @@
 -- The ways in which a run of a taken pair ends: refused, or as the run of both files ends. Assumes nothing.
-use mathlib.Core.Path.{◌≡◌, refl, sym, ap, ap₂, ◌∙◌, subst}
+use mathlib.Core.Path.{◌≡◌, refl, sym, ap, ap₂, ◌∙◌}
 use mathlib.Core.List.{List, ◌++◌, append-nil}
 use Prim.Native.Nat.{ℕ, ◌-◌, ◌≤◌}
 use native.Mathlib.Nat.{suc-pred-eq_of_ne-zero}
@@ -23,49 +23,40 @@ use Rattle.lingua.specs.Faults.{refusal_number, refusal_of}
 use Rattle.lingua.specs.Answers.{RunAnswer, run_meaning}
 use Rattle.lingua.specs.declared.RunEnd.{RunEnd}
 use Rattle.lingua.specs.Calls.{RunCall, readings_of, ran, run_of, with_bodies, checked_unless, checked_call, with_layout, erased_unless, erased_call, run_result, checked_result, erased_result}
+use Rattle.safety.specs.Accepted.{accepted_pair}
 use Rattle.safety.specs.Limited.{accepted_limited}
 use Rattle.safety.specs.TwoRuns.{checked_shares, passed_layout}
-use Rattle.pair.specs.declared.Pair.{Pair}
 use Rattle.pair.proofs.Returns.{some_refusal}
-use Rattle.pair.proofs.Given.{rows_accepted, limits_there, bodies_held}
 use Rattle.typecheck.specs.Verdicts.{ConcludesPassed}
 use Rattle.run.specs.Reached.{Lent}
 use Rattle.frames.specs.Ways.{Way, checked, erased}
 use Rattle.frames.specs.Meaning.{HoldsBy}
 use Rattle.opening.specs.Meaning.{Setting}
-use Rattle.whole_run.specs.Meaning.{Readable, Ready, Runs}
-use Rattle.taken.specs.Given.{RowsKnown}
+use Rattle.whole_run.specs.Meaning.{Ready, Runs}
+use Rattle.taken.specs.Given.{IsKnown}
+use Rattle.taken.specs.declared.given.Runnable.{Runnable}
 use Rattle.taken.specs.Taken.{RunTaken, RunIs}
 use Rattle.taken.specs.Ways.{Startable, checked_end, QuantitiesLimited, PassedRows, erased_verdict, erased_rows}
 use Rattle.taken.proofs.Refusing.{short_present, short_layout, run_refuses, type_error_refuses, none_refuses}
 
 -- ---- what is taken serves both runs
-module _ {i : Inputs} {b : Buffers} {areas others bodies : List ℕ} {p : Pair} (t : RunTaken p i b areas others bodies) where
-  startable : Startable (take p.profile.length areas) i.variables i.numbers b
-  startable = record {
-    accepted = rows_accepted t.files t.accepted;
-    readable = subst (λ (rows : List ℕ). Readable rows i.variables i.numbers) (sym t.files.rows) t.readable;
-    long_cells = t.long_cells;
-    long_states = t.long_states;
-    long_open_cells = t.long_open_cells;
-    long_open_states = t.long_open_states;
-  }
-
-  quantities_limited : QuantitiesLimited (take p.profile.length areas) (take p.limits.length others)
-  quantities_limited =
-      subst (λ (limits : List ℕ). QuantitiesLimited (take p.profile.length areas) limits) (sym t.files.limits)
-      (subst (λ (rows : List ℕ). QuantitiesLimited rows (rows_of i.limits)) (sym t.files.rows) (record { limited = λ n h l q. accepted_limited i.profile i.limits t.accepted n h l q }))
-
-  known : RowsKnown (take p.profile.length areas) (take p.limits.length others) p.owners bodies
-  known = record { owned = limits_there t.files; held = bodies_held t.files }
-
+module _ {i : Inputs} {b : Buffers} {t : Runnable} (h : RunTaken t i b) where
   -- all that the run of a taken pair's rows asks, besides the length of what is its own
-  module _ {rows limits : List ℕ} (r : rows ≡ take p.profile.length areas) (l : limits ≡ take p.limits.length others) where
-    pub asks : Startable rows i.variables i.numbers b × RowsKnown rows limits p.owners bodies
-    asks = rw (r, l) (startable, known)
+  pub asks : Startable t.rows i.variables i.numbers b × IsKnown t
+  asks = (
+    rw h.rows (record {
+      accepted = accepted_pair i.profile i.limits h.accepted;
+      readable = h.readable;
+      long_cells = h.long_cells;
+      long_states = h.long_states;
+      long_open_cells = h.long_open_cells;
+      long_open_states = h.long_open_states;
+    }),
+    rw (h.rows, h.limits) h.is_known,
+  )
 
-    pub asks_limited : QuantitiesLimited rows limits
-    asks_limited = rw (r, l) quantities_limited
+  pub asks_limited : QuantitiesLimited t.rows t.limits
+  asks_limited = rw (h.rows, h.limits) (record { limited = λ n d l q. accepted_limited i.profile i.limits h.accepted n d l q })
 
 -- ---- the checked run
 -- the present bodies where a run of its way ended, the profile's and those of the open calls
@@ -100,21 +91,21 @@ module _ (i : Inputs) (b : Buffers) (present : List ℕ) (budget : ℕ) where
   pub present_wrong : (length present ≡ present_bodies_length → ⊥) → checked_result (Err BadBuffer) b present ≡ checked_call i budget b present
   present_wrong h = checked_refused BadBuffer (short_present i b present h)
 
-  module _ {areas others bodies : List ℕ} {r : Result Pair Refusal} (l : length present ≡ present_bodies_length) (h : RunIs r i b areas others bodies) where
+  module _ {r : Result Runnable Refusal} (l : length present ≡ present_bodies_length) (h : RunIs r i b) where
     shares : refusal_of r ≡ checked_refusal i b present
     shares = h.refusal ∙ sym (checked_shares i b present l)
 
     pub run_refused : {e : Refusal} → r ≡ Err e → checked_result (Err e) b present ≡ checked_call i budget b present
-    run_refused {e} q = checked_refused e (sym shares ∙ ap (λ (x : Result Pair Refusal). refusal_of x) q)
+    run_refused {e} q = checked_refused e (sym shares ∙ ap (λ (x : Result Runnable Refusal). refusal_of x) q)
 
-    pub run_done : {p : Pair} (q : r ≡ Ok p) {rows limits : List ℕ} (is : rows ≡ take p.profile.length areas) (lims : limits ≡ take p.limits.length others) (a : RunAnswer) (after : Buffers) (bytes : List ℕ)
-        → checked_result a after bytes ≡ checked_end budget (run (profile_of rows limits) (readings_of i.variables i.numbers) budget)
+    pub run_done : {p : Runnable} (q : r ≡ Ok p) (a : RunAnswer) (after : Buffers) (bytes : List ℕ)
+        → checked_result a after bytes ≡ checked_end budget (run (profile_of p.rows p.limits) (readings_of i.variables i.numbers) budget)
         → checked_result a after bytes ≡ checked_call i budget b present
     unfolding checked_call checked_unless checked_end run_of
-    run_done {p} q is lims a after bytes e =
+    run_done {p} q a after bytes e =
         e
-        ∙ ap₂ (λ (rows limits : List ℕ). checked_end budget (run (profile_of rows limits) (readings_of i.variables i.numbers) budget)) (is ∙ (h.taken p q).files.rows) (lims ∙ (h.taken p q).files.limits)
-        ∙ ap (λ (k : ℕ). checked_unless k i budget b present) (sym (ap (λ (x : Result Pair Refusal). refusal_of x) q) ∙ shares)
+        ∙ ap₂ (λ (rows limits : List ℕ). checked_end budget (run (profile_of rows limits) (readings_of i.variables i.numbers) budget)) (h.taken p q).rows (h.taken p q).limits
+        ∙ ap (λ (k : ℕ). checked_unless k i budget b present) (sym (ap (λ (x : Result Runnable Refusal). refusal_of x) q) ∙ shares)
 
 -- ---- the type check's verdict on rows
 module _ (rows limits : List ℕ) where
@@ -143,15 +134,15 @@ module _ (i : Inputs) (b : Buffers) (layout : List ℕ) (budget : ℕ) where
   pub layout_wrong : (length layout ≡ layout_length → ⊥) → erased_result (Err BadBuffer) b layout ≡ erased_call i budget b layout
   layout_wrong h = erased_refused BadBuffer (short_layout i b layout h)
 
-  module _ {areas others bodies : List ℕ} {r : Result Pair Refusal} (l : length layout ≡ layout_length) (h : RunIs r i b areas others bodies) where
+  module _ {r : Result Runnable Refusal} (l : length layout ≡ layout_length) (h : RunIs r i b) where
     pub erased_run_refused : {e : Refusal} → r ≡ Err e → erased_result (Err e) b layout ≡ erased_call i budget b layout
     erased_run_refused {e} q =
-        let g : run_refusal i b ≡ refusal_number e = sym h.refusal ∙ ap (λ (x : Result Pair Refusal). refusal_of x) q in
+        let g : run_refusal i b ≡ refusal_number e = sym h.refusal ∙ ap (λ (x : Result Runnable Refusal). refusal_of x) q in
         erased_refused e (run_refuses i b layout l (λ z. some_refusal e (sym g ∙ z)) ∙ g)
 
-    module _ {p : Pair} (q : r ≡ Ok p) where
+    module _ {p : Runnable} (q : r ≡ Ok p) where
       none_applies : run_refusal i b ≡ 0
-      none_applies = sym h.refusal ∙ ap (λ (x : Result Pair Refusal). refusal_of x) q
+      none_applies = sym h.refusal ∙ ap (λ (x : Result Runnable Refusal). refusal_of x) q
 
       by_verdict : (o : Outcome TypeError (List Entry)) → check_profile (profile_of (rows_of i.profile) (rows_of i.limits)) ≡ o
           → erased_verdict o budget (run_of i budget) b layout ≡ erased_call i budget b layout
@@ -162,10 +153,10 @@ module _ (i : Inputs) (b : Buffers) (layout : List ℕ) (budget : ℕ) where
       by_verdict (fail e) f =
           ap (λ (k : ℕ). erased_unless k i budget b layout) (sym (type_error_refuses i b layout l none_applies (fail e) f refl))
 
-      pub erased_done : {rows limits : List ℕ} (is : rows ≡ take p.profile.length areas) (lims : limits ≡ take p.limits.length others) (a : RunAnswer) (after : Buffers) (table : List ℕ)
-          → erased_result a after table ≡ erased_rows rows limits i.variables i.numbers budget b layout
+      pub erased_done : (a : RunAnswer) (after : Buffers) (table : List ℕ)
+          → erased_result a after table ≡ erased_rows p.rows p.limits i.variables i.numbers budget b layout
           → erased_result a after table ≡ erased_call i budget b layout
-      erased_done is lims a after table e =
+      erased_done a after table e =
           e
-          ∙ ap₂ (λ (rows limits : List ℕ). erased_rows rows limits i.variables i.numbers budget b layout) (is ∙ (h.taken p q).files.rows) (lims ∙ (h.taken p q).files.limits)
+          ∙ ap₂ (λ (rows limits : List ℕ). erased_rows rows limits i.variables i.numbers budget b layout) (h.taken p q).rows (h.taken p q).limits
           ∙ (unfold erased_rows run_of in by_verdict (check_profile (profile_of (rows_of i.profile) (rows_of i.limits))) refl)

@@ -18,6 +18,7 @@ use Rattle.pair.specs.Pair.{PairIs}
 use Rattle.pair.specs.declared.Pair.{Pair}
 use Rattle.pair.proofs.Returns.{some_refusal}
 use Rattle.taken.specs.Taken.{RunTaken, RunIs}
+use Rattle.taken.specs.declared.given.Runnable.{Runnable}
 use Rattle.taken.proofs.Refusing.{unfit, files_refused, inputs_refused, none_refused}
 
 -- buffers that fit are as long as listed
@@ -38,42 +39,45 @@ fitting i b f = record {
   open_states = grind (arith, nat_tests);
 }
 
-module _ (i : Inputs) (b : Buffers) (areas others bodies : List ℕ) where
+module _ (i : Inputs) (b : Buffers) where
   -- ---- refused
-  refused_by : {e : Refusal} → run_refusal i b ≡ refusal_number e → RunIs (Err e) i b areas others bodies
+  refused_by : {e : Refusal} → run_refusal i b ≡ refusal_number e → RunIs (Err e) i b
   refused_by q = record { refusal = sym q; taken = λ t z. cc }
 
-  pub unfit_buffers : run_fits i b ≡ false → RunIs (Err BadBuffer) i b areas others bodies
+  pub unfit_buffers : run_fits i b ≡ false → RunIs (Err BadBuffer) i b
   unfit_buffers f = refused_by (unfit i b f)
 
   module _ (f : run_fits i b ≡ true) where
-    pub files_wrong : {r : Result Pair Refusal} {e : Refusal} → PairIs r i.profile i.limits areas others bodies → r ≡ Err e → RunIs (Err e) i b areas others bodies
-    files_wrong {r} {e} h q =
+    pub files_wrong : {r : Result Pair Refusal} {areas others bodies : List ℕ} {e : Refusal} → PairIs r i.profile i.limits areas others bodies → r ≡ Err e → RunIs (Err e) i b
+    files_wrong {r} {e = e} h q =
         refused_by (files_refused i b f (refusal_number e) (sym (ap (λ (x : Result Pair Refusal). refusal_of x) q) ∙ h.refusal) (some_refusal e))
 
-    module _ {r : Result Pair Refusal} {p : Pair} (h : PairIs r i.profile i.limits areas others bodies) (given : r ≡ Ok p) {rows : List ℕ} (are : rows ≡ take p.profile.length areas) (w : Bool) (is : w ≡ reading_wrong rows i.variables) where
+    module _ {r : Result Pair Refusal} {p : Pair} {areas others bodies : List ℕ} (h : PairIs r i.profile i.limits areas others bodies) (given : r ≡ Ok p) {rows : List ℕ} (are : rows ≡ take p.profile.length areas) (w : Bool) (is : w ≡ reading_wrong rows i.variables) where
       accepted : lowest (pair_rules i.profile i.limits) ≡ 0
       accepted = sym h.refusal ∙ ap (λ (x : Result Pair Refusal). refusal_of x) given
 
       wrong_is : reading_wrong (rows_of i.profile) i.variables ≡ w
       wrong_is = ap (λ (x : List ℕ). reading_wrong x i.variables) (sym (are ∙ (h.taken p given).rows)) ∙ sym is
 
-      pub readings_wrong : w ≡ true → RunIs (Err BadReading) i b areas others bodies
+      pub readings_wrong : w ≡ true → RunIs (Err BadReading) i b
       readings_wrong q = refused_by (inputs_refused i b f accepted (wrong_is ∙ q))
 
       -- ---- or not
-      pub none_wrong : w ≡ false → RunIs (Ok p) i b areas others bodies
-      none_wrong q =
+      pub none_wrong : w ≡ false → (g : Runnable) → g.rows ≡ take p.profile.length areas → g.limits ≡ take p.limits.length others → g.owners ≡ p.owners → g.bodies.now ≡ bodies → RunIs (Ok g) i b
+      none_wrong q g r m o held =
           let l = fitting i b f in
+          let k = h.taken p given in
           record {
             refusal = sym (none_refused i b f accepted (wrong_is ∙ q));
-            taken = λ t z. let e : p ≡ t = cc in subst (λ (x : Pair). RunTaken x i b areas others bodies) e (record {
+            taken = λ t z. let e : g ≡ t = cc in subst (λ (x : Runnable). RunTaken x i b) e (record {
               long_cells = l.cells;
               long_states = l.states;
               long_open_cells = l.open_cells;
               long_open_states = l.open_states;
               accepted = accepted;
-              files = h.taken p given;
+              rows = r ∙ k.rows;
+              limits = m ∙ k.limits;
+              is_known = rw (o, held) (record { owned = k.limited; held = k.held });
               readable = record { same_length = l.same; right = wrong_is ∙ q };
             });
           }

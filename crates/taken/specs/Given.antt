@@ -14,7 +14,7 @@ pub record RowsKnown (rows limits owners bodies : List ℕ) : Type 0 where
   pub held : BodiesBelow rows bodies (table_count rows type_section)
 
 abbrev pub IsKnown : Runnable → Type 0
-IsKnown r = RowsKnown r.rows.now r.limits.now r.owners r.bodies.now
+IsKnown r = RowsKnown r.rows r.limits r.owners r.bodies.now
 
 -- what registers hold
 abbrev pub buffers_in : Registers → Buffers

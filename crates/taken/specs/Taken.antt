@@ -6,9 +6,11 @@ use Rattle.lingua.specs.Faults.{refusal_of}
 use Rattle.lingua.specs.Format.{rows_of}
 use Rattle.lingua.specs.Inputs.{Inputs, Buffers}
 use Rattle.lingua.specs.Refusal.{lowest, pair_rules, run_refusal}
-use Rattle.pair.specs.Pair.{TakenPair, PairIs}
+use Rattle.pair.specs.Pair.{PairIs}
 use Rattle.pair.specs.declared.Pair.{Pair}
 use Rattle.whole_run.specs.Meaning.{Readable}
+use Rattle.taken.specs.Given.{RowsKnown}
+use Rattle.taken.specs.declared.given.Runnable.{Runnable}
 
 -- what some two files gave
 pub record PairOf (r : Result Pair Refusal) (areas others bodies : List ℕ) : Type 0 where
@@ -16,17 +18,19 @@ pub record PairOf (r : Result Pair Refusal) (areas others bodies : List ℕ) : T
   pub lims : List ℕ
   pub is : PairIs r prof lims areas others bodies
 
--- where no rule applies: buffers of the listed lengths, both files' rows, and readings for number variables
-pub record RunTaken (t : Pair) (i : Inputs) (b : Buffers) (areas others bodies : List ℕ) : Type 0 where
+-- where no rule applies: buffers of the listed lengths, both files' rows with what is known of them, and readings for number variables
+pub record RunTaken (t : Runnable) (i : Inputs) (b : Buffers) : Type 0 where
   pub long_cells : length b.cells ≡ cells_length
   pub long_states : length b.states ≡ states_length
   pub long_open_cells : length b.open_cells ≡ open_cells_length
   pub long_open_states : length b.open_states ≡ open_states_length
   pub accepted : lowest (pair_rules i.profile i.limits) ≡ 0
-  pub files : TakenPair t i.profile i.limits areas others bodies
+  pub rows : t.rows ≡ rows_of i.profile
+  pub limits : t.limits ≡ rows_of i.limits
+  pub is_known : RowsKnown (rows_of i.profile) (rows_of i.limits) t.owners t.bodies.now
   pub readable : Readable (rows_of i.profile) i.variables i.numbers
 
--- the lowest rule of 1 to 16 that applies, or the pair where none does
-pub record RunIs (r : Result Pair Refusal) (i : Inputs) (b : Buffers) (areas others bodies : List ℕ) : Type 0 where
+-- the lowest rule of 1 to 16 that applies, or what the run is given where none does
+pub record RunIs (r : Result Runnable Refusal) (i : Inputs) (b : Buffers) : Type 0 where
   pub refusal : refusal_of r ≡ run_refusal i b
-  pub taken : (t : Pair) → r ≡ Ok t → RunTaken t i b areas others bodies
+  pub taken : (t : Runnable) → r ≡ Ok t → RunTaken t i b

@@ -3,10 +3,10 @@ use decoder::rows::Rows;
 use lingua::sizes::MOST_LIMITS;
 
 // Both files' rows, whose each limit is, and the bodies of the profile's type rows.
-#[derive(Clone, Copy)]
+#[derive(Drop)]
 pub struct Runnable<'a> {
-    pub rows: &'a Rows<'a>,
-    pub limits: &'a Rows<'a>,
+    pub rows: Rows<'a>,
+    pub limits: Rows<'a>,
     pub owners: [u8; MOST_LIMITS],
     pub bodies: &'a [u8],
 }

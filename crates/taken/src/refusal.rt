@@ -6,7 +6,7 @@ ghost use Rattle.pair.specs.Pair.{PairIs};
 ghost use Rattle.taken.specs.Given.{buffers_in};
 ghost use Rattle.taken.specs.Taken.{PairOf, RunIs};
 
-use crate::given::{Asked, Registers};
+use crate::given::{Asked, Registers, Runnable};
 use decoder::rows::Rows;
 use lingua::errors::Refusal;
 use lingua::sizes::{CELLS_LENGTH, OPEN_CELLS_LENGTH, OPEN_STATES_LENGTH, STATES_LENGTH};
@@ -25,16 +25,17 @@ fn buffers_fit(asked: &Asked, registers: &Registers) -> bool
         && registers.open_states.len() == OPEN_STATES_LENGTH
 }
 
-// The taken pair, or the lowest rule of 1 to 16 that applies to a run of it.
-pub fn run_refusal(
+// What a run of the taken pair is given, or the lowest rule of 1 to 16 that applies to it.
+pub fn run_refusal<'a>(
     pair: Result<Pair, Refusal>,
-    areas: &[u8],
-    bodies: &[u8],
+    areas: &'a [u8],
+    others: &'a [u8],
+    bodies: &'a [u8],
     asked: &Asked,
     registers: &Registers,
-) -> Result<Pair, Refusal>
-    requires { (others : List ℕ) × PairOf pair areas.now others bodies.now }
-    ensures { (prof lims others : List ℕ) → PairIs pair prof lims areas.now others bodies.now → RunIs result (inputs prof lims asked.now.variables.now asked.now.numbers.now) (buffers_in registers.now) areas.now others bodies.now }
+) -> Result<Runnable<'a>, Refusal>
+    requires { PairOf pair areas.now others.now bodies.now }
+    ensures { (prof lims : List ℕ) → PairIs pair prof lims areas.now others.now bodies.now → RunIs result (inputs prof lims asked.now.variables.now asked.now.numbers.now) (buffers_in registers.now) }
 {
     if !buffers_fit(asked, registers) {
         return Err(Refusal::BadBuffer);
@@ -44,5 +45,12 @@ pub fn run_refusal(
     if reading_wrong(&rows, bodies, asked.variables) {
         return Err(Refusal::BadReading);
     }
-    Ok(taken)
+    let limits = Rows::with(&others[..taken.limits.length], taken.limits.tables);
+    let owners = taken.owners;
+    Ok(Runnable {
+        rows,
+        limits,
+        owners,
+        bodies,
+    })
 }

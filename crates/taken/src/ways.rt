@@ -27,14 +27,14 @@ pub fn run_rows<W: Way>(
     own: &mut [u8],
     area: &mut [u8],
 ) -> RunEnd
-    requires startable { Startable from.now.rows.now asked.now.variables.now asked.now.numbers.now (buffers_in registers.old) }
+    requires startable { Startable from.now.rows asked.now.variables.now asked.now.numbers.now (buffers_in registers.old) }
     requires is_known { IsKnown from.now }
-    requires lends { Lends W.way from.now.rows.now from.now.limits.now layout.now own.old area.old }
-    ensures run { run_result (Ok result) (buffers_in registers.new) ≡ ran asked.now.budget (meaning (profile_of from.now.rows.now from.now.limits.now) (readings_of asked.now.variables.now asked.now.numbers.now) asked.now.budget) }
-    ensures present { W.way ≡ is_checked → followed own.new area.new ≡ present_in (last_state (meaning (profile_of from.now.rows.now from.now.limits.now) (readings_of asked.now.variables.now asked.now.numbers.now) asked.now.budget)).store (open_calls (meaning (profile_of from.now.rows.now from.now.limits.now) (readings_of asked.now.variables.now asked.now.numbers.now) asked.now.budget)) }
+    requires lends { Lends W.way from.now.rows from.now.limits layout.now own.old area.old }
+    ensures run { run_result (Ok result) (buffers_in registers.new) ≡ ran asked.now.budget (meaning (profile_of from.now.rows from.now.limits) (readings_of asked.now.variables.now asked.now.numbers.now) asked.now.budget) }
+    ensures present { W.way ≡ is_checked → followed own.new area.new ≡ present_in (last_state (meaning (profile_of from.now.rows from.now.limits) (readings_of asked.now.variables.now asked.now.numbers.now) asked.now.budget)).store (open_calls (meaning (profile_of from.now.rows from.now.limits) (readings_of asked.now.variables.now asked.now.numbers.now) asked.now.budget)) }
     ensures same_registers { SameRegisters registers.old registers.new }
 {
-    let rows = from.rows;
+    let rows = &from.rows;
     let mut kept = [0i64; LIMIT_CELLS_LENGTH];
     registers.open_cells.fill(0);
     registers.open_states.fill(0);
@@ -42,7 +42,7 @@ pub fn run_rows<W: Way>(
     W::begin_bodies(rows, rows.declarations(), from.bodies, &mut *own);
     start(
         rows,
-        from.limits,
+        &from.limits,
         from.owners,
         &mut kept,
         &mut *registers.cells,

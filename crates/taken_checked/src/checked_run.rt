@@ -10,7 +10,6 @@ ghost use Rattle.taken.specs.Given.{IsKnown, buffers_in, SameRegisters};
 ghost use Rattle.taken.specs.Taken.{PairOf};
 ghost use Rattle.taken.specs.Ways.{Startable, checked_end};
 
-use decoder::rows::Rows;
 use frames::checked_way::Checked;
 use lingua::RunAnswer;
 use lingua::errors::Refusal;
@@ -21,17 +20,17 @@ use taken::present::copy_front;
 use taken::refusal::run_refusal;
 use taken::ways::run_rows;
 
-// The run of accepted rows, with the present bodies as they are lent: the profile's lie by themselves until it ends, and no layout table.
+// The run of accepted rows, with the present bodies as they are lent, and no layout table. The profile's lie by themselves until it ends.
 fn checked_lent(
     from: &Runnable,
     asked: &Asked,
     registers: &mut Registers,
     present: &mut [u8],
 ) -> RunAnswer
-    requires startable { Startable from.now.rows.now asked.now.variables.now asked.now.numbers.now (buffers_in registers.old) }
+    requires startable { Startable from.now.rows asked.now.variables.now asked.now.numbers.now (buffers_in registers.old) }
     requires is_known { IsKnown from.now }
     requires present_len { length present.old ≡ present_bodies_length }
-    ensures run { checked_result result (buffers_in registers.new) present.new ≡ checked_end asked.now.budget (meaning (profile_of from.now.rows.now from.now.limits.now) (readings_of asked.now.variables.now asked.now.numbers.now) asked.now.budget) }
+    ensures run { checked_result result (buffers_in registers.new) present.new ≡ checked_end asked.now.budget (meaning (profile_of from.now.rows from.now.limits) (readings_of asked.now.variables.now asked.now.numbers.now) asked.now.budget) }
     ensures same_registers { SameRegisters registers.old registers.new }
 {
     let mut own = [0u8; VARIABLE_BODIES_LENGTH];
@@ -66,15 +65,6 @@ pub fn checked_taken(
     if present.len() != PRESENT_BODIES_LENGTH {
         return Err(Refusal::BadBuffer);
     }
-    let taken = run_refusal(pair, areas, bodies, asked, &*registers)?;
-    let rows = Rows::with(&areas[..taken.profile.length], taken.profile.tables);
-    let limits = Rows::with(&others[..taken.limits.length], taken.limits.tables);
-    let owners = taken.owners;
-    let from = Runnable {
-        rows: &rows,
-        limits: &limits,
-        owners,
-        bodies,
-    };
+    let from = run_refusal(pair, areas, others, bodies, asked, &*registers)?;
     checked_lent(&from, asked, registers, present)
 }

@@ -11,7 +11,6 @@ ghost use Rattle.taken.specs.Given.{IsKnown, buffers_in, SameRegisters};
 ghost use Rattle.taken.specs.Taken.{PairOf};
 ghost use Rattle.taken.specs.Ways.{Startable, QuantitiesLimited, PassedRows, erased_rows};
 
-use decoder::rows::Rows;
 use frames::erased_way::Erased;
 use lingua::RunAnswer;
 use lingua::errors::Refusal;
@@ -29,11 +28,11 @@ fn passed_rows(
     asked: &Asked,
     registers: &mut Registers,
 ) -> RunAnswer
-    requires startable { Startable from.now.rows.now asked.now.variables.now asked.now.numbers.now (buffers_in registers.old) }
+    requires startable { Startable from.now.rows asked.now.variables.now asked.now.numbers.now (buffers_in registers.old) }
     requires is_known { IsKnown from.now }
-    requires passed_rows { PassedRows from.now.rows.now from.now.limits.now layout.now }
-    requires quantities_limited { QuantitiesLimited from.now.rows.now from.now.limits.now }
-    ensures run { run_result result (buffers_in registers.new) ≡ ran asked.now.budget (meaning (profile_of from.now.rows.now from.now.limits.now) (readings_of asked.now.variables.now asked.now.numbers.now) asked.now.budget) }
+    requires passed_rows { PassedRows from.now.rows from.now.limits layout.now }
+    requires quantities_limited { QuantitiesLimited from.now.rows from.now.limits }
+    ensures run { run_result result (buffers_in registers.new) ≡ ran asked.now.budget (meaning (profile_of from.now.rows from.now.limits) (readings_of asked.now.variables.now asked.now.numbers.now) asked.now.budget) }
     ensures same_registers { SameRegisters registers.old registers.new }
 {
     let mut none = [0u8; 0];
@@ -48,15 +47,15 @@ fn erased_rows(
     registers: &mut Registers,
     layout: &mut [u16],
 ) -> RunAnswer
-    requires startable { Startable from.now.rows.now asked.now.variables.now asked.now.numbers.now (buffers_in registers.old) }
+    requires startable { Startable from.now.rows asked.now.variables.now asked.now.numbers.now (buffers_in registers.old) }
     requires is_known { IsKnown from.now }
     requires layout_len { length layout.old ≡ layout_length }
-    requires quantities_limited { QuantitiesLimited from.now.rows.now from.now.limits.now }
-    ensures run { erased_result result (buffers_in registers.new) layout.new ≡ erased_rows from.now.rows.now from.now.limits.now asked.now.variables.now asked.now.numbers.now asked.now.budget (buffers_in registers.old) layout.old }
+    requires quantities_limited { QuantitiesLimited from.now.rows from.now.limits }
+    ensures run { erased_result result (buffers_in registers.new) layout.new ≡ erased_rows from.now.rows from.now.limits asked.now.variables.now asked.now.numbers.now asked.now.budget (buffers_in registers.old) layout.old }
     ensures same_registers { SameRegisters registers.old registers.new }
 {
     let mut table = [0u16; LAYOUT_LENGTH];
-    match check_profile(from.rows, from.bodies, &mut table) {
+    match check_profile(&from.rows, from.bodies, &mut table) {
         Ok(()) => {
             layout.copy_from_slice(&table);
             passed_rows(from, layout, asked, registers)
@@ -83,15 +82,6 @@ pub fn erased_taken(
     if layout.len() != LAYOUT_LENGTH {
         return Err(Refusal::BadBuffer);
     }
-    let taken = run_refusal(pair, areas, bodies, asked, &*registers)?;
-    let rows = Rows::with(&areas[..taken.profile.length], taken.profile.tables);
-    let limits = Rows::with(&others[..taken.limits.length], taken.limits.tables);
-    let owners = taken.owners;
-    let from = Runnable {
-        rows: &rows,
-        limits: &limits,
-        owners,
-        bodies,
-    };
+    let from = run_refusal(pair, areas, others, bodies, asked, &*registers)?;
     erased_rows(&from, asked, registers, layout)
 }

@@ -1,7 +1,4 @@
 -- `taken_erased::erased_run::erased_taken` meets its contract: refused, 17 included, or as the run of both files ends. Assumes nothing.
-use mathlib.Core.Path.{sym}
-use lib.Seq.{length-take-le}
-use Rattle.pair.proofs.Given.{tables_there, limit_tables_there}
 use Rattle.pair.proofs.Returns.{passed_on}
 use Rattle.taken.proofs.Calling.{asks, asks_limited, layout_wrong, erased_run_refused, erased_done}
 use Rattle.taken_erased.proofs.erased_run.erased_taken.Goals as goal
@@ -9,29 +6,14 @@ use Rattle.taken_erased.proofs.erased_run.erased_taken.Goals as goal
 pub returns-then-layout-ne-LAYOUT_LENGTH-clause-run : goal.returns-then-layout-ne-LAYOUT_LENGTH-clause-run
 returns-then-layout-ne-LAYOUT_LENGTH-clause-run c = λ prof lims h. layout_wrong _ _ _ _ c.if-layout-ne-LAYOUT_LENGTH.true
 
-pub run_refusal-requires : goal.run_refusal-requires
-run_refusal-requires c = (c.args.others.now, c.requires)
-
-pub returns-in_err-taken-clause-run : goal.returns-in_err-taken-clause-run
-returns-in_err-taken-clause-run c = λ prof lims h. rw (passed_on _ c.from_residual.ensures.1) (erased_run_refused _ _ _ _ c.if-layout-ne-LAYOUT_LENGTH.false (c.run_refusal.ensures prof lims _ h) c.in_err-taken.was)
-
-pub slice_bounds-with-end : goal.slice_bounds-with-end
-slice_bounds-with-end c = sym (length-take-le _ _ ((c.run_refusal.ensures _ _ _ c.requires.is).taken _ c.in_ok-taken.was).files.within)
-
-pub with-rows-requires : goal.with-rows-requires
-with-rows-requires c = tables_there ((c.run_refusal.ensures _ _ _ c.requires.is).taken _ c.in_ok-taken.was).files
-
-pub slice_bounds-with-end-2 : goal.slice_bounds-with-end-2
-slice_bounds-with-end-2 c = sym (length-take-le _ _ ((c.run_refusal.ensures _ _ _ c.requires.is).taken _ c.in_ok-taken.was).files.within_others)
-
-pub with-limits-requires : goal.with-limits-requires
-with-limits-requires c = limit_tables_there ((c.run_refusal.ensures _ _ _ c.requires.is).taken _ c.in_ok-taken.was).files
+pub returns-in_err-from-clause-run : goal.returns-in_err-from-clause-run
+returns-in_err-from-clause-run c = λ prof lims h. rw (passed_on _ c.from_residual.ensures.1) (erased_run_refused _ _ _ _ c.if-layout-ne-LAYOUT_LENGTH.false (c.run_refusal.ensures prof lims h) c.in_err-from.was)
 
 pub erased_rows-requires : goal.erased_rows-requires
 erased_rows-requires c =
-    let t = (c.run_refusal.ensures _ _ _ c.requires.is).taken _ c.in_ok-taken.was in
-    let k = asks t c.with-rows.ensures c.with-limits.ensures in
-    record { startable = k.0; is_known = k.1; layout_len = c.if-layout-ne-LAYOUT_LENGTH.false; quantities_limited = asks_limited t c.with-rows.ensures c.with-limits.ensures }
+    let t = (c.run_refusal.ensures _ _ c.requires.is).taken _ c.in_ok-from.was in
+    let k = asks t in
+    record { startable = k.0; is_known = k.1; layout_len = c.if-layout-ne-LAYOUT_LENGTH.false; quantities_limited = asks_limited t }
 
 pub returns-clause-run : goal.returns-clause-run
-returns-clause-run c = λ prof lims h. erased_done _ _ _ _ c.if-layout-ne-LAYOUT_LENGTH.false (c.run_refusal.ensures prof lims _ h) c.in_ok-taken.was c.with-rows.ensures c.with-limits.ensures _ _ _ c.erased_rows.ensures.run
+returns-clause-run c = λ prof lims h. erased_done _ _ _ _ c.if-layout-ne-LAYOUT_LENGTH.false (c.run_refusal.ensures prof lims h) c.in_ok-from.was _ _ _ c.erased_rows.ensures.run
