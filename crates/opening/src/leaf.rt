@@ -21,8 +21,8 @@ pub fn skip(m: Status) -> Status
     stepped(m)
 }
 
-// Variable n takes what expression row e gives. Drawn into the walk, as its kind is most of what a program does.
-#[inline(always)]
+// Variable n takes what expression row e gives. It is no part of the walk's frame: drawn in, it takes a kilobyte at each of the walk's levels as
+// the toolchain's own compiler builds it.
 pub fn assignment<W: Way>(
     row: usize,
     n: usize,
