@@ -3,9 +3,8 @@ use crate::nonsense::Lent;
 use crate::shown::{At, Hex, Places};
 use lingua::errors::Refusal;
 use lingua::sizes::ROW_BYTES;
-use lingua::{
-    CheckAnswer, FindAnswer, ReadAnswer, RowsRead, RunAnswer, RunEnd, Search, WriteAnswer,
-};
+use lingua::{CheckAnswer, FindAnswer, ReadAnswer, RowsRead, RunAnswer, RunEnd, Search};
+use std::fmt::Display;
 use std::io;
 use std::io::Write;
 
@@ -22,28 +21,12 @@ fn refused<W: Write>(refusal: Refusal, kept: bool, out: &mut W) -> io::Result<()
     }
 }
 
-pub(crate) fn run_line<W: Write>(
-    answer: RunAnswer,
-    kept: bool,
-    lent: &Lent,
-    out: &mut W,
-) -> io::Result<()> {
+pub(crate) fn run_line<W: Write>(answer: RunAnswer, lent: &Lent, out: &mut W) -> io::Result<()> {
     match answer {
-        Err(refusal) => return refused(refusal, kept, out),
-        Ok(RunEnd::Finished { steps }) => write!(out, "run 0 0 0 {steps}")?,
-        Ok(RunEnd::Failed { at, steps }) => write!(out, "run 1 {} {steps}", At(at))?,
-        Ok(
-            RunEnd::Out {
-                recorded: Some(at),
-                steps,
-            },
-        ) => write!(out, "run 2 {} {steps}", At(at))?,
-        Ok(
-            RunEnd::Out {
-                recorded: None,
-                steps,
-            },
-        ) => write!(out, "run 2 0 0 {steps}")?,
+        Err(refusal) => return refused(refusal, lent.is_kept(), out),
+        Ok(RunEnd::Finished { steps }) => write!(out, "run 0 {} {steps}", At(None))?,
+        Ok(RunEnd::Failed { at, steps }) => write!(out, "run 1 {} {steps}", At(Some(at)))?,
+        Ok(RunEnd::Out { recorded, steps }) => write!(out, "run 2 {} {steps}", At(recorded))?,
     }
     write!(out, " cells {}", Places(&lent.cells))?;
     write!(out, " marks {}", Places(&lent.states))?;
@@ -51,16 +34,17 @@ pub(crate) fn run_line<W: Write>(
     writeln!(out, " {}", Places(&lent.open_states))
 }
 
-// The present bodies of a run that was made, however it ended.
-pub(crate) fn bodies_line<W: Write>(
-    answer: RunAnswer,
+// What a call has left in a lent buffer, under its name.
+pub(crate) fn left_line<T: Drop, D: Display + Drop, W: Write>(
+    answer: Result<T, Refusal>,
     kept: bool,
-    bodies: &[u8],
+    name: &str,
+    left: D,
     out: &mut W,
 ) -> io::Result<()> {
     match answer {
         Err(refusal) => refused(refusal, kept, out),
-        Ok(_) => writeln!(out, "bodies {}", Places(bodies)),
+        Ok(_) => writeln!(out, "{name} {left}"),
     }
 }
 
@@ -73,7 +57,7 @@ pub(crate) fn check_line<W: Write>(
     match answer {
         Err(refusal) => refused(refusal, kept, out),
         Ok(Ok(())) => writeln!(out, "pass {}", Places(layout)),
-        Ok(Err(at)) => writeln!(out, "fault {}", At(at)),
+        Ok(Err(at)) => writeln!(out, "fault {}", At(Some(at))),
     }
 }
 
@@ -108,17 +92,5 @@ pub(crate) fn find_line<W: Write>(answer: FindAnswer, out: &mut W) -> io::Result
                 looked,
             },
         ) => writeln!(out, "none {looked}"),
-    }
-}
-
-pub(crate) fn write_line<W: Write>(
-    answer: WriteAnswer,
-    kept: bool,
-    file: &[u8],
-    out: &mut W,
-) -> io::Result<()> {
-    match answer {
-        Err(refusal) => refused(refusal, kept, out),
-        Ok(()) => writeln!(out, "file {}", Hex(file)),
     }
 }

@@ -1,15 +1,12 @@
 // A line taken apart, and the call that it asks for. Whatever is malformed is a bad case.
 ghost use Rattle.std.specs.Prelude.{◌≤◌, length};
 
-use crate::answers::{
-    bad_case, bodies_line, check_line, find_line, read_line, run_line, write_line,
-};
+use crate::answers::{bad_case, check_line, find_line, left_line, read_line, run_line};
 use crate::nonsense::{BYTE, Lent, WORD, is_kept};
 use crate::parse::{MOST_READINGS, decode, number, readings};
-use lingua::FileKind;
-use lingua::sizes::{
-    BLOCK_BYTES, LAYOUT_LENGTH, NAME_BYTES, PRESENT_BODIES_LENGTH, ROW_BYTES, ROWS_LENGTH,
-};
+use crate::shown::{Hex, Places};
+use lingua::sizes::{BLOCK_BYTES, LAYOUT_LENGTH, NAME_BYTES, ROW_BYTES, ROWS_LENGTH};
+use lingua::{FileKind, RunAnswer};
 use std::io::Write;
 use std::str::Split;
 use std::{io, str};
@@ -32,7 +29,7 @@ pub struct Run<'a> {
     budget: u16,
 }
 
-// What is shown of a checked run.
+// What is shown of a checked run: the cells and the state words, or the present bodies of the same run in their place.
 #[derive(Clone, Copy)]
 pub enum Part {
     Cells,
@@ -116,7 +113,8 @@ fn write_case<W: Write>(mut fields: Fields<'_>, out: &mut W) -> Option<io::Resul
     Some(write_rows(kind, model, rows, out))
 }
 
-// The length of the file that holds so many bytes of rows: blocks of 50 rows, at least one, and one for limits.
+// The length of the file that holds so many bytes of rows: blocks of 50 rows, at least one, and one for limits. It is
+// counted here and not by the writer's own function: like a host, this program has the public calls alone.
 fn file_length(kind: FileKind, bytes: usize) -> usize
     requires { bytes ≤ 32768 }
     ensures { result ≤ 33792 }
@@ -134,7 +132,7 @@ fn write_rows<W: Write>(kind: FileKind, model: u16, rows: &[u8], out: &mut W) ->
     let mut buffer = [BYTE; MOST_FILE_BYTES];
     let file = &mut buffer[..file_length(kind, rows.len())];
     let answer = calls::files::write(kind, model, rows, file);
-    write_line(answer, is_kept(file, &BYTE), file, out)
+    left_line(answer, is_kept(file, &BYTE), "file", Hex(file), out)
 }
 
 // ---- inspect PROFILE LIMITS
@@ -169,50 +167,41 @@ fn run_case<W: Write>(
         numbers,
         budget,
     };
+    let mut lent = Lent::new();
+    let answer = run_made(kind, run, &mut lent);
     Some(match kind {
-        RunKind::Checked(part) => run_checked(run, part, out),
-        RunKind::Erased => run_erased(run, out),
+        RunKind::Checked(Part::Bodies) => {
+            left_line(answer, lent.is_kept(), "bodies", Places(&lent.bodies), out)
+        }
+        _ => run_line(answer, &lent, out),
     })
 }
 
-// A desk line shows the cells and the state words, a bodies line the present bodies of the same run in their place.
-fn run_checked<W: Write>(run: Run<'_>, part: Part, out: &mut W) -> io::Result<()> {
-    let mut lent = Lent::new();
-    let mut bodies = [BYTE; PRESENT_BODIES_LENGTH];
-    let answer = calls::checked_run::run_checked(
-        run.profile,
-        run.limits,
-        run.variables,
-        run.numbers,
-        run.budget,
-        &mut lent.cells,
-        &mut lent.states,
-        &mut lent.open_cells,
-        &mut lent.open_states,
-        &mut bodies,
-    );
-    let kept = lent.is_kept() && is_kept(&bodies, &BYTE);
-    match part {
-        Part::Cells => run_line(answer, kept, &lent, out),
-        Part::Bodies => bodies_line(answer, kept, &bodies, out),
+fn run_made(kind: RunKind, run: Run<'_>, lent: &mut Lent) -> RunAnswer {
+    match kind {
+        RunKind::Checked(_) => calls::checked_run::run_checked(
+            run.profile,
+            run.limits,
+            run.variables,
+            run.numbers,
+            run.budget,
+            &mut lent.cells,
+            &mut lent.states,
+            &mut lent.open_cells,
+            &mut lent.open_states,
+            &mut lent.bodies,
+        ),
+        RunKind::Erased => calls::erased_run::run_erased(
+            run.profile,
+            run.limits,
+            run.variables,
+            run.numbers,
+            run.budget,
+            &mut lent.cells,
+            &mut lent.states,
+            &mut lent.open_cells,
+            &mut lent.open_states,
+            &mut lent.layout,
+        ),
     }
-}
-
-fn run_erased<W: Write>(run: Run<'_>, out: &mut W) -> io::Result<()> {
-    let mut lent = Lent::new();
-    let mut layout = [WORD; LAYOUT_LENGTH];
-    let answer = calls::erased_run::run_erased(
-        run.profile,
-        run.limits,
-        run.variables,
-        run.numbers,
-        run.budget,
-        &mut lent.cells,
-        &mut lent.states,
-        &mut lent.open_cells,
-        &mut lent.open_states,
-        &mut layout,
-    );
-    let kept = lent.is_kept() && is_kept(&layout, &WORD);
-    run_line(answer, kept, &lent, out)
 }

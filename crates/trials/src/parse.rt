@@ -36,8 +36,8 @@ pub(crate) fn decode<'a>(text: &str, out: &'a mut [u8]) -> Option<&'a [u8]>
     if pairs.is_empty() || !rest.is_empty() || out.len() < pairs.len() {
         return None;
     }
-    for (i, pair) in pairs.iter().enumerate() {
-        out[i] = byte_of(pair)?;
+    for (byte, pair) in out.iter_mut().zip(pairs) {
+        *byte = byte_of(pair)?;
     }
     Some(&out[..pairs.len()])
 }
@@ -68,14 +68,13 @@ pub(crate) fn readings<'a>(
     if text == NOTHING {
         return Some((&[], &[]));
     }
-    let mut count = 0;
-    for entry in text.split(',') {
+    for (i, entry) in text.split(',').enumerate() {
         let (variable, value) = reading(entry)?;
-        if count < MOST_READINGS {
-            variables[count] = variable;
-            numbers[count] = value;
-            count += 1;
+        if i < MOST_READINGS {
+            variables[i] = variable;
+            numbers[i] = value;
         }
     }
+    let count = text.split(',').count().min(MOST_READINGS);
     Some((&variables[..count], &numbers[..count]))
 }

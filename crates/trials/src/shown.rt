@@ -40,12 +40,15 @@ impl<T: Copy + Into<i64>> Display for Places<'_, T> {
     }
 }
 
-// An error's number and its place.
+// An error's number and its place, two zeros where there is none.
 #[derive(Clone, Copy)]
-pub struct At(pub ErrorAt);
+pub struct At(pub Option<ErrorAt>);
 
 impl Display for At {
     fn fmt<W: fmt::Write>(&self, f: &mut fmt::Formatter<W>) -> fmt::Result {
-        write!(f, "{} {}", self.0.error.number(), self.0.place)
+        match self.0 {
+            Some(at) => write!(f, "{} {}", at.error.number(), at.place),
+            None => write!(f, "0 0"),
+        }
     }
 }
