@@ -21,8 +21,7 @@ use run::memory::Memory;
 use run::words::yoke_in;
 
 // Variable n takes an evaluated value, which lies on the stack, once it is admitted; an error leaves the store as it was. Only a yoke that is
-// run asks for a copy: it is evaluated on the stack. Drawn into its caller, it is handed no body of 96 bytes.
-#[inline(always)]
+// run asks for a copy: it is evaluated on the stack.
 pub fn assign(
     rows: &Rows,
     limits: &[i64],
