@@ -2,10 +2,15 @@
 use Rattle.std.specs.Prelude.{◌≡◌, length}
 use Rattle.run.specs.Reached.{Lent, lent}
 use Rattle.run.specs.declared.memory.Memory.{Memory}
+use Rattle.run.specs.declared.memory.Seen.{Seen}
 
 -- what memory holds
 abbrev pub lent_in : Memory → Lent
 lent_in m = lent m.cells.now m.states.now m.bodies.now
+
+-- the same of memory that is lent to be read
+abbrev pub seen_in : Seen → Lent
+seen_in m = lent m.cells.now m.states.now m.bodies.now
 
 -- the slices are those that were lent, and as long
 pub record SameSlices (m after : Memory) : Type 0 where
