@@ -21,7 +21,7 @@ use erased_row::tally::{concluded, tallied};
 use lingua::errors::Error;
 use lingua::sizes::BODY_CELLS;
 use profile::row::expression_row;
-use run::memory::Memory;
+use run::memory::Seen;
 
 // What the expression of a row gives on a current value: a value at the stack's front, or its error.
 #[cycle(all_choice_eval_lazy)]
@@ -29,7 +29,7 @@ pub fn eval(
     row: usize,
     rows: &Rows,
     layout: &[u16],
-    memory: &Memory,
+    memory: &Seen,
     current: &[i64],
     stack: &mut [i64],
 ) -> Result<(), Error>
@@ -78,7 +78,7 @@ fn lazy(
     row: usize,
     rows: &Rows,
     layout: &[u16],
-    memory: &Memory,
+    memory: &Seen,
     settling: bool,
     a: usize,
     b: usize,
@@ -105,7 +105,7 @@ fn choice(
     row: usize,
     rows: &Rows,
     layout: &[u16],
-    memory: &Memory,
+    memory: &Seen,
     test: usize,
     a: usize,
     b: usize,
@@ -131,7 +131,7 @@ fn all(
     row: usize,
     rows: &Rows,
     layout: &[u16],
-    memory: &Memory,
+    memory: &Seen,
     a: usize,
     current: &[i64],
     stack: &mut [i64],

@@ -7,25 +7,25 @@ ghost use Rattle.lingua.specs.Run.{Profile};
 ghost use Rattle.lingua.specs.Evaluation.{eval_test};
 ghost use Rattle.lingua.specs.Trees.{expression_tree};
 ghost use Rattle.run.specs.Reached.{Tells};
-ghost use Rattle.erased_row.specs.Meaning.{bare_in, Running, HasStore, TestRow};
+ghost use Rattle.erased_row.specs.Meaning.{bare_seen, Running, HasStore, TestRow};
 
 use crate::yoke::eval_plain;
 use decoder::rows::Rows;
 use erased_row::answer::truth_of;
 use lingua::errors::Error;
-use run::memory::Memory;
+use run::memory::Seen;
 
 pub fn test(
     rows: &Rows,
     layout: &[u16],
-    memory: &Memory,
+    memory: &Seen,
     e: usize,
     stack: &mut [i64],
 ) -> Result<bool, Error>
-    requires has_store { HasStore rows.now layout.now (bare_in memory.now) (λ a. TestRow rows.now a e) }
+    requires has_store { HasStore rows.now layout.now (bare_seen memory.now) (λ a. TestRow rows.now a e) }
     requires e_lt_count { e < table_count rows.now expression_section }
     requires count_in_bounds { body_cells * (table_count rows.now expression_section + 1) ≤ length stack.old }
-    ensures { (p : Profile) (a : ℕ) (limits : List ℤ) (vs : List Variable) → Running p a rows.now layout.now limits (bare_in memory.now) vs → TestRow rows.now a e
+    ensures { (p : Profile) (a : ℕ) (limits : List ℤ) (vs : List Variable) → Running p a rows.now layout.now limits (bare_seen memory.now) vs → TestRow rows.now a e
         → Tells result (eval_test (expression_tree rows.now e) (contents vs)) }
 {
     let x = eval_plain(rows, layout, memory, e, &mut *stack);

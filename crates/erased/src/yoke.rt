@@ -10,13 +10,13 @@ use crate::eval::eval;
 use decoder::rows::Rows;
 use erased_row::answer::put_truth;
 use lingua::errors::Error;
-use run::memory::Memory;
+use run::memory::Seen;
 
 // What yoke y gives on a value: 0 is the yoke that is always true, another is the expression of row y - 1.
 pub fn eval_yoke(
     rows: &Rows,
     layout: &[u16],
-    memory: &Memory,
+    memory: &Seen,
     y: usize,
     current: &[i64],
     stack: &mut [i64],
@@ -37,7 +37,7 @@ pub fn eval_yoke(
 pub fn eval_plain(
     rows: &Rows,
     layout: &[u16],
-    memory: &Memory,
+    memory: &Seen,
     row: usize,
     stack: &mut [i64],
 ) -> Result<(), Error>

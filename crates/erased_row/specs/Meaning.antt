@@ -32,10 +32,15 @@ use Rattle.cells.specs.Stack.{Lies, Leaves, first_place}
 use Rattle.run.specs.Memory.{Memory}
 use Rattle.run.specs.Reached.{Lent, lent}
 use Rattle.run.specs.declared.memory.Memory.{Memory as MemoryLent}
+use Rattle.run.specs.declared.memory.Seen.{Seen}
 
 -- what lent memory holds for the erased run, which does without bodies
 abbrev pub bare_in : MemoryLent → Lent
 bare_in m = lent m.cells.now m.states.now []
+
+-- the same of memory that is lent to be read
+abbrev pub bare_seen : Seen → Lent
+bare_seen m = lent m.cells.now m.states.now []
 
 -- accepted rows, a layout table, and the caller's memory, which holds a store of at most 16 variables, each of its declared
 -- body where it is filled. Whose variables they are is not asked: one that is behind them is not filled

@@ -22,7 +22,7 @@ use lingua::errors::Error;
 use lingua::sizes::BODY_CELLS;
 use profile::constants::constant_cell;
 use run::copies::copy;
-use run::memory::Memory;
+use run::memory::Seen;
 use run::words::is_filled;
 
 // A constant takes one cell.
@@ -37,7 +37,7 @@ pub fn constant(rows: &Rows, row: usize, stack: &mut [i64])
 // The value of variable n, of as many cells as the layout table says. The flag is asked first: one behind the store's variables is not set.
 pub fn fetch(
     layout: &[u16],
-    memory: &Memory,
+    memory: &Seen,
     row: usize,
     n: usize,
     stack: &mut [i64],

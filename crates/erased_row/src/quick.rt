@@ -13,7 +13,7 @@ use lingua::errors::Error;
 use lingua::sizes::BODY_CELLS;
 use profile::constants::constant_cell;
 use profile::row::expression_row;
-use run::memory::Memory;
+use run::memory::Seen;
 use run::words::is_filled;
 
 // What the expression of a row gives, if it is a leaf of one cell: that cell at the stack's front, or its error. Any other row gives none.
@@ -21,7 +21,7 @@ pub fn leaf(
     row: usize,
     rows: &Rows,
     layout: &[u16],
-    memory: &Memory,
+    memory: &Seen,
     current: &[i64],
     stack: &mut [i64],
 ) -> Option<Result<(), Error>>
