@@ -23,18 +23,17 @@ pub fn gather(file: &[u8], areas: &mut [u8])
     }
 }
 
-// How many rows there are, up to the last that is not zero.
+// How many rows there are, up to the last that is not zero: looked for from the end, where few are zero.
 fn used_rows(areas: &[u8]) -> usize
     ensures { result ≡ used_rows (row_count areas.now) areas.now }
 {
-    let mut used = 0;
-    for r in 0..areas.len() / ROW_BYTES {
+    for r in (0..areas.len() / ROW_BYTES).rev() {
         let at = ROW_BYTES * r;
         if !all_zero(&areas[at..at + ROW_BYTES]) {
-            used = r + 1;
+            return r + 1;
         }
     }
-    used
+    0
 }
 
 // A file's rows to the front of areas, which has room for all its row areas; how many bytes they are.

@@ -1,21 +1,27 @@
-use Rattle.std.proofs.Common.{ℕ, sym, ap, refl, ◌∙◌, arith}
+use Rattle.std.proofs.Common.{ℕ, ◌≡◌, ◌+◌, ◌-◌, sym, ap, refl, ◌∙◌, arith}
 use Rattle.lingua.specs.Rows.{row_count}
 use Rattle.lingua.specs.Format.{used_rows}
 use Rattle.blocks.proofs.Steps.{used_here, used_before}
 use Rattle.blocks.proofs.rows.used_rows.Goals as goal
-use Rattle.blocks.proofs.rows.used_rows.Goals.{then-not-all_zero, else-not-all_zero}
 
 pub loop-r-init : goal.loop-r-init
-unfolding used_rows
+unfolding row_count
 loop-r-init c = refl
+
+pub returns-then-not-all_zero : goal.returns-then-not-all_zero
+returns-then-not-all_zero c =
+    let e : c.loop-r.r - 1 + 1 ≡ c.loop-r.r = omega (arith, c.loop-r-test.true) in
+    sym (used_here c.args.areas.now (c.loop-r.r - 1) c.all_zero.result c.all_zero.ensures c.if-not-all_zero.true)
+    ∙ (ap (λ (n : ℕ). used_rows n c.args.areas.now) e ∙ c.loop-r.invariant)
 
 pub loop-r-preserved : goal.loop-r-preserved
 loop-r-preserved c =
-    elim c.if-not-all_zero.branch [
-      | then-not-all_zero w ↦ w.used-is ∙ sym (used_here c.args.areas.now c.loop-r.r c.all_zero.result c.all_zero.ensures w.if-not-all_zero.true)
-      | else-not-all_zero w ↦ w.used-is ∙ (c.loop-r.invariant ∙ sym (used_before c.args.areas.now c.loop-r.r c.all_zero.result c.all_zero.ensures w.if-not-all_zero.false))
-    ]
+    let e : c.loop-r.r - 1 + 1 ≡ c.loop-r.r = omega (arith, c.loop-r-test.true) in
+    sym (used_before c.args.areas.now (c.loop-r.r - 1) c.all_zero.result c.all_zero.ensures c.if-not-all_zero.false)
+    ∙ (ap (λ (n : ℕ). used_rows n c.args.areas.now) e ∙ c.loop-r.invariant)
 
 pub returns : goal.returns
-unfolding row_count
-returns c = c.loop-r.invariant ∙ ap (λ (n : ℕ). used_rows n c.args.areas.now) (omega arith)
+unfolding used_rows
+returns c =
+    let e : 0 ≡ c.loop-r.r = omega (arith, c.loop-r-test.false) in
+    ap (λ (n : ℕ). used_rows n c.args.areas.now) e ∙ c.loop-r.invariant
