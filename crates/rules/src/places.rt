@@ -132,6 +132,9 @@ pub fn place_wrong(rows: &Rows) -> bool
     ensures { result ≡ place_wrong rows.now }
 {
     let variables = readers(rows, true);
+    if !scopes_fit(rows, &variables) || !set_fit(rows, &variables) {
+        return true;
+    }
     let currents = readers(rows, false);
-    !scopes_fit(rows, &variables) || !set_fit(rows, &variables) || !evaluated_fit(rows, &currents)
+    !evaluated_fit(rows, &currents)
 }
