@@ -18,9 +18,20 @@ use Rattle.lingua.specs.Rows.{bytes_at, row_in, pair_count, name_row}
 use Rattle.lingua.specs.Format.{every_below}
 use Rattle.lingua.specs.Compute.{same_text}
 use Rattle.lingua.specs.Trees.{name_at}
-use Rattle.lingua.specs.Rules.{is_name, is_new, names_fit}
-use Rattle.decoder.specs.Tables.{IsTable}
+use Rattle.lingua.specs.Rules.{is_name, is_new, names_fit, between, count_wrong}
+use Rattle.lingua.specs.Format.{profile, limits}
+use Rattle.decoder.specs.Tables.{IsTable, AreTables}
 use Rattle.decoder.specs.declared.tables.Table.{Table}
+use Rattle.decoder.specs.declared.tables.Tables.{Tables}
+
+-- ---- counts, of any rows that have these tables
+pub counts_profile : (rows : List ℕ) (t : Tables) → AreTables rows t → count_wrong profile rows ≡ not (between 1 16 (t.declarations.count / 2) && between 1 32 t.types.count && between 0 512 t.expressions.count && between 1 256 t.instructions.count && between 0 8 t.procedures.count)
+unfolding count_wrong pair_count
+counts_profile rows t h = rw (h.declarations.count, h.types.count, h.expressions.count, h.instructions.count, h.procedures)
+
+pub counts_limits : (rows : List ℕ) (t : Tables) → AreTables rows t → count_wrong limits rows ≡ not (between 0 16 (t.limits.count / 2))
+unfolding count_wrong pair_count
+counts_limits rows t h = rw h.limits.count
 
 -- ---- names
 pub new_from : (rows : List ℕ) (s : ℕ) (t : Table) (d : ℕ) → IsTable rows s t → is_new rows s d ≡ every_below d (λ e. not (same_text (bytes_at rows (t.start + 2 * e)) (bytes_at rows (t.start + 2 * d))))

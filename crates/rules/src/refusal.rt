@@ -52,7 +52,7 @@ pub fn rows_refusal(file: FileKind, rows: &Rows, bodies: &mut [u8]) -> Result<()
     if form_wrong(file, rows) {
         return Err(Refusal::BadForm);
     }
-    if count_wrong(file, rows) {
+    if count_wrong(file, rows.tables()) {
         return Err(Refusal::BadCount);
     }
     if name_wrong(file, rows) {

@@ -13,24 +13,24 @@ returns-then-form_wrong c =
 
 pub returns-then-count_wrong : goal.returns-then-count_wrong
 returns-then-count_wrong c =
-    refused_judged (file_meaning c.args.file) c.args.rows.now (refused_7 (file_meaning c.args.file) c.args.rows.now c.form_wrong.ensures c.count_wrong.ensures c.if-form_wrong.false c.if-count_wrong.true)
+    refused_judged (file_meaning c.args.file) c.args.rows.now (refused_7 (file_meaning c.args.file) c.args.rows.now c.form_wrong.ensures (c.count_wrong.ensures c.args.rows.now c.tables.ensures) c.if-form_wrong.false c.if-count_wrong.true)
 
 pub name_wrong-requires : goal.name_wrong-requires
-name_wrong-requires c = few_procedures_lem (file_meaning c.args.file) c.args.rows.now (sym c.count_wrong.ensures ∙ c.if-count_wrong.false)
+name_wrong-requires c = few_procedures_lem (file_meaning c.args.file) c.args.rows.now (sym (c.count_wrong.ensures c.args.rows.now c.tables.ensures) ∙ c.if-count_wrong.false)
 
 pub returns-then-name_wrong : goal.returns-then-name_wrong
 returns-then-name_wrong c =
-    refused_judged (file_meaning c.args.file) c.args.rows.now (refused_8 (file_meaning c.args.file) c.args.rows.now c.form_wrong.ensures c.count_wrong.ensures c.name_wrong.ensures c.if-form_wrong.false c.if-count_wrong.false c.if-name_wrong.true)
+    refused_judged (file_meaning c.args.file) c.args.rows.now (refused_8 (file_meaning c.args.file) c.args.rows.now c.form_wrong.ensures (c.count_wrong.ensures c.args.rows.now c.tables.ensures) c.name_wrong.ensures c.if-form_wrong.false c.if-count_wrong.false c.if-name_wrong.true)
 
 pub returns-then-constant_wrong : goal.returns-then-constant_wrong
 returns-then-constant_wrong c =
-    refused_judged (file_meaning c.args.file) c.args.rows.now (refused_9 (file_meaning c.args.file) c.args.rows.now c.form_wrong.ensures c.count_wrong.ensures c.name_wrong.ensures c.constant_wrong.ensures c.if-form_wrong.false c.if-count_wrong.false c.if-name_wrong.false c.if-constant_wrong.true)
+    refused_judged (file_meaning c.args.file) c.args.rows.now (refused_9 (file_meaning c.args.file) c.args.rows.now c.form_wrong.ensures (c.count_wrong.ensures c.args.rows.now c.tables.ensures) c.name_wrong.ensures c.constant_wrong.ensures c.if-form_wrong.false c.if-count_wrong.false c.if-name_wrong.false c.if-constant_wrong.true)
 
 pub link_refusal-requires : goal.link_refusal-requires
 link_refusal-requires c =
     let e : file_meaning c.args.file ≡ profile = is_profile c.args.file c.in-Profile.is in
     record {
-      counts = subst (λ (f : File). count_wrong f c.args.rows.now ≡ false) e (sym c.count_wrong.ensures ∙ c.if-count_wrong.false);
+      counts = subst (λ (f : File). count_wrong f c.args.rows.now ≡ false) e (sym (c.count_wrong.ensures c.args.rows.now c.tables.ensures) ∙ c.if-count_wrong.false);
       constants = subst (λ (f : File). constant_wrong f c.args.rows.now ≡ false) e (sym c.constant_wrong.ensures ∙ c.if-constant_wrong.false);
       room = c.requires;
     }
@@ -40,7 +40,7 @@ returns-in-Profile c =
     record {
       refusal = c.link_refusal.ensures.refusal
           ∙ later_profile (file_meaning c.args.file) c.args.rows.now (is_profile c.args.file c.in-Profile.is)
-          ∙ refused_later (file_meaning c.args.file) c.args.rows.now c.form_wrong.ensures c.count_wrong.ensures c.name_wrong.ensures c.constant_wrong.ensures c.if-form_wrong.false c.if-count_wrong.false c.if-name_wrong.false c.if-constant_wrong.false;
+          ∙ refused_later (file_meaning c.args.file) c.args.rows.now c.form_wrong.ensures (c.count_wrong.ensures c.args.rows.now c.tables.ensures) c.name_wrong.ensures c.constant_wrong.ensures c.if-form_wrong.false c.if-count_wrong.false c.if-name_wrong.false c.if-constant_wrong.false;
       held = λ e z. c.link_refusal.ensures.held z;
     }
 
@@ -48,6 +48,6 @@ pub returns-in-Limits : goal.returns-in-Limits
 returns-in-Limits c =
     record {
       refusal = later_limits (file_meaning c.args.file) c.args.rows.now (is_limits c.args.file c.in-Limits.is)
-          ∙ refused_later (file_meaning c.args.file) c.args.rows.now c.form_wrong.ensures c.count_wrong.ensures c.name_wrong.ensures c.constant_wrong.ensures c.if-form_wrong.false c.if-count_wrong.false c.if-name_wrong.false c.if-constant_wrong.false;
+          ∙ refused_later (file_meaning c.args.file) c.args.rows.now c.form_wrong.ensures (c.count_wrong.ensures c.args.rows.now c.tables.ensures) c.name_wrong.ensures c.constant_wrong.ensures c.if-form_wrong.false c.if-count_wrong.false c.if-name_wrong.false c.if-constant_wrong.false;
       held = λ e z. only_profile c.args.file c.in-Limits.is e;
     }
