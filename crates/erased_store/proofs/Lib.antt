@@ -1,3 +1,4 @@
+pub mod Seeing
 pub mod Values
 pub mod Keeping
 pub mod Satisfying

@@ -39,7 +39,7 @@ pub fn assign(
     ensures bodies_same { memory.new.bodies.now ≡ memory.old.bodies.now }
     ensures same_slices { SameSlices memory.old memory.new }
 {
-    eval_plain(rows, layout, memory, e, &mut *stack)?;
+    eval_plain(rows, layout, &memory.seen(), e, &mut *stack)?;
     let width = size_at(layout, e);
     store(rows, layout, limits, memory, n, width, stack)
 }

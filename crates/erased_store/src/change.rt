@@ -37,7 +37,7 @@ pub fn change_yoke(
     ensures bodies_same { memory.new.bodies.now ≡ memory.old.bodies.now }
     ensures same_slices { SameSlices memory.old memory.new }
 {
-    yoke_holds(rows, layout, memory, n, y as usize, stack)?;
+    yoke_holds(rows, layout, &memory.seen(), n, y as usize, stack)?;
     set_yoke(memory.states, n, y);
     Ok(())
 }

@@ -17,14 +17,14 @@ use crate::store::store_within;
 use decoder::rows::Rows;
 use lingua::errors::Error;
 use lingua::sizes::BODY_CELLS;
-use run::memory::Memory;
+use run::memory::{Memory, Seen};
 use run::words::{is_filled, yoke_in};
 
 pub fn copy(
     rows: &Rows,
     layout: &[u16],
     limits: &[i64],
-    from: &Memory,
+    from: &Seen,
     n: usize,
     memory: &mut Memory,
     m: usize,
@@ -46,6 +46,6 @@ pub fn copy(
     let end = at + BODY_CELLS;
     let value = &from.cells[at..end];
     let yoke = yoke_in(memory, m);
-    satisfies(rows, layout, memory, yoke, value, stack)?;
+    satisfies(rows, layout, &memory.seen(), yoke, value, stack)?;
     store_within(limits, memory, m, value, BODY_CELLS)
 }

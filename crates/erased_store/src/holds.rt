@@ -12,14 +12,14 @@ use erased::yoke::eval_yoke;
 use erased_row::answer::truth_of;
 use lingua::errors::Error;
 use lingua::sizes::BODY_CELLS;
-use run::memory::Memory;
+use run::memory::Seen;
 use run::words::is_filled;
 
 // The yoke's error, or that it is not satisfied.
 pub fn satisfies(
     rows: &Rows,
     layout: &[u16],
-    memory: &Memory,
+    memory: &Seen,
     y: usize,
     value: &[i64],
     stack: &mut [i64],
@@ -41,7 +41,7 @@ pub fn satisfies(
 pub fn yoke_holds(
     rows: &Rows,
     layout: &[u16],
-    memory: &Memory,
+    memory: &Seen,
     n: usize,
     y: usize,
     stack: &mut [i64],

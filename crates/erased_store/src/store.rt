@@ -69,6 +69,6 @@ pub fn store(
     }
     let mut value = [0i64; BODY_CELLS];
     copy(stack, 0, width, &mut value);
-    satisfies(rows, layout, memory, yoke, &value, stack)?;
+    satisfies(rows, layout, &memory.seen(), yoke, &value, stack)?;
     store_within(limits, memory, n, &value, width)
 }

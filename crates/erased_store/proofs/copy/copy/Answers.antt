@@ -8,6 +8,7 @@ use Rattle.erased_row.proofs.Leaving.{no_zero}
 use Rattle.run.proofs.Parts.{states_room, word_room, cells_room}
 use Rattle.run.proofs.Settling.{keeps, settles_as}
 use Rattle.erased_row.proofs.Cycle.{memory_of}
+use Rattle.erased_store.proofs.Seeing.{same_cells, same_states}
 use Rattle.erased_store.proofs.Assigning.{yoke_there, value_ready, own_admits, yoke_fails, room}
 use Rattle.erased_store.proofs.Copying.{not_copied, copied_is, given_part}
 use borrow.Author.Rules.{rules}
@@ -29,7 +30,7 @@ pub satisfies-requires-clause-ready_yoke : goal.satisfies-requires-clause-ready_
 satisfies-requires-clause-ready_yoke c =
     let r = c.requires.has_copy in
     let f = given_part r.giving c.args.n r.there (sym c.is_filled.ensures ∙ c.if-not-is_filled.false) r.same in
-    value_ready r.running c.args.m r.taking f c.yoke_in-yoke.ensures
+    rw (same_cells c.seen.ensures) (rw (same_states c.seen.ensures) (value_ready r.running c.args.m r.taking f c.yoke_in-yoke.ensures))
 
 pub satisfies-requires-clause-y_le_count : goal.satisfies-requires-clause-y_le_count
 satisfies-requires-clause-y_le_count c = let r = c.requires.has_copy in yoke_there r.running c.args.m r.taking c.yoke_in-yoke.ensures
@@ -38,7 +39,7 @@ pub satisfies-requires-clause-y_in_bounds : goal.satisfies-requires-clause-y_in_
 satisfies-requires-clause-y_in_bounds c = let r = c.requires.has_copy in omega (arith, yoke_there r.running c.args.m r.taking c.yoke_in-yoke.ensures, c.requires.count_in_bounds)
 
 pub returns-in_err-satisfies-clause-settles : goal.returns-in_err-satisfies-clause-settles
-returns-in_err-satisfies-clause-settles c = λ p a b theirs bodies vs ws v l w k q. let e = sym c.is_filled.ensures ∙ c.if-not-is_filled.false in let f = given_part v c.args.n l e q in rw (passed_on _ _ c.from_residual.ensures.1) (keeps _ (no_zero _) (sym (copied_is v c.args.n l e ws c.args.m) ∙ yoke_fails w c.args.m _ f.declared_body_lem (own_admits w c.args.m k f c.yoke_in-yoke.ensures c.in_err-satisfies.ensures) (no_zero _)))
+returns-in_err-satisfies-clause-settles c = λ p a b theirs bodies vs ws v l w k q. let e = sym c.is_filled.ensures ∙ c.if-not-is_filled.false in let f = given_part v c.args.n l e q in rw (passed_on _ _ c.from_residual.ensures.1) (keeps _ (no_zero _) (sym (copied_is v c.args.n l e ws c.args.m) ∙ yoke_fails w c.args.m _ f.declared_body_lem (own_admits w c.args.m k f c.yoke_in-yoke.ensures (rw (same_states c.seen.ensures) at (rw (same_cells c.seen.ensures) at c.in_err-satisfies.ensures))) (no_zero _)))
 
 pub store_within-requires : goal.store_within-requires
 store_within-requires c =
@@ -50,4 +51,4 @@ pub returns-clause-settles : goal.returns-clause-settles
 returns-clause-settles c = λ p a b theirs bodies vs ws v l w k q.
     let e = sym c.is_filled.ensures ∙ c.if-not-is_filled.false in
     let f = given_part v c.args.n l e q in
-    settles_as (copied_is v c.args.n l e ws c.args.m) (c.store_within.ensures.settles p b _ _ ws _ w k f (record { holds = (own_admits w c.args.m k f c.yoke_in-yoke.ensures c.satisfies.ensures).answer (ap number_of c.in_ok-satisfies.was) }))
+    settles_as (copied_is v c.args.n l e ws c.args.m) (c.store_within.ensures.settles p b _ _ ws _ w k f (record { holds = (own_admits w c.args.m k f c.yoke_in-yoke.ensures (rw (same_states c.seen.ensures) at (rw (same_cells c.seen.ensures) at c.satisfies.ensures))).answer (ap number_of c.in_ok-satisfies.was) }))
