@@ -13,7 +13,7 @@ use Rattle.safety.specs.Accepted.{AcceptedRows}
 use Rattle.safety.specs.Constants.{Fitting}
 use Rattle.body.specs.Encode.{Holds}
 use Rattle.run.specs.Reached.{Lent}
-use Rattle.run.specs.Lending.{lent_in}
+use Rattle.run.specs.Lending.{seen_in}
 use Rattle.cells.specs.Stack.{Lies, first_place}
 use Rattle.checked_row.specs.declared.answer.Evaluated.{Evaluated}
 use Rattle.checked_row.specs.declared.sight.Sight.{Sight}
@@ -61,7 +61,7 @@ pub record HasCurrent (current : List ℤ) (body : List ℕ) : Type 0 where
 
 -- both as an expression sees them
 abbrev pub WorldSeen : Sight → List Variable → Type 0
-WorldSeen s vs = World s.rows.now (lent_in s.memory.now) vs
+WorldSeen s vs = World s.rows.now (seen_in s.memory.now) vs
 
 abbrev pub CurrentSeen : Sight → Composite → Type 0
 CurrentSeen s x = Current s.current.now.cells.now s.current.now.body x
@@ -74,7 +74,7 @@ pub record Ready (rows : List ℕ) (l : Lent) (current : List ℤ) (body : List 
 
 -- what the evaluation of a row asks: the row is in the table, and its own value and those of all rows below find room
 pub record Asked (row : ℕ) (s : Sight) (stack : List ℤ) : Type 0 where
-  pub ready : Ready s.rows.now (lent_in s.memory.now) s.current.now.cells.now s.current.now.body
+  pub ready : Ready s.rows.now (seen_in s.memory.now) s.current.now.cells.now s.current.now.body
   pub here : row < table_count s.rows.now expression_section
   pub room : body_cells * (row + 2) ≤ length stack
 

@@ -18,7 +18,7 @@ use lingua::errors::Error;
 use lingua::sizes::BODY_CELLS;
 use profile::constants::{constant_body, constant_cell};
 use run::copies::copy;
-use run::memory::Memory;
+use run::memory::Seen;
 use run::words::is_filled;
 
 // A constant takes one cell.
@@ -33,7 +33,7 @@ pub fn constant(rows: &Rows, r: usize, stack: &mut [i64]) -> Evaluated
 }
 
 // The value of variable n, which has its present body. A variable behind the store's is not filled.
-pub fn fetch(memory: &Memory, n: usize, stack: &mut [i64]) -> Result<Evaluated, Error>
+pub fn fetch(memory: &Seen, n: usize, stack: &mut [i64]) -> Result<Evaluated, Error>
     requires has_stored { HasStored memory.now.bodies.now memory.now.cells.now memory.now.states.now n }
     requires body_cells_in_bounds { body_cells ≤ length stack.old }
     ensures { (vs : List Variable) → Stored memory.now.bodies.now memory.now.cells.now memory.now.states.now vs
