@@ -10,7 +10,7 @@ use Rattle.lingua.specs.Trees.{expression_tree}
 use Rattle.lingua.specs.Evaluation.{eval as meaning}
 use Rattle.body.specs.Encode.{Holds}
 use Rattle.cells.specs.Stack.{Lies}
-use Rattle.run.specs.Lending.{lent_in}
+use Rattle.run.specs.Lending.{seen_in}
 use Rattle.checked_row.specs.Meaning.{World, Sees}
 use Rattle.checked.proofs.eval.+all_choice_eval_lazy.Given as goal
 
@@ -27,4 +27,4 @@ abbrev pub decreases-lazy : goal.decreases-lazy
 decreases-lazy l = 2 * l.row
 
 abbrev pub invariant-all-loop-i : goal.invariant-all-loop-i
-invariant-all-loop-i l = (vs : List Variable) (b : Body) (x : Value) → World l.sight.rows.now (lent_in l.sight.memory.now) vs → Holds l.inner b → Lies l.sight.current.now.cells.now 0 (list_of b) x → Sees l.seen (map (λ v. meaning (expression_tree l.sight.rows.now l.a) (contents vs) (composite b v)) (take l.i (value_list (as_items x))))
+invariant-all-loop-i l = (vs : List Variable) (b : Body) (x : Value) → World l.sight.rows.now (seen_in l.sight.memory.now) vs → Holds l.inner b → Lies l.sight.current.now.cells.now 0 (list_of b) x → Sees l.seen (map (λ v. meaning (expression_tree l.sight.rows.now l.a) (contents vs) (composite b v)) (take l.i (value_list (as_items x))))
