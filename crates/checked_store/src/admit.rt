@@ -7,7 +7,7 @@ ghost use Rattle.lingua.specs.Value.{Composite, as_whole};
 ghost use Rattle.lingua.specs.Expression.{always};
 ghost use Rattle.lingua.specs.Faults.{number_of};
 ghost use Rattle.lingua.specs.Store.{Variable, variable_at, admitted as checks};
-ghost use Rattle.run.specs.Lending.{lent_in};
+ghost use Rattle.run.specs.Lending.{seen_in};
 ghost use Rattle.run.specs.Memory.{Admits};
 ghost use Rattle.checked_row.specs.Meaning.{Current, HasCurrent};
 ghost use Rattle.checked_store.specs.Meaning.{Bounds, HasBounds, Running, Checkable};
@@ -20,8 +20,8 @@ use checked_row::answer::{CurrentValue, truth_of};
 use decoder::rows::Rows;
 use lingua::errors::Error;
 use run::limits::in_limits;
-use run::memory::Memory;
-use run::words::yoke_in;
+use run::memory::Seen;
+use run::words::yoke_of;
 
 // The cell of a number or of a count; for a value of another body 0 stands.
 fn whole(value: &CurrentValue) -> i64
@@ -36,7 +36,7 @@ fn whole(value: &CurrentValue) -> i64
 }
 
 // Whether variable n, whose yoke is always true, may take a value of a body.
-pub fn unyoked(memory: &Memory, limits: &[i64], n: usize, value: &CurrentValue) -> Result<(), Error>
+pub fn unyoked(memory: &Seen, limits: &[i64], n: usize, value: &CurrentValue) -> Result<(), Error>
     requires { HasBounds memory.now.bodies.now limits.now n value.now.cells.now value.now.body }
     ensures { (vs : List Variable) (v : Variable) (x : Composite) → Bounds memory.now.bodies.now limits.now n v → v.yoke ≡ always → Current value.now.cells.now value.now.body x
         → Admits (number_of result) (checks vs v x) }
@@ -56,17 +56,17 @@ pub fn unyoked(memory: &Memory, limits: &[i64], n: usize, value: &CurrentValue) 
 pub fn admitted(
     rows: &Rows,
     limits: &[i64],
-    memory: &Memory,
+    memory: &Seen,
     n: usize,
     value: &CurrentValue,
     stack: &mut [i64],
 ) -> Result<(), Error>
-    requires checkable { Checkable rows.now limits.now (lent_in memory.now) n value.now.cells.now value.now.body }
+    requires checkable { Checkable rows.now limits.now (seen_in memory.now) n value.now.cells.now value.now.body }
     requires count_in_bounds { body_cells * (table_count rows.now expression_section + 1) ≤ length stack.old }
-    ensures { (vs : List Variable) (x : Composite) → Running rows.now limits.now (lent_in memory.now) vs → n < length vs → Current value.now.cells.now value.now.body x
+    ensures { (vs : List Variable) (x : Composite) → Running rows.now limits.now (seen_in memory.now) vs → n < length vs → Current value.now.cells.now value.now.body x
         → Admits (number_of result) (checks vs (variable_at vs n) x) }
 {
-    let yoke = yoke_in(memory, n);
+    let yoke = yoke_of(memory.states, n);
     let given = eval_yoke(rows, memory, yoke, value, &mut *stack);
     given?;
     let own = flat::taken(memory.bodies, n);

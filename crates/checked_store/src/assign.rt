@@ -40,7 +40,7 @@ pub fn assign(
     let body = x.body;
     if yoke_in(memory, n) == 0 {
         let here = CurrentValue { cells: stack, body };
-        unyoked(memory, limits, n, &here)?;
+        unyoked(&memory.seen(), limits, n, &here)?;
         keep(memory, n, &here, x.cells);
         return Ok(());
     }
@@ -50,7 +50,7 @@ pub fn assign(
         cells: &value,
         body,
     };
-    admitted(rows, limits, memory, n, &aside, stack)?;
+    admitted(rows, limits, &memory.seen(), n, &aside, stack)?;
     keep(memory, n, &aside, x.cells);
     Ok(())
 }

@@ -31,7 +31,7 @@ pub fn change_yoke(
     ensures bodies_same { memory.new.bodies.now ≡ memory.old.bodies.now }
     ensures same_slices { SameSlices memory.old memory.new }
 {
-    yoke_holds(rows, memory, n, usize::from(y), stack)?;
+    yoke_holds(rows, &memory.seen(), n, usize::from(y), stack)?;
     set_yoke(memory.states, n, y);
     Ok(())
 }

@@ -12,14 +12,14 @@ use crate::assign::assign;
 use checked_row::leaves::fetch;
 use decoder::rows::Rows;
 use lingua::errors::Error;
-use run::memory::Memory;
+use run::memory::{Memory, Seen};
 
 // Variable n of one memory is assigned to variable m of another: it is read as an expression's leaf reads it, and takes every check that an
 // assignment has.
 pub fn copy(
     rows: &Rows,
     limits: &[i64],
-    from: &Memory,
+    from: &Seen,
     n: usize,
     memory: &mut Memory,
     m: usize,
