@@ -3,7 +3,7 @@ ghost use Rattle.std.specs.Prelude.{◌≡◌, ◌≤◌, length};
 ghost use Rattle.run.specs.Reached.{onto};
 ghost use Rattle.run.specs.Lending.{SameSlices};
 
-use run::memory::Memory;
+use run::memory::{Memory, Seen};
 
 // One part of them, to the front.
 fn keep<T: Copy>(from: &[T], area: &mut [T])
@@ -14,7 +14,7 @@ fn keep<T: Copy>(from: &[T], area: &mut [T])
 }
 
 // A call's variables; the erased run has no bodies to keep.
-pub fn keep_open(own: &Memory, area: &mut Memory)
+pub fn keep_open(own: &Seen, area: &mut Memory)
     requires bodies_in_bounds { length own.now.bodies.now ≤ length area.old.bodies.now }
     requires cells_in_bounds { length own.now.cells.now ≤ length area.old.cells.now }
     requires states_in_bounds { length own.now.states.now ≤ length area.old.states.now }

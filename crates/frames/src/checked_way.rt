@@ -6,7 +6,7 @@ use decoder::rows::Rows;
 use decoder::tables::Table;
 use lingua::errors::Error;
 use run::bodies::keep_bodies;
-use run::memory::Memory;
+use run::memory::{Memory, Seen};
 
 pub struct Checked;
 
@@ -22,7 +22,7 @@ impl Way for Checked {
         e: usize,
         stack: &mut [i64],
     ) -> Result<(), Error> {
-        let x = eval_plain(context.rows, memory, e, &mut *stack);
+        let x = eval_plain(context.rows, &memory.seen(), e, &mut *stack);
         checked_store::assign::assign(context.rows, context.limits, memory, n, x, stack)
     }
 
@@ -36,12 +36,7 @@ impl Way for Checked {
         checked_store::change::change_yoke(context.rows, context.limits, memory, n, y, stack)
     }
 
-    fn test(
-        context: &Context,
-        memory: &Memory,
-        e: usize,
-        stack: &mut [i64],
-    ) -> Result<bool, Error> {
+    fn test(context: &Context, memory: &Seen, e: usize, stack: &mut [i64]) -> Result<bool, Error> {
         eval_test(context.rows, memory, e, stack)
     }
 
@@ -57,7 +52,7 @@ impl Way for Checked {
 
     fn copy(
         context: &Context,
-        from: &Memory,
+        from: &Seen,
         n: usize,
         memory: &mut Memory,
         m: usize,

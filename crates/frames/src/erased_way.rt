@@ -4,7 +4,7 @@ use crate::way::Way;
 use decoder::rows::Rows;
 use decoder::tables::Table;
 use lingua::errors::Error;
-use run::memory::Memory;
+use run::memory::{Memory, Seen};
 
 pub struct Erased;
 
@@ -49,12 +49,7 @@ impl Way for Erased {
         )
     }
 
-    fn test(
-        context: &Context,
-        memory: &Memory,
-        e: usize,
-        stack: &mut [i64],
-    ) -> Result<bool, Error> {
+    fn test(context: &Context, memory: &Seen, e: usize, stack: &mut [i64]) -> Result<bool, Error> {
         erased::test::test(context.rows, context.layout, memory, e, stack)
     }
 
@@ -78,7 +73,7 @@ impl Way for Erased {
 
     fn copy(
         context: &Context,
-        from: &Memory,
+        from: &Seen,
         n: usize,
         memory: &mut Memory,
         m: usize,

@@ -12,7 +12,7 @@ ghost use Rattle.lingua.specs.Trees.{expression_tree, yoke_tree};
 ghost use Rattle.safety.specs.Accepted.{AcceptedRows};
 ghost use Rattle.profile.specs.Variables.{HasScope};
 ghost use Rattle.run.specs.Memory.{reading};
-ghost use Rattle.run.specs.Lending.{lent_in, SameSlices};
+ghost use Rattle.run.specs.Lending.{lent_in, seen_in, SameSlices};
 ghost use Rattle.erased_row.specs.Meaning.{TestRow};
 ghost use Rattle.erased_store.specs.Meaning.{AssignRow, YokeRow};
 ghost use Rattle.frames.specs.Meaning.{Standing, StandsUnder, Stores, TellsTest, HasFacing, Pair, Copies, BeginsBy, FreshBy};
@@ -22,7 +22,7 @@ use crate::context::Context;
 use decoder::rows::Rows;
 use decoder::tables::Table;
 use lingua::errors::Error;
-use run::memory::Memory;
+use run::memory::{Memory, Seen};
 
 // A way to run.
 pub trait Way {
@@ -62,10 +62,10 @@ pub trait Way {
         ensures same_slices { SameSlices memory.old memory.new };
 
     // Whether the test of expression row e holds.
-    fn test(context: &Context, memory: &Memory, e: usize, stack: &mut [i64]) -> Result<bool, Error>
-        requires stands_under { StandsUnder way context.now.rows.now context.now.layout.now (lent_in memory.now) (length stack.old) (λ a. TestRow context.now.rows.now a e) }
+    fn test(context: &Context, memory: &Seen, e: usize, stack: &mut [i64]) -> Result<bool, Error>
+        requires stands_under { StandsUnder way context.now.rows.now context.now.layout.now (seen_in memory.now) (length stack.old) (λ a. TestRow context.now.rows.now a e) }
         requires e_lt_count { e < table_count context.now.rows.now expression_section }
-        ensures { (limits : List ℤ) → TellsTest way (under_limits context.now limits) (lent_in memory.now) e result };
+        ensures { (limits : List ℤ) → TellsTest way (under_limits context.now limits) (seen_in memory.now) e result };
 
     // Variable n of the profile takes a number from outside: a number, or a count of hundredths.
     fn take_reading(
@@ -84,14 +84,14 @@ pub trait Way {
     // Variable n of one memory is assigned to variable m of another, as between a call's variables and its caller's.
     fn copy(
         context: &Context,
-        from: &Memory,
+        from: &Seen,
         n: usize,
         memory: &mut Memory,
         m: usize,
         stack: &mut [i64],
     ) -> Result<(), Error>
-        requires { HasFacing way (lent_in from.now) (context_of context.now) (lent_in memory.old) (length stack.old) (λ p a b vs ws. Pair way p a b vs ws n m) }
-        ensures copies { Copies way (lent_in from.now) (context_of context.now) (lent_in memory.old) (lent_in memory.new) n m (number_of result) }
+        requires { HasFacing way (seen_in from.now) (context_of context.now) (lent_in memory.old) (length stack.old) (λ p a b vs ws. Pair way p a b vs ws n m) }
+        ensures copies { Copies way (seen_in from.now) (context_of context.now) (lent_in memory.old) (lent_in memory.new) n m (number_of result) }
         ensures same_slices { SameSlices memory.old memory.new };
 
     // The present bodies of a call's variables at its start: the declared ones, or none.
