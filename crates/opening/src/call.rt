@@ -2,7 +2,7 @@
 // of budget, they stay in the area.
 ghost use Rattle.std.specs.Prelude.{length};
 ghost use Rattle.lingua.specs.Faults.{number_of};
-ghost use Rattle.run.specs.Lending.{lent_in, SameSlices};
+ghost use Rattle.run.specs.Lending.{lent_in, seen_in, SameSlices};
 ghost use Rattle.frames.specs.Lending.{context_of};
 ghost use Rattle.opening.specs.Meaning.{setting_of};
 ghost use Rattle.opening.specs.Calls.{Enters, Calling, ZerosBy, Leaving, Leaves};
@@ -16,20 +16,20 @@ use frames::copies::{copies_in, copies_out};
 use frames::way::Way;
 use lingua::errors::Error;
 use lingua::sizes::LIMIT_CELLS_LENGTH;
-use run::memory::Memory;
+use run::memory::{Memory, Seen};
 use run::steps::Status;
 
 // The procedure's variables begin, and take those that are given, values first; a procedure's variables have no limits.
 pub fn enter<W: Way>(
     call: CallRow,
     setting: &Setting,
-    memory: &Memory,
+    memory: &Seen,
     own: &mut Memory,
     stack: &mut [i64],
 ) -> Result<(), Error>
-    requires calling { Calling call.row call.procedure call.values call.references W.way (setting_of setting.now) (lent_in memory.now) (length stack.old) }
+    requires calling { Calling call.row call.procedure call.values call.references W.way (setting_of setting.now) (seen_in memory.now) (length stack.old) }
     requires zeros_by { ZerosBy W.way (lent_in own.old) }
-    ensures enters { Enters call.row call.procedure call.values call.references W.way (setting_of setting.now) (lent_in memory.now) (lent_in own.new) (number_of result) }
+    ensures enters { Enters call.row call.procedure call.values call.references W.way (setting_of setting.now) (seen_in memory.now) (lent_in own.new) (number_of result) }
     ensures same_slices { SameSlices own.old own.new }
 {
     let none = [0i64; LIMIT_CELLS_LENGTH];
@@ -59,14 +59,14 @@ pub fn enter<W: Way>(
 pub fn leave<W: Way>(
     call: CallRow,
     setting: &Setting,
-    own: &Memory,
+    own: &Seen,
     memory: &mut Memory,
     area: &mut Memory,
     ended: Status,
     stack: &mut [i64],
 ) -> Status
-    requires { Leaving call.row call.procedure call.references W.way (context_of setting.now.context) (lent_in own.now) (lent_in memory.old) (lent_in area.old) ended (length stack.old) }
-    ensures leaves { Leaves call.row call.procedure call.references W.way (context_of setting.now.context) (lent_in own.now) (lent_in memory.old) (lent_in area.old) (lent_in memory.new) (lent_in area.new) ended result }
+    requires { Leaving call.row call.procedure call.references W.way (context_of setting.now.context) (seen_in own.now) (lent_in memory.old) (lent_in area.old) ended (length stack.old) }
+    ensures leaves { Leaves call.row call.procedure call.references W.way (context_of setting.now.context) (seen_in own.now) (lent_in memory.old) (lent_in area.old) (lent_in memory.new) (lent_in area.new) ended result }
     ensures same_slices { SameSlices memory.old memory.new × SameSlices area.old area.new }
 {
     if ended.out {
