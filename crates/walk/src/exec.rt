@@ -91,7 +91,7 @@ fn branch<W: Way>(
     if taken.out {
         return taken;
     }
-    let told = W::test(&setting.context, memory, e, &mut *stack);
+    let told = W::test(&setting.context, &memory.seen(), e, &mut *stack);
     match told {
         Ok(true) => exec::<W>(i, setting, memory, area, taken, stack),
         Ok(false) => exec::<W>(j, setting, memory, area, taken, stack),
@@ -122,7 +122,7 @@ fn turns<W: Way>(
         if taken.out {
             return taken;
         }
-        let told = W::test(&setting.context, memory, e, &mut *stack);
+        let told = W::test(&setting.context, &memory.seen(), e, &mut *stack);
         match told {
             Ok(true) => {}
             Ok(false) => return taken,
@@ -217,7 +217,7 @@ fn opened<W: Way>(
     ensures opens { Opens of.row of.procedure of.values of.references W.way (setting_of setting.now) (lent_in memory.old) (lent_in area.old) (lent_in memory.new) (lent_in area.new) m result }
     ensures same_slices { SameSlices memory.old memory.new × SameSlices area.old area.new }
 {
-    let entered = enter::<W>(of, setting, memory, own, &mut *stack);
+    let entered = enter::<W>(of, setting, &memory.seen(), own, &mut *stack);
     if entered.is_err() {
         return settled(m, entered, of.row as u16);
     }
@@ -234,7 +234,7 @@ fn opened<W: Way>(
         m,
         &mut *stack,
     );
-    leave::<W>(of, setting, own, memory, area, ended, stack)
+    leave::<W>(of, setting, &own.seen(), memory, area, ended, stack)
 }
 
 // A procedure's body on its variables, which have no limits, with what is left of the area.

@@ -25,14 +25,14 @@ unfolding instruction_row_tree
 branch-returns-then-taken-clause-executes g t c = executes c.requires.asked c.requires.branch_at (λ p b n vs h. branch_out (calling _ n) vs h.holds c.requires.asked.going _ _ _ _ c.stepped-taken.ensures (sym c.is_some.ensures ∙ c.if-is_some.false) c.if-taken.true)
 
 pub branch-test-told-requires-clause-stands_under : goal.branch-test-told-requires-clause-stands_under
-branch-test-told-requires-clause-stands_under g t c = record { limits = _; standing = record { profile = c.requires.asked.profile; scope = c.requires.asked.scope; store = c.requires.asked.store; holds = c.requires.asked.stands.holds; of_scope = branch_test c.requires.asked c.requires.branch_at c.requires.asked.stands; enough = c.requires.asked.enough } }
+branch-test-told-requires-clause-stands_under g t c = rw c.seen.ensures (record { limits = _; standing = record { profile = c.requires.asked.profile; scope = c.requires.asked.scope; store = c.requires.asked.store; holds = c.requires.asked.stands.holds; of_scope = branch_test c.requires.asked c.requires.branch_at c.requires.asked.stands; enough = c.requires.asked.enough } })
 
 pub branch-test-told-requires-clause-e_lt_count : goal.branch-test-told-requires-clause-e_lt_count
 branch-test-told-requires-clause-e_lt_count g t c = branch_there c.requires.asked c.requires.branch_at
 
 pub branch-returns-in-Err-clause-executes : goal.branch-returns-in-Err-clause-executes
 unfolding instruction_row_tree
-branch-returns-in-Err-clause-executes g t c = executes c.requires.asked c.requires.branch_at (λ p b n vs h. branch_failed (calling _ n) vs h.holds c.requires.asked.going _ _ _ _ c.stepped-taken.ensures (sym c.is_some.ensures ∙ c.if-is_some.false) c.if-taken.false ((c.test-told.ensures _).tells p b vs (branch_test c.requires.asked c.requires.branch_at h) h.holds) _ _ c.in-Err.is c.settled.ensures)
+branch-returns-in-Err-clause-executes g t c = executes c.requires.asked c.requires.branch_at (λ p b n vs h. branch_failed (calling _ n) vs h.holds c.requires.asked.going _ _ _ _ c.stepped-taken.ensures (sym c.is_some.ensures ∙ c.if-is_some.false) c.if-taken.false (((rw c.seen.ensures at c.test-told.ensures) _).tells p b vs (branch_test c.requires.asked c.requires.branch_at h) h.holds) _ _ c.in-Err.is c.settled.ensures)
 
 pub branch-exec-requires : goal.branch-exec-requires
 unfolding InstructionFacts
@@ -40,7 +40,7 @@ branch-exec-requires g t c = λ κs under. let f = facts c.requires.asked c.requ
 
 pub branch-returns-in-Ok-true-clause-executes : goal.branch-returns-in-Ok-true-clause-executes
 unfolding instruction_row_tree
-branch-returns-in-Ok-true-clause-executes g t c = executes c.requires.asked c.requires.branch_at (λ p b n vs h. reaches_as (branch_yes (calling _ n) c.stepped-taken.ensures (sym c.is_some.ensures ∙ c.if-is_some.false) vs _ _ _ _ c.if-taken.false ((c.test-told.ensures _).tells p b vs (branch_test c.requires.asked c.requires.branch_at h) h.holds) (rw c.in-Ok-true.field-0-test at c.in-Ok-true.is)) (c.exec.ensures.executes.reaches p b n vs (part_stands c.requires.asked c.requires.branch_at (branch_first _ _ _) h h.holds refl)))
+branch-returns-in-Ok-true-clause-executes g t c = executes c.requires.asked c.requires.branch_at (λ p b n vs h. reaches_as (branch_yes (calling _ n) c.stepped-taken.ensures (sym c.is_some.ensures ∙ c.if-is_some.false) vs _ _ _ _ c.if-taken.false (((rw c.seen.ensures at c.test-told.ensures) _).tells p b vs (branch_test c.requires.asked c.requires.branch_at h) h.holds) (rw c.in-Ok-true.field-0-test at c.in-Ok-true.is)) (c.exec.ensures.executes.reaches p b n vs (part_stands c.requires.asked c.requires.branch_at (branch_first _ _ _) h h.holds refl)))
 
 pub branch-exec-requires-in-Ok-false : goal.branch-exec-requires-in-Ok-false
 unfolding InstructionFacts
@@ -48,7 +48,7 @@ branch-exec-requires-in-Ok-false g t c = λ κs under. let f = facts c.requires.
 
 pub branch-returns-in-Ok-false-clause-executes : goal.branch-returns-in-Ok-false-clause-executes
 unfolding instruction_row_tree
-branch-returns-in-Ok-false-clause-executes g t c = executes c.requires.asked c.requires.branch_at (λ p b n vs h. reaches_as (branch_no (calling _ n) c.stepped-taken.ensures (sym c.is_some.ensures ∙ c.if-is_some.false) vs _ _ _ _ c.if-taken.false ((c.test-told.ensures _).tells p b vs (branch_test c.requires.asked c.requires.branch_at h) h.holds) (rw c.in-Ok-false.field-0-test at c.in-Ok-false.is)) (c.exec-in-Ok-false.ensures.executes.reaches p b n vs (part_stands c.requires.asked c.requires.branch_at (branch_second _ _ _) h h.holds refl)))
+branch-returns-in-Ok-false-clause-executes g t c = executes c.requires.asked c.requires.branch_at (λ p b n vs h. reaches_as (branch_no (calling _ n) c.stepped-taken.ensures (sym c.is_some.ensures ∙ c.if-is_some.false) vs _ _ _ _ c.if-taken.false (((rw c.seen.ensures at c.test-told.ensures) _).tells p b vs (branch_test c.requires.asked c.requires.branch_at h) h.holds) (rw c.in-Ok-false.field-0-test at c.in-Ok-false.is)) (c.exec-in-Ok-false.ensures.executes.reaches p b n vs (part_stands c.requires.asked c.requires.branch_at (branch_second _ _ _) h h.holds refl)))
 
 pub call-returns-then-is_some-clause-executes : goal.call-returns-then-is_some-clause-executes
 unfolding instruction_row_tree
@@ -133,10 +133,10 @@ unfolding instruction_row_tree
 handle-returns-clause-executes g t c = executes c.requires.asked c.requires.handle_at (λ p b n vs h. reaches_as (handle_own (calling _ n) c.stepped-taken.ensures vs _ _ _ _ c.if-taken.false (sym c.has_error.ensures ∙ c.if-not-has_error.false) c.cleared.ensures) (c.exec.ensures.executes.reaches p b n vs (part_stands c.requires.asked c.requires.handle_at (handle_body _ _) h h.holds refl)))
 
 pub opened-enter-entered-requires-clause-calling : goal.opened-enter-entered-requires-clause-calling
-opened-enter-entered-requires-clause-calling g t c = enter_asked c.requires.opening
+opened-enter-entered-requires-clause-calling g t c = rw c.seen.ensures (enter_asked c.requires.opening)
 
 pub opened-returns-then-is_err-clause-opens : goal.opened-returns-then-is_err-clause-opens
-opened-returns-then-is_err-clause-opens g t c = opens_failed c.requires.opening _ c.enter-entered.ensures.enters (sym c.is_err.ensures.value ∙ c.if-is_err.true) c.settled.ensures
+opened-returns-then-is_err-clause-opens g t c = opens_failed c.requires.opening _ (rw c.seen.ensures at c.enter-entered.ensures.enters) (sym c.is_err.ensures.value ∙ c.if-is_err.true) c.settled.ensures
 
 pub opened-procedure-procedure-requires-clause-k_lt_count : goal.opened-procedure-procedure-requires-clause-k_lt_count
 opened-procedure-procedure-requires-clause-k_lt_count g t c = procedure_there c.requires.opening
@@ -151,13 +151,13 @@ pub opened-slice_bounds-body-start : goal.opened-slice_bounds-body-start
 opened-slice_bounds-body-start g t c = bodies_left c.requires.opening
 
 pub opened-body-ended-requires : goal.opened-body-ended-requires
-opened-body-ended-requires g t c = λ κs under. (omega (arith, body_less c.requires.opening c.enter-entered.ensures.enters (no_fault_number _ (sym c.is_err.ensures.value ∙ c.if-is_err.false)) _ _ c.procedure-procedure.ensures.body (length_part c.args.area.now.cells.now 1024)), (under, body_asked c.requires.opening c.enter-entered.ensures.enters (no_fault_number _ (sym c.is_err.ensures.value ∙ c.if-is_err.false)) c.procedure-procedure.ensures.body refl (area_before (lent_in c.args.area.now) _ _ (own_bodies c.requires.opening)) (omega (arith, c.enter-entered.auto.stack))))
+opened-body-ended-requires g t c = λ κs under. (omega (arith, body_less c.requires.opening (rw c.seen.ensures at c.enter-entered.ensures.enters) (no_fault_number _ (sym c.is_err.ensures.value ∙ c.if-is_err.false)) _ _ c.procedure-procedure.ensures.body (length_part c.args.area.now.cells.now 1024)), (under, body_asked c.requires.opening (rw c.seen.ensures at c.enter-entered.ensures.enters) (no_fault_number _ (sym c.is_err.ensures.value ∙ c.if-is_err.false)) c.procedure-procedure.ensures.body refl (area_before (lent_in c.args.area.now) _ _ (own_bodies c.requires.opening)) (omega (arith, c.enter-entered.auto.stack))))
 
 pub opened-leave-requires : goal.opened-leave-requires
-opened-leave-requires g t c = leave_asked c.requires.opening c.enter-entered.ensures.enters (no_fault_number _ (sym c.is_err.ensures.value ∙ c.if-is_err.false)) (ran_as c.procedure-procedure.ensures.body refl (area_before (lent_in c.args.area.now) _ _ (own_bodies c.requires.opening)) c.body-ended.ensures.executes) (area_behind (lent_in c.args.area.now) (lent c.body-ended.new.cells c.body-ended.new.states c.body-ended.new.bodies) _ _ (own_bodies c.requires.opening)) refl (omega (arith, c.enter-entered.auto.stack, c.body-ended.auto.stack))
+opened-leave-requires g t c = leave_asked c.requires.opening (rw c.seen.ensures at c.enter-entered.ensures.enters) (no_fault_number _ (sym c.is_err.ensures.value ∙ c.if-is_err.false)) (ran_as c.procedure-procedure.ensures.body refl (area_before (lent_in c.args.area.now) _ _ (own_bodies c.requires.opening)) c.body-ended.ensures.executes) (area_behind (lent_in c.args.area.now) (lent c.body-ended.new.cells c.body-ended.new.states c.body-ended.new.bodies) _ _ (own_bodies c.requires.opening)) c.seen-2.ensures (omega (arith, c.enter-entered.auto.stack, c.body-ended.auto.stack))
 
 pub opened-returns-clause-opens : goal.opened-returns-clause-opens
-opened-returns-clause-opens g t c = opens c.requires.opening c.enter-entered.ensures.enters (no_fault_number _ (sym c.is_err.ensures.value ∙ c.if-is_err.false)) (ran_as c.procedure-procedure.ensures.body refl (area_before (lent_in c.args.area.now) _ _ (own_bodies c.requires.opening)) c.body-ended.ensures.executes) (area_behind (lent_in c.args.area.now) (lent c.body-ended.new.cells c.body-ended.new.states c.body-ended.new.bodies) _ _ (own_bodies c.requires.opening)) refl c.leave.ensures.leaves
+opened-returns-clause-opens g t c = opens c.requires.opening (rw c.seen.ensures at c.enter-entered.ensures.enters) (no_fault_number _ (sym c.is_err.ensures.value ∙ c.if-is_err.false)) (ran_as c.procedure-procedure.ensures.body refl (area_before (lent_in c.args.area.now) _ _ (own_bodies c.requires.opening)) c.body-ended.ensures.executes) (area_behind (lent_in c.args.area.now) (lent c.body-ended.new.cells c.body-ended.new.states c.body-ended.new.bodies) _ _ (own_bodies c.requires.opening)) c.seen-2.ensures c.leave.ensures.leaves
 
 pub turns-loop-at-init : goal.turns-loop-at-init
 turns-loop-at-init g t c = (slices_stay _, slices_stay _, λ p b n vs h. first_turn (calling _ n) _ _ _ vs h.holds c.requires.asked.going)
@@ -167,18 +167,18 @@ unfolding instruction_row_tree
 turns-returns-then-taken-clause-executes g t c = executes c.requires.asked c.requires.loop_at (λ p b n vs h. let k = c.loop-at.invariant.2 p b n vs h in turn_out (calling _ n) _ _ _ k c.stepped-taken.ensures (c.is_none.ensures ∙ ap not c.loop-at-test.true) c.if-taken.true)
 
 pub turns-test-told-requires-clause-stands_under : goal.turns-test-told-requires-clause-stands_under
-turns-test-told-requires-clause-stands_under g t c = let k = c.loop-at.invariant.2 c.requires.asked.profile c.requires.asked.scope c.requires.asked.may c.requires.asked.store c.requires.asked.stands in record { limits = _; standing = record { profile = c.requires.asked.profile; scope = c.requires.asked.scope; store = k.store; holds = k.running; of_scope = loop_test c.requires.asked c.requires.loop_at c.requires.asked.stands; enough = omega (arith, c.requires.asked.enough, c.loop-at.auto.stack) } }
+turns-test-told-requires-clause-stands_under g t c = let k = c.loop-at.invariant.2 c.requires.asked.profile c.requires.asked.scope c.requires.asked.may c.requires.asked.store c.requires.asked.stands in rw c.seen.ensures (record { limits = _; standing = record { profile = c.requires.asked.profile; scope = c.requires.asked.scope; store = k.store; holds = k.running; of_scope = loop_test c.requires.asked c.requires.loop_at c.requires.asked.stands; enough = omega (arith, c.requires.asked.enough, c.loop-at.auto.stack) } })
 
 pub turns-test-told-requires-clause-e_lt_count : goal.turns-test-told-requires-clause-e_lt_count
 turns-test-told-requires-clause-e_lt_count g t c = loop_there c.requires.asked c.requires.loop_at
 
 pub turns-returns-in-Err-clause-executes : goal.turns-returns-in-Err-clause-executes
 unfolding instruction_row_tree
-turns-returns-in-Err-clause-executes g t c = executes c.requires.asked c.requires.loop_at (λ p b n vs h. let k = c.loop-at.invariant.2 p b n vs h in turn_failed (calling _ n) _ _ _ k c.stepped-taken.ensures (c.is_none.ensures ∙ ap not c.loop-at-test.true) c.if-taken.false ((c.test-told.ensures _).tells p b k.store (loop_test c.requires.asked c.requires.loop_at h) k.running) _ _ c.in-Err.is c.settled.ensures)
+turns-returns-in-Err-clause-executes g t c = executes c.requires.asked c.requires.loop_at (λ p b n vs h. let k = c.loop-at.invariant.2 p b n vs h in turn_failed (calling _ n) _ _ _ k c.stepped-taken.ensures (c.is_none.ensures ∙ ap not c.loop-at-test.true) c.if-taken.false (((rw c.seen.ensures at c.test-told.ensures) _).tells p b k.store (loop_test c.requires.asked c.requires.loop_at h) k.running) _ _ c.in-Err.is c.settled.ensures)
 
 pub turns-returns-in-Ok-false-clause-executes : goal.turns-returns-in-Ok-false-clause-executes
 unfolding instruction_row_tree
-turns-returns-in-Ok-false-clause-executes g t c = executes c.requires.asked c.requires.loop_at (λ p b n vs h. let k = c.loop-at.invariant.2 p b n vs h in turn_last (calling _ n) _ _ _ k c.stepped-taken.ensures (c.is_none.ensures ∙ ap not c.loop-at-test.true) c.if-taken.false ((c.test-told.ensures _).tells p b k.store (loop_test c.requires.asked c.requires.loop_at h) k.running) (rw c.in-Ok-false.field-0-test at c.in-Ok-false.is))
+turns-returns-in-Ok-false-clause-executes g t c = executes c.requires.asked c.requires.loop_at (λ p b n vs h. let k = c.loop-at.invariant.2 p b n vs h in turn_last (calling _ n) _ _ _ k c.stepped-taken.ensures (c.is_none.ensures ∙ ap not c.loop-at-test.true) c.if-taken.false (((rw c.seen.ensures at c.test-told.ensures) _).tells p b k.store (loop_test c.requires.asked c.requires.loop_at h) k.running) (rw c.in-Ok-false.field-0-test at c.in-Ok-false.is))
 
 pub turns-exec-at-requires : goal.turns-exec-at-requires
 unfolding InstructionFacts
@@ -186,13 +186,13 @@ turns-exec-at-requires g t c = λ κs under. let k = c.loop-at.invariant.2 c.req
 
 pub turns-returns-then-at-clause-executes : goal.turns-returns-then-at-clause-executes
 unfolding instruction_row_tree
-turns-returns-then-at-clause-executes g t c = executes c.requires.asked c.requires.loop_at (λ p b n vs h. let k = c.loop-at.invariant.2 p b n vs h in body_out (calling _ n) _ _ _ k c.stepped-taken.ensures (c.is_none.ensures ∙ ap not c.loop-at-test.true) c.if-taken.false ((c.test-told.ensures _).tells p b k.store (loop_test c.requires.asked c.requires.loop_at h) k.running) (rw c.in-Ok-true.field-0-test at c.in-Ok-true.is) (c.exec-at.ensures.executes.reaches p b n k.store (part_stands c.requires.asked c.requires.loop_at (loop_body _ _) h k.running k.same)) c.if-at.true)
+turns-returns-then-at-clause-executes g t c = executes c.requires.asked c.requires.loop_at (λ p b n vs h. let k = c.loop-at.invariant.2 p b n vs h in body_out (calling _ n) _ _ _ k c.stepped-taken.ensures (c.is_none.ensures ∙ ap not c.loop-at-test.true) c.if-taken.false (((rw c.seen.ensures at c.test-told.ensures) _).tells p b k.store (loop_test c.requires.asked c.requires.loop_at h) k.running) (rw c.in-Ok-true.field-0-test at c.in-Ok-true.is) (c.exec-at.ensures.executes.reaches p b n k.store (part_stands c.requires.asked c.requires.loop_at (loop_body _ _) h k.running k.same)) c.if-at.true)
 
 pub turns-loop-at-smaller : goal.turns-loop-at-smaller
-turns-loop-at-smaller g t c = let k = c.loop-at.invariant.2 c.requires.asked.profile c.requires.asked.scope c.requires.asked.may c.requires.asked.store c.requires.asked.stands in fewer_left (calling _ c.requires.asked.may) _ _ _ k c.stepped-taken.ensures (c.is_none.ensures ∙ ap not c.loop-at-test.true) c.if-taken.false ((c.test-told.ensures _).tells c.requires.asked.profile c.requires.asked.scope k.store (loop_test c.requires.asked c.requires.loop_at c.requires.asked.stands) k.running) (rw c.in-Ok-true.field-0-test at c.in-Ok-true.is) (c.exec-at.ensures.executes.reaches c.requires.asked.profile c.requires.asked.scope c.requires.asked.may k.store (part_stands c.requires.asked c.requires.loop_at (loop_body _ _) c.requires.asked.stands k.running k.same)) (exec_left _ _ _)
+turns-loop-at-smaller g t c = let k = c.loop-at.invariant.2 c.requires.asked.profile c.requires.asked.scope c.requires.asked.may c.requires.asked.store c.requires.asked.stands in fewer_left (calling _ c.requires.asked.may) _ _ _ k c.stepped-taken.ensures (c.is_none.ensures ∙ ap not c.loop-at-test.true) c.if-taken.false (((rw c.seen.ensures at c.test-told.ensures) _).tells c.requires.asked.profile c.requires.asked.scope k.store (loop_test c.requires.asked c.requires.loop_at c.requires.asked.stands) k.running) (rw c.in-Ok-true.field-0-test at c.in-Ok-true.is) (c.exec-at.ensures.executes.reaches c.requires.asked.profile c.requires.asked.scope c.requires.asked.may k.store (part_stands c.requires.asked c.requires.loop_at (loop_body _ _) c.requires.asked.stands k.running k.same)) (exec_left _ _ _)
 
 pub turns-loop-at-preserved : goal.turns-loop-at-preserved
-turns-loop-at-preserved g t c = (slices_after c.loop-at.invariant.0 c.exec-at.ensures.same_slices.0, slices_after c.loop-at.invariant.1 c.exec-at.ensures.same_slices.1, λ p b n vs h. let k = c.loop-at.invariant.2 p b n vs h in next_turn (calling _ n) _ _ _ k c.stepped-taken.ensures (c.is_none.ensures ∙ ap not c.loop-at-test.true) c.if-taken.false ((c.test-told.ensures _).tells p b k.store (loop_test c.requires.asked c.requires.loop_at h) k.running) (rw c.in-Ok-true.field-0-test at c.in-Ok-true.is) (c.exec-at.ensures.executes.reaches p b n k.store (part_stands c.requires.asked c.requires.loop_at (loop_body _ _) h k.running k.same)) (exec_left _ _ _) c.if-at.false)
+turns-loop-at-preserved g t c = (slices_after c.loop-at.invariant.0 c.exec-at.ensures.same_slices.0, slices_after c.loop-at.invariant.1 c.exec-at.ensures.same_slices.1, λ p b n vs h. let k = c.loop-at.invariant.2 p b n vs h in next_turn (calling _ n) _ _ _ k c.stepped-taken.ensures (c.is_none.ensures ∙ ap not c.loop-at-test.true) c.if-taken.false (((rw c.seen.ensures at c.test-told.ensures) _).tells p b k.store (loop_test c.requires.asked c.requires.loop_at h) k.running) (rw c.in-Ok-true.field-0-test at c.in-Ok-true.is) (c.exec-at.ensures.executes.reaches p b n k.store (part_stands c.requires.asked c.requires.loop_at (loop_body _ _) h k.running k.same)) (exec_left _ _ _) c.if-at.false)
 
 pub turns-returns-clause-executes : goal.turns-returns-clause-executes
 unfolding instruction_row_tree
