@@ -9,7 +9,7 @@ use std::io;
 use std::io::Write;
 
 pub(crate) fn bad_case<W: Write>(out: &mut W) -> io::Result<()> {
-    writeln!(out, "bad case")
+    out.write_all(b"bad case\n")
 }
 
 // A refusal; `kept` is whether the lent buffers still hold what they held.
