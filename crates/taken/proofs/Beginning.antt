@@ -150,27 +150,26 @@ module _ {rows limits : List ℕ} {kept cells : List ℤ} {states : List ℕ} (a
       }
 
   -- ---- in either way, with what a run of that way is lent
-  pub readies : (w : Way) {own : Table} → IsTable rows declaration_section own → {types present layout before area : List ℕ} {o : Lent} → BodiesBelow rows types (table_count rows type_section)
-      → Lends w rows limits layout before area → FreshBy w rows own present → Clear w o → Ready w (setting rows layout kept types) (lent cells states present) o limits
+  pub readies : (w : Way) {own : Table} → IsTable rows declaration_section own → {types present layout before area : List ℕ} {o : Lent} → Lends w rows limits layout types before area → FreshBy w rows own present → Clear w o → Ready w (setting rows layout kept types) (lent cells states present) o limits
   unfolding LendsBy FreshBy
-  readies checked is held l f o = checked_begins is held f l.by.no_layout o
-  readies erased is {types = types} {layout = layout} {o = o'} held l f o =
+  readies checked is l f o = checked_begins is l.by.held f l.by.no_layout o
+  readies erased is {types = types} {layout = layout} {o = o'} l f o =
       subst (λ (x : List ℕ). Ready erased (setting rows layout kept types) (lent cells states x) o' limits) (sym f) (erased_begins l.by.passed l.by.limited o)
 
-module _ {rows limits layout own area : List ℕ} where
+module _ {rows limits layout types own area : List ℕ} where
   -- ---- the room for the present bodies
-  pub begins_by : (w : Way) {types : List ℕ} → BodiesBelow rows types (table_count rows type_section) → Lends w rows limits layout own area → BeginsBy w rows types own
+  pub begins_by : (w : Way) → Lends w rows limits layout types own area → BeginsBy w rows types own
   unfolding BeginsBy LendsBy
-  begins_by checked held l = (record { held = held }, l.by.own_zeros)
-  begins_by erased held l = l.by.no_own
+  begins_by checked l = (record { held = l.by.held }, l.by.own_zeros)
+  begins_by erased l = l.by.no_own
 
   -- ---- the area for calls, cleared
-  clear_bodies : (w : Way) {bodies : List ℕ} → Lends w rows limits layout own area → bodies ≡ replicate (length area) 0 → ClearBodies w bodies
+  clear_bodies : (w : Way) {bodies : List ℕ} → Lends w rows limits layout types own area → bodies ≡ replicate (length area) 0 → ClearBodies w bodies
   unfolding ClearBodies LendsBy
   clear_bodies checked l b = b ∙ ap (λ (x : ℕ). replicate x 0) l.by.long_area
   clear_bodies erased l b = b ∙ ap (λ (x : List ℕ). replicate (length x) 0) l.by.no_area
 
-  pub clears : (w : Way) {cells : List ℤ} {states bodies : List ℕ} (n m : ℕ) → Lends w rows limits layout own area → cells ≡ replicate n (pos 0) → states ≡ replicate m 0 → bodies ≡ replicate (length area) 0 → n ≡ open_cells_length → m ≡ open_states_length
+  pub clears : (w : Way) {cells : List ℤ} {states bodies : List ℕ} (n m : ℕ) → Lends w rows limits layout types own area → cells ≡ replicate n (pos 0) → states ≡ replicate m 0 → bodies ≡ replicate (length area) 0 → n ≡ open_cells_length → m ≡ open_states_length
       → Clear w (lent cells states bodies)
   clears w n m l c s b i j =
       record { cells_are = c ∙ ap (λ (x : ℕ). replicate x (pos 0)) i; states_are = s ∙ ap (λ (x : ℕ). replicate x 0) j; bodies_are = clear_bodies w l b }

@@ -1,5 +1,5 @@
 -- The ways in which a run of a taken pair ends: refused, or as the run of both files ends. Assumes nothing.
-use mathlib.Core.Path.{◌≡◌, refl, sym, ap, ap₂, ◌∙◌}
+use mathlib.Core.Path.{◌≡◌, refl, sym, ap, ap₂, ◌∙◌, subst}
 use mathlib.Core.List.{List, ◌++◌, append-nil}
 use Prim.Native.Nat.{ℕ, ◌-◌, ◌≤◌}
 use native.Mathlib.Nat.{suc-pred-eq_of_ne-zero}
@@ -33,13 +33,22 @@ use Rattle.frames.specs.Ways.{Way, checked, erased}
 use Rattle.frames.specs.Meaning.{HoldsBy}
 use Rattle.opening.specs.Meaning.{Setting}
 use Rattle.whole_run.specs.Meaning.{Ready, Runs}
-use Rattle.taken.specs.Given.{IsKnown}
+use Rattle.taken.specs.Given.{LimitsIn, IsKnown}
+use Rattle.taken.specs.declared.given.Admitted.{Admitted}
 use Rattle.taken.specs.declared.given.Runnable.{Runnable}
-use Rattle.taken.specs.Taken.{RunTaken, RunIs}
+use Rattle.taken.specs.Taken.{RunTaken, RunAdmitted, RunIs}
 use Rattle.taken.specs.Ways.{Startable, checked_end, QuantitiesLimited, PassedRows, erased_verdict, erased_rows}
 use Rattle.taken.proofs.Refusing.{short_present, short_layout, run_refuses, type_error_refuses, none_refuses}
 
 -- ---- what is taken serves both runs
+-- the registers are asked as they are read
+pub as_lent : {r : Result Admitted Refusal} {i : Inputs} {read b : Buffers} {others : List ℕ} → read ≡ b → RunIs r i read others → RunIs r i b others
+as_lent {r} {i} {others = others} e h = subst (λ (x : Buffers). RunIs r i x others) e h
+
+-- the limits' rows lie where they are looked for
+pub limits_lie : {a : Admitted} {i : Inputs} {b : Buffers} {others : List ℕ} → RunAdmitted a i b others → LimitsIn a others
+limits_lie h = record { within = h.within_others; tables = rw h.limits h.limit_tables }
+
 module _ {i : Inputs} {b : Buffers} {t : Runnable} (h : RunTaken t i b) where
   -- all that the run of a taken pair's rows asks, besides the length of what is its own
   pub asks : Startable t.rows i.variables i.numbers b × IsKnown t
@@ -91,21 +100,21 @@ module _ (i : Inputs) (b : Buffers) (present : List ℕ) (budget : ℕ) where
   pub present_wrong : (length present ≡ present_bodies_length → ⊥) → checked_result (Err BadBuffer) b present ≡ checked_call i budget b present
   present_wrong h = checked_refused BadBuffer (short_present i b present h)
 
-  module _ {r : Result Runnable Refusal} (l : length present ≡ present_bodies_length) (h : RunIs r i b) where
+  module _ {r : Result Admitted Refusal} {others : List ℕ} (l : length present ≡ present_bodies_length) (h : RunIs r i b others) where
     shares : refusal_of r ≡ checked_refusal i b present
     shares = h.refusal ∙ sym (checked_shares i b present l)
 
     pub run_refused : {e : Refusal} → r ≡ Err e → checked_result (Err e) b present ≡ checked_call i budget b present
-    run_refused {e} q = checked_refused e (sym shares ∙ ap (λ (x : Result Runnable Refusal). refusal_of x) q)
+    run_refused {e} q = checked_refused e (sym shares ∙ ap (λ (x : Result Admitted Refusal). refusal_of x) q)
 
-    pub run_done : {p : Runnable} (q : r ≡ Ok p) (a : RunAnswer) (after : Buffers) (bytes : List ℕ)
-        → checked_result a after bytes ≡ checked_end budget (run (profile_of p.rows p.limits) (readings_of i.variables i.numbers) budget)
+    pub run_done : {p : Admitted} (q : r ≡ Ok p) {t : Runnable} (k : RunTaken t i b) (a : RunAnswer) (after : Buffers) (bytes : List ℕ)
+        → checked_result a after bytes ≡ checked_end budget (run (profile_of t.rows t.limits) (readings_of i.variables i.numbers) budget)
         → checked_result a after bytes ≡ checked_call i budget b present
     unfolding checked_call checked_unless checked_end run_of
-    run_done {p} q a after bytes e =
+    run_done q k a after bytes e =
         e
-        ∙ ap₂ (λ (rows limits : List ℕ). checked_end budget (run (profile_of rows limits) (readings_of i.variables i.numbers) budget)) (h.taken p q).rows (h.taken p q).limits
-        ∙ ap (λ (k : ℕ). checked_unless k i budget b present) (sym (ap (λ (x : Result Runnable Refusal). refusal_of x) q) ∙ shares)
+        ∙ ap₂ (λ (rows limits : List ℕ). checked_end budget (run (profile_of rows limits) (readings_of i.variables i.numbers) budget)) k.rows k.limits
+        ∙ ap (λ (n : ℕ). checked_unless n i budget b present) (sym (ap (λ (x : Result Admitted Refusal). refusal_of x) q) ∙ shares)
 
 -- ---- the type check's verdict on rows
 module _ (rows limits : List ℕ) where
@@ -134,29 +143,29 @@ module _ (i : Inputs) (b : Buffers) (layout : List ℕ) (budget : ℕ) where
   pub layout_wrong : (length layout ≡ layout_length → ⊥) → erased_result (Err BadBuffer) b layout ≡ erased_call i budget b layout
   layout_wrong h = erased_refused BadBuffer (short_layout i b layout h)
 
-  module _ {r : Result Runnable Refusal} (l : length layout ≡ layout_length) (h : RunIs r i b) where
+  module _ {r : Result Admitted Refusal} {others : List ℕ} (l : length layout ≡ layout_length) (h : RunIs r i b others) where
     pub erased_run_refused : {e : Refusal} → r ≡ Err e → erased_result (Err e) b layout ≡ erased_call i budget b layout
     erased_run_refused {e} q =
-        let g : run_refusal i b ≡ refusal_number e = sym h.refusal ∙ ap (λ (x : Result Runnable Refusal). refusal_of x) q in
+        let g : run_refusal i b ≡ refusal_number e = sym h.refusal ∙ ap (λ (x : Result Admitted Refusal). refusal_of x) q in
         erased_refused e (run_refuses i b layout l (λ z. some_refusal e (sym g ∙ z)) ∙ g)
 
-    module _ {p : Runnable} (q : r ≡ Ok p) where
+    module _ {p : Admitted} (q : r ≡ Ok p) where
       none_applies : run_refusal i b ≡ 0
-      none_applies = sym h.refusal ∙ ap (λ (x : Result Runnable Refusal). refusal_of x) q
+      none_applies = sym h.refusal ∙ ap (λ (x : Result Admitted Refusal). refusal_of x) q
 
       by_verdict : (o : Outcome TypeError (List Entry)) → check_profile (profile_of (rows_of i.profile) (rows_of i.limits)) ≡ o
           → erased_verdict o budget (run_of i budget) b layout ≡ erased_call i budget b layout
       unfolding erased_verdict erased_call erased_unless
       by_verdict (ok es) e =
-          ap (with_layout (ran budget (run_of i budget))) (sym (passed_layout i.profile i.limits layout (record { accepted = (h.taken p q).accepted; entries = es; checked = e }) l))
+          ap (with_layout (ran budget (run_of i budget))) (sym (passed_layout i.profile i.limits layout (record { accepted = (h.admitted p q).accepted; entries = es; checked = e }) l))
           ∙ ap (λ (k : ℕ). erased_unless k i budget b layout) (sym (none_refuses i b layout l none_applies (ok es) e refl))
       by_verdict (fail e) f =
           ap (λ (k : ℕ). erased_unless k i budget b layout) (sym (type_error_refuses i b layout l none_applies (fail e) f refl))
 
-      pub erased_done : (a : RunAnswer) (after : Buffers) (table : List ℕ)
-          → erased_result a after table ≡ erased_rows p.rows p.limits i.variables i.numbers budget b layout
+      pub erased_done : {t : Runnable} (k : RunTaken t i b) (a : RunAnswer) (after : Buffers) (table : List ℕ)
+          → erased_result a after table ≡ erased_rows t.rows t.limits i.variables i.numbers budget b layout
           → erased_result a after table ≡ erased_call i budget b layout
-      erased_done a after table e =
+      erased_done k a after table e =
           e
-          ∙ ap₂ (λ (rows limits : List ℕ). erased_rows rows limits i.variables i.numbers budget b layout) (h.taken p q).rows (h.taken p q).limits
+          ∙ ap₂ (λ (rows limits : List ℕ). erased_rows rows limits i.variables i.numbers budget b layout) k.rows k.limits
           ∙ (unfold erased_rows run_of in by_verdict (check_profile (profile_of (rows_of i.profile) (rows_of i.limits))) refl)

@@ -17,8 +17,8 @@ use Rattle.lingua.specs.Refusal.{lowest, pair_rules, reading_wrong, run_fits, ru
 use Rattle.pair.specs.Pair.{PairIs}
 use Rattle.pair.specs.declared.Pair.{Pair}
 use Rattle.pair.proofs.Returns.{some_refusal}
-use Rattle.taken.specs.Taken.{RunTaken, RunIs}
-use Rattle.taken.specs.declared.given.Runnable.{Runnable}
+use Rattle.taken.specs.Taken.{RunAdmitted, RunIs}
+use Rattle.taken.specs.declared.given.Admitted.{Admitted}
 use Rattle.taken.proofs.Refusing.{unfit, files_refused, inputs_refused, none_refused}
 
 -- buffers that fit are as long as listed
@@ -41,14 +41,14 @@ fitting i b f = record {
 
 module _ (i : Inputs) (b : Buffers) where
   -- ---- refused
-  refused_by : {e : Refusal} → run_refusal i b ≡ refusal_number e → RunIs (Err e) i b
-  refused_by q = record { refusal = sym q; taken = λ t z. cc }
+  refused_by : {e : Refusal} {others : List ℕ} → run_refusal i b ≡ refusal_number e → RunIs (Err e) i b others
+  refused_by q = record { refusal = sym q; admitted = λ a z. cc }
 
-  pub unfit_buffers : run_fits i b ≡ false → RunIs (Err BadBuffer) i b
+  pub unfit_buffers : {others : List ℕ} → run_fits i b ≡ false → RunIs (Err BadBuffer) i b others
   unfit_buffers f = refused_by (unfit i b f)
 
   module _ (f : run_fits i b ≡ true) where
-    pub files_wrong : {r : Result Pair Refusal} {areas others bodies : List ℕ} {e : Refusal} → PairIs r i.profile i.limits areas others bodies → r ≡ Err e → RunIs (Err e) i b
+    pub files_wrong : {r : Result Pair Refusal} {areas others bodies : List ℕ} {e : Refusal} → PairIs r i.profile i.limits areas others bodies → r ≡ Err e → RunIs (Err e) i b others
     files_wrong {r} {e = e} h q =
         refused_by (files_refused i b f (refusal_number e) (sym (ap (λ (x : Result Pair Refusal). refusal_of x) q) ∙ h.refusal) (some_refusal e))
 
@@ -59,24 +59,26 @@ module _ (i : Inputs) (b : Buffers) where
       wrong_is : reading_wrong (rows_of i.profile) i.variables ≡ w
       wrong_is = ap (λ (x : List ℕ). reading_wrong x i.variables) (sym (are ∙ (h.taken p given).rows)) ∙ sym is
 
-      pub readings_wrong : w ≡ true → RunIs (Err BadReading) i b
+      pub readings_wrong : w ≡ true → RunIs (Err BadReading) i b others
       readings_wrong q = refused_by (inputs_refused i b f accepted (wrong_is ∙ q))
 
       -- ---- or not
-      pub none_wrong : w ≡ false → (g : Runnable) → g.rows ≡ take p.profile.length areas → g.limits ≡ take p.limits.length others → g.owners ≡ p.owners → g.bodies.now ≡ bodies → RunIs (Ok g) i b
+      pub none_wrong : w ≡ false → (g : Admitted) → g.rows ≡ take p.profile.length areas → g.limits ≡ p.limits → g.owners ≡ p.owners → g.bodies.now ≡ bodies → RunIs (Ok g) i b others
       none_wrong q g r m o held =
           let l = fitting i b f in
           let k = h.taken p given in
           record {
             refusal = sym (none_refused i b f accepted (wrong_is ∙ q));
-            taken = λ t z. let e : g ≡ t = cc in subst (λ (x : Runnable). RunTaken x i b) e (record {
+            admitted = λ a z. let e : g ≡ a = cc in subst (λ (x : Admitted). RunAdmitted x i b others) e (record {
               long_cells = l.cells;
               long_states = l.states;
               long_open_cells = l.open_cells;
               long_open_states = l.open_states;
               accepted = accepted;
               rows = r ∙ k.rows;
-              limits = m ∙ k.limits;
+              limits = rw m k.limits;
+              within_others = rw m k.within_others;
+              limit_tables = rw m k.limit_tables;
               is_known = rw (o, held) (record { owned = k.limited; held = k.held });
               readable = record { same_length = l.same; right = wrong_is ∙ q };
             });

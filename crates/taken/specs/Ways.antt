@@ -1,11 +1,11 @@
 -- The run of accepted rows in each way. Assumes nothing: these are definitions.
 use Rattle.std.specs.Prelude.{◌≡◌, List, [], ℕ, ◌<◌, ℤ, length, replicate, true}
 use Rattle.std.proofs.Math.Option.{some}
-use Rattle.lingua.specs.Numbers.{cells_length, states_length, open_cells_length, open_states_length, layout_length, variable_bodies_length, open_bodies_length, declaration_section}
+use Rattle.lingua.specs.Numbers.{cells_length, states_length, open_cells_length, open_states_length, layout_length, variable_bodies_length, open_bodies_length, declaration_section, type_section}
 use Rattle.lingua.specs.Errors.{type_error_found}
 use Rattle.lingua.specs.Outcome.{Outcome, ok, fail}
 use Rattle.lingua.specs.Body.{is_quantity}
-use Rattle.lingua.specs.Rows.{pair_count}
+use Rattle.lingua.specs.Rows.{pair_count, table_count}
 use Rattle.lingua.specs.Store.{Limit, present_in}
 use Rattle.lingua.specs.Run.{Progress, run, last_state, open_calls}
 use Rattle.lingua.specs.Typing.{TypeError, Entry, bodies_of, check_profile, layout_of}
@@ -14,6 +14,7 @@ use Rattle.lingua.specs.Answers.{refused}
 use Rattle.lingua.specs.Inputs.{Buffers}
 use Rattle.lingua.specs.Calls.{CheckedCall, ErasedCall, readings_of, ran, with_bodies, with_layout}
 use Rattle.safety.specs.Accepted.{AcceptedRows}
+use Rattle.rules.specs.Types.{BodiesBelow}
 use Rattle.frames.specs.Ways.{Way, checked, erased}
 use Rattle.whole_run.specs.Meaning.{Readable}
 
@@ -41,25 +42,27 @@ pub record PassedRows (rows limits layout : List ℕ) : Type 0 where
   pub layout_is : layout ≡ layout_of entries
   pub long : length layout ≡ layout_length
 
--- what a run of its way is lent besides: the checked one room for the present bodies, the profile's and those of the open calls, and the erased
--- one the layout table of rows that the type check passed
-pub record LendsChecked (layout own area : List ℕ) : Type 0 where
+-- what a run of its way is lent besides: the checked one the bodies of the type rows and room for the present bodies, the profile's and those of
+-- the open calls, and the erased one the layout table of rows that the type check passed, and no body
+pub record LendsChecked (rows layout types own area : List ℕ) : Type 0 where
   pub no_layout : layout ≡ []
+  pub held : BodiesBelow rows types (table_count rows type_section)
   pub own_zeros : own ≡ replicate variable_bodies_length 0
   pub long_area : length area ≡ open_bodies_length
 
-pub record LendsErased (rows limits layout own area : List ℕ) : Type 0 where
+pub record LendsErased (rows limits layout types own area : List ℕ) : Type 0 where
   pub passed : PassedRows rows limits layout
   pub limited : QuantitiesLimited rows limits
+  pub no_types : types ≡ []
   pub no_own : own ≡ []
   pub no_area : area ≡ []
 
-unfoldable pub LendsBy : Way → List ℕ → List ℕ → List ℕ → List ℕ → List ℕ → Type 0
-LendsBy checked rows limits layout own area = LendsChecked layout own area
-LendsBy erased rows limits layout own area = LendsErased rows limits layout own area
+unfoldable pub LendsBy : Way → List ℕ → List ℕ → List ℕ → List ℕ → List ℕ → List ℕ → Type 0
+LendsBy checked rows limits layout types own area = LendsChecked rows layout types own area
+LendsBy erased rows limits layout types own area = LendsErased rows limits layout types own area
 
-pub record Lends (w : Way) (rows limits layout own area : List ℕ) : Type 0 where
-  pub by : LendsBy w rows limits layout own area
+pub record Lends (w : Way) (rows limits layout types own area : List ℕ) : Type 0 where
+  pub by : LendsBy w rows limits layout types own area
 
 -- the erased run where the type check passes, and rule 17 where it does not
 unfoldable pub erased_verdict : Outcome TypeError (List Entry) → ℕ → Progress → Buffers → List ℕ → ErasedCall

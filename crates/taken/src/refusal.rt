@@ -3,10 +3,10 @@ ghost use Rattle.std.specs.Prelude.{◌≡◌, List, ℕ};
 ghost use Rattle.lingua.specs.Inputs.{inputs};
 ghost use Rattle.lingua.specs.Refusal.{run_fits};
 ghost use Rattle.pair.specs.Pair.{PairIs};
-ghost use Rattle.taken.specs.Given.{buffers_in};
+ghost use Rattle.taken.specs.Given.{buffers_seen};
 ghost use Rattle.taken.specs.Taken.{PairOf, RunIs};
 
-use crate::given::{Asked, Registers, Runnable};
+use crate::given::{Admitted, Asked, SeenRegisters};
 use decoder::rows::Rows;
 use lingua::errors::Refusal;
 use lingua::sizes::{CELLS_LENGTH, OPEN_CELLS_LENGTH, OPEN_STATES_LENGTH, STATES_LENGTH};
@@ -15,8 +15,8 @@ use profile::agreement::reading_wrong;
 
 // Buffers as long as listed, and a number for each variable that is read.
 #[tactic(auto, using(std::proofs::lemmas::Bool::Decides::nat_tests), unfolding(lingua::specs::Refusal::run_fits))]
-fn buffers_fit(asked: &Asked, registers: &Registers) -> bool
-    ensures { (prof lims : List ℕ) → result ≡ run_fits (inputs prof lims asked.now.variables.now asked.now.numbers.now) (buffers_in registers.now) }
+fn buffers_fit(asked: &Asked, registers: &SeenRegisters) -> bool
+    ensures { (prof lims : List ℕ) → result ≡ run_fits (inputs prof lims asked.now.variables.now asked.now.numbers.now) (buffers_seen registers.now) }
 {
     asked.variables.len() == asked.numbers.len()
         && registers.cells.len() == CELLS_LENGTH
@@ -25,17 +25,17 @@ fn buffers_fit(asked: &Asked, registers: &Registers) -> bool
         && registers.open_states.len() == OPEN_STATES_LENGTH
 }
 
-// What a run of the taken pair is given, or the lowest rule of 1 to 16 that applies to it.
+// The lowest rule of 1 to 16 that applies to a run of the taken pair, or what it is given where none does: all but the limits' rows, which
+// need not be at hand.
 pub fn run_refusal<'a>(
     pair: Result<Pair, Refusal>,
     areas: &'a [u8],
-    others: &'a [u8],
     bodies: &'a [u8],
     asked: &Asked,
-    registers: &Registers,
-) -> Result<Runnable<'a>, Refusal>
-    requires { PairOf pair areas.now others.now bodies.now }
-    ensures { (prof lims : List ℕ) → PairIs pair prof lims areas.now others.now bodies.now → RunIs result (inputs prof lims asked.now.variables.now asked.now.numbers.now) (buffers_in registers.now) }
+    registers: &SeenRegisters,
+) -> Result<Admitted<'a>, Refusal>
+    requires { (others : List ℕ) × PairOf pair areas.now others bodies.now }
+    ensures { (prof lims others : List ℕ) → PairIs pair prof lims areas.now others bodies.now → RunIs result (inputs prof lims asked.now.variables.now asked.now.numbers.now) (buffers_seen registers.now) others }
 {
     if !buffers_fit(asked, registers) {
         return Err(Refusal::BadBuffer);
@@ -45,9 +45,9 @@ pub fn run_refusal<'a>(
     if reading_wrong(&rows, bodies, asked.variables) {
         return Err(Refusal::BadReading);
     }
-    let limits = Rows::with(&others[..taken.limits.length], taken.limits.tables);
+    let limits = taken.limits;
     let owners = taken.owners;
-    Ok(Runnable {
+    Ok(Admitted {
         rows,
         limits,
         owners,

@@ -18,10 +18,11 @@ use run::start::start;
 use whole_run::whole::run;
 
 // The profile's present bodies lie by themselves, since an open call's come to the front of the area behind them. The erased run is lent no
-// room for either, and the checked run no layout table.
+// room for either, and handed no body: its types' are an empty slice. The checked run is lent no layout table.
 pub fn run_rows<W: Way>(
     from: &Runnable,
     layout: &[u16],
+    types: &[u8],
     asked: &Asked,
     registers: &mut Registers,
     own: &mut [u8],
@@ -29,7 +30,7 @@ pub fn run_rows<W: Way>(
 ) -> RunEnd
     requires startable { Startable from.now.rows asked.now.variables.now asked.now.numbers.now (buffers_in registers.old) }
     requires is_known { IsKnown from.now }
-    requires lends { Lends W.way from.now.rows from.now.limits layout.now own.old area.old }
+    requires lends { Lends W.way from.now.rows from.now.limits layout.now types.now own.old area.old }
     ensures run { run_result (Ok result) (buffers_in registers.new) ≡ ran asked.now.budget (meaning (profile_of from.now.rows from.now.limits) (readings_of asked.now.variables.now asked.now.numbers.now) asked.now.budget) }
     ensures present { W.way ≡ is_checked → followed own.new area.new ≡ present_in (last_state (meaning (profile_of from.now.rows from.now.limits) (readings_of asked.now.variables.now asked.now.numbers.now) asked.now.budget)).store (open_calls (meaning (profile_of from.now.rows from.now.limits) (readings_of asked.now.variables.now asked.now.numbers.now) asked.now.budget)) }
     ensures same_registers { SameRegisters registers.old registers.new }
@@ -39,7 +40,7 @@ pub fn run_rows<W: Way>(
     registers.open_cells.fill(0);
     registers.open_states.fill(0);
     area.fill(0);
-    W::begin_bodies(rows, rows.declarations(), from.bodies, &mut *own);
+    W::begin_bodies(rows, rows.declarations(), types, &mut *own);
     start(
         rows,
         &from.limits,
@@ -65,7 +66,7 @@ pub fn run_rows<W: Way>(
     };
     run::<W>(
         &context,
-        from.bodies,
+        types,
         &mut memory,
         &mut open,
         asked.variables,

@@ -38,6 +38,7 @@ fn checked_lent(
     let end = run_rows::<Checked>(
         from,
         &layout,
+        from.bodies,
         asked,
         registers,
         &mut own,
@@ -65,6 +66,7 @@ pub fn checked_taken(
     if present.len() != PRESENT_BODIES_LENGTH {
         return Err(Refusal::BadBuffer);
     }
-    let from = run_refusal(pair, areas, others, bodies, asked, &*registers)?;
+    let admitted = run_refusal(pair, areas, bodies, asked, &registers.seen())?;
+    let from = admitted.with_limits(others);
     checked_lent(&from, asked, registers, present)
 }

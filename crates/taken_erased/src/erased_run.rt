@@ -35,9 +35,18 @@ fn passed_rows(
     ensures run { run_result result (buffers_in registers.new) ≡ ran asked.now.budget (meaning (profile_of from.now.rows from.now.limits) (readings_of asked.now.variables.now asked.now.numbers.now) asked.now.budget) }
     ensures same_registers { SameRegisters registers.old registers.new }
 {
+    let types = [0u8; 0];
     let mut none = [0u8; 0];
     let mut no_area = [0u8; 0];
-    Ok(run_rows::<Erased>(from, layout, asked, registers, &mut none, &mut no_area))
+    Ok(run_rows::<Erased>(
+        from,
+        layout,
+        &types,
+        asked,
+        registers,
+        &mut none,
+        &mut no_area,
+    ))
 }
 
 // The type check works on a table of its own, which becomes the caller's once no rule applies any more: rule 17 leaves that as it was.
@@ -82,6 +91,7 @@ pub fn erased_taken(
     if layout.len() != LAYOUT_LENGTH {
         return Err(Refusal::BadBuffer);
     }
-    let from = run_refusal(pair, areas, others, bodies, asked, &*registers)?;
+    let admitted = run_refusal(pair, areas, bodies, asked, &registers.seen())?;
+    let from = admitted.with_limits(others);
     erased_rows(&from, asked, registers, layout)
 }

@@ -12,7 +12,7 @@ use Rattle.taken_checked.proofs.checked_run.checked_lent.Goals as goal
 
 pub run_rows-end-requires-clause-lends : goal.run_rows-end-requires-clause-lends
 unfolding LendsBy
-run_rows-end-requires-clause-lends c = record { by = record { no_layout = refl; own_zeros = refl; long_area = omega (arith, lent_length c.args.present.now 1536, c.requires.present_len) } }
+run_rows-end-requires-clause-lends c = record { by = record { no_layout = refl; held = c.requires.is_known.held; own_zeros = refl; long_area = omega (arith, lent_length c.args.present.now 1536, c.requires.present_len) } }
 
 pub copy_front-requires : goal.copy_front-requires
 copy_front-requires c = omega (arith, c.run_rows-end.auto.own, same_len_mid 1536 (length c.args.present.now - 1536) c.args.present.now c.run_rows-end.new.area c.run_rows-end.auto.area, c.requires.present_len)
