@@ -42,7 +42,13 @@ pub fn enter<W: Way>(
     let values = given(procedure.values);
     let references = given(procedure.references);
     let variables = rows.variables(call.procedure);
-    begin::<W>(&context, variables, setting.types, own);
+    begin::<W>(
+        rows,
+        variables,
+        setting.types,
+        &mut *own.states,
+        &mut *own.bodies,
+    );
     copies_in::<W>(&context, memory, call.values, values, 0, own, &mut *stack)?;
     copies_in::<W>(
         &context,

@@ -29,7 +29,7 @@ begin-requires-clause-begins_by g c = (callee_begins c.requires.calling c.requir
 pub copies_in-requires-clause-has_facing : goal.copies_in-requires-clause-has_facing
 copies_in-requires-clause-has_facing g c =
     let count = counted c.procedure-procedure.ensures c.given-values.ensures c.given-references.ensures in
-    (values_facing count c.variables-variables.ensures (c.begin.ensures.cells_same ∙ c.requires.zeros_by.cells_are) c.begin.ensures.fresh c.requires.calling)
+    (values_facing count c.variables-variables.ensures c.requires.zeros_by.cells_are c.begin.ensures c.requires.calling)
 
 pub copies_in-requires-clause-count_le_most_parameters : goal.copies_in-requires-clause-count_le_most_parameters
 copies_in-requires-clause-count_le_most_parameters g c =
@@ -38,12 +38,12 @@ copies_in-requires-clause-count_le_most_parameters g c =
 
 pub returns-in_err-copies_in-clause-enters : goal.returns-in_err-copies_in-clause-enters
 returns-in_err-copies_in-clause-enters g c =
-    rw (passed_on _ _ c.from_residual.ensures.1) (values_fail (counted c.procedure-procedure.ensures c.given-values.ensures c.given-references.ensures) c.variables-variables.ensures (c.begin.ensures.cells_same ∙ c.requires.zeros_by.cells_are) c.begin.ensures.fresh c.in_err-copies_in.ensures.copies (error_some _))
+    rw (passed_on _ _ c.from_residual.ensures.1) (values_fail (counted c.procedure-procedure.ensures c.given-values.ensures c.given-references.ensures) c.variables-variables.ensures c.requires.zeros_by.cells_are c.begin.ensures c.in_err-copies_in.ensures.copies (error_some _))
 
 pub copies_in-requires-2-clause-has_facing : goal.copies_in-requires-2-clause-has_facing
 copies_in-requires-2-clause-has_facing g c =
     let count = counted c.procedure-procedure.ensures c.given-values.ensures c.given-references.ensures in
-    (references_facing count c.variables-variables.ensures (c.begin.ensures.cells_same ∙ c.requires.zeros_by.cells_are) c.begin.ensures.fresh c.in_ok-copies_in.ensures.copies refl c.requires.calling (omega (arith, c.copies_in.auto.stack)))
+    (references_facing count c.variables-variables.ensures c.requires.zeros_by.cells_are c.begin.ensures c.in_ok-copies_in.ensures.copies refl c.requires.calling (omega (arith, c.copies_in.auto.stack)))
 
 pub copies_in-requires-2-clause-count_le_most_parameters : goal.copies_in-requires-2-clause-count_le_most_parameters
 copies_in-requires-2-clause-count_le_most_parameters g c =
@@ -52,4 +52,4 @@ copies_in-requires-2-clause-count_le_most_parameters g c =
 
 pub returns-clause-enters : goal.returns-clause-enters
 returns-clause-enters g c =
-    entered (counted c.procedure-procedure.ensures c.given-values.ensures c.given-references.ensures) c.variables-variables.ensures (c.begin.ensures.cells_same ∙ c.requires.zeros_by.cells_are) c.begin.ensures.fresh c.in_ok-copies_in.ensures.copies refl c.copies_in-2.ensures.copies
+    entered (counted c.procedure-procedure.ensures c.given-values.ensures c.given-references.ensures) c.variables-variables.ensures c.requires.zeros_by.cells_are c.begin.ensures c.in_ok-copies_in.ensures.copies refl c.copies_in-2.ensures.copies
