@@ -15,6 +15,7 @@ use lingua::sizes::BODY_BYTES;
 pub type Found<T> = Result<T, Option<ErrorAt>>;
 
 // A row's own rule: its answer, or the row's fault.
+#[inline(never)]
 pub fn own_rule(half: Result<Typed, Error>, row: usize) -> Found<Typed>
     requires { row < 65536 }
     ensures { result ≡ own_found half row }
@@ -45,6 +46,7 @@ fn lower(x: Option<ErrorAt>, y: Option<ErrorAt>) -> Option<ErrorAt>
 }
 
 // Two operands whose bodies a row asks for: both, or the lower of their faults.
+#[inline(never)]
 pub fn together<A: Copy, B: Copy>(x: Found<A>, y: Found<B>) -> Found<(A, B)>
     ensures { Together result x y }
 {
@@ -57,6 +59,7 @@ pub fn together<A: Copy, B: Copy>(x: Found<A>, y: Found<B>) -> Found<(A, B)>
 }
 
 // The body of the elements of a current value that is a list. One that is no list is the row's fault; one that has no body is not.
+#[inline(never)]
 pub fn elements(row: usize, current: Option<[u8; BODY_BYTES]>) -> Found<[u8; BODY_BYTES]>
     requires held { HeldIf current }
     requires row_bound { row < 65536 }

@@ -26,6 +26,7 @@ pub fn variable_body(rows: &Rows, t: Table, bodies: &[u8], n: usize) -> [u8; BOD
 }
 
 // A row's result has so many cells; beside them stands the row's second number.
+#[inline(never)]
 pub fn note_row(row: usize, body: [u8; BODY_BYTES], second: usize, layout: &mut [u16])
     requires held { Held body }
     requires second_bound { second ≤ 64 }

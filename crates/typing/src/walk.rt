@@ -1,5 +1,6 @@
 // The check of an expression, down its tree: operands are lower rows, so the row number falls at each call. It goes on behind a
-// fault, so that every row is gone through once. A row that has a body is noted in the layout table, after its operands.
+// fault, so that every row is gone through once. A row that has a body is noted in the layout table, after its operands. Each kind of row has
+// a frame of its own, and so has what comes after the operands: drawn into one function they would all lie on the stack at every level of a tree.
 ghost use Rattle.std.proofs.Math.Option.{Option};
 ghost use Rattle.lingua.specs.Body.{Body};
 ghost use Rattle.lingua.specs.Expression.{Connective, unary, binary, lazy, choice, all_list};
@@ -66,6 +67,7 @@ pub fn check(
 
 // The operand, then the row's own half on bodies.
 #[cycle(all_list_binary_check_choice_lazy_unary)]
+#[inline(never)]
 fn unary(
     row: usize,
     scope: &Scope,
@@ -86,6 +88,7 @@ fn unary(
 
 // Both operands, then the row's own half on bodies.
 #[cycle(all_list_binary_check_choice_lazy_unary)]
+#[inline(never)]
 fn binary(
     row: usize,
     scope: &Scope,
@@ -109,6 +112,7 @@ fn binary(
 
 // And and or: both operands, and then that each is Boolean.
 #[cycle(all_list_binary_check_choice_lazy_unary)]
+#[inline(never)]
 fn lazy(
     row: usize,
     scope: &Scope,
@@ -136,6 +140,7 @@ fn lazy(
 
 // The test and both branches, that the test is Boolean, and then that the branches' bodies are equal.
 #[cycle(all_list_binary_check_choice_lazy_unary)]
+#[inline(never)]
 fn choice(
     row: usize,
     scope: &Scope,
@@ -166,6 +171,7 @@ fn choice(
 // The inner yoke on an element's body, if there is one, and then that it is Boolean. A current value that is no list is a fault
 // whatever the inner yoke has; one without a body is none.
 #[cycle(all_list_binary_check_choice_lazy_unary)]
+#[inline(never)]
 fn all_list(
     row: usize,
     scope: &Scope,

@@ -13,7 +13,9 @@ use run::memory::Memory;
 use run::steps::{ended, fresh};
 use walk::exec::exec;
 
-// Each level of an expression's tree has 64 cells of the operand stack.
+// Each level of an expression's tree has 64 cells of the operand stack: 260 KiB, which lie in a frame of their own, so that whoever calls this
+// has them only while it runs.
+#[inline(never)]
 pub fn run<W: Way>(
     context: &Context,
     types: &[u8],
