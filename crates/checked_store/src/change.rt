@@ -1,37 +1,42 @@
-// Yoke change: the value that the variable has must satisfy the new yoke, which is then noted in its state word.
-ghost use Rattle.std.specs.Prelude.{◌≡◌, List, ◌+◌, ◌*◌, ◌<◌, ◌≤◌, length};
+// Yoke change: the value that the variable has must satisfy the new yoke, which is then noted in its state word. Nothing else is written, and
+// so the state words alone are lent for it.
+ghost use Rattle.std.specs.Prelude.{List, ◌+◌, ◌*◌, ◌<◌, ◌≤◌, length};
 ghost use Rattle.lingua.specs.Numbers.{body_cells, expression_section};
 ghost use Rattle.lingua.specs.Rows.{table_count};
 ghost use Rattle.lingua.specs.Faults.{number_of};
 ghost use Rattle.lingua.specs.Store.{Variable, yoke_changed};
 ghost use Rattle.lingua.specs.Trees.{yoke_tree};
-ghost use Rattle.run.specs.Lending.{lent_in, SameSlices};
+ghost use Rattle.run.specs.Reached.{lent};
 ghost use Rattle.checked_store.specs.Meaning.{Running, HasRunning, Assigns};
 
 use crate::holds::yoke_holds;
 use decoder::rows::Rows;
 use lingua::errors::Error;
-use run::memory::Memory;
+use run::memory::Seen;
 use run::words::set_yoke;
 
 pub fn change_yoke(
     rows: &Rows,
     limits: &[i64],
-    memory: &mut Memory,
+    bodies: &[u8],
+    cells: &[i64],
+    states: &mut [u16],
     n: usize,
     y: u16,
     stack: &mut [i64],
 ) -> Result<(), Error>
-    requires has_running { HasRunning rows.now limits.now (lent_in memory.old) n }
+    requires has_running { HasRunning rows.now limits.now (lent cells.now states.old bodies.now) n }
     requires y_le_count { y ≤ table_count rows.now expression_section }
     requires y_in_bounds { body_cells * (y + 1) ≤ length stack.old }
-    ensures assigns { (vs : List Variable) → Running rows.now limits.now (lent_in memory.old) vs → n < length vs
-        → Assigns (number_of result) rows.now limits.now (lent_in memory.old) (lent_in memory.new) (yoke_changed vs n (yoke_tree rows.now y)) }
-    ensures cells_same { memory.new.cells.now ≡ memory.old.cells.now }
-    ensures bodies_same { memory.new.bodies.now ≡ memory.old.bodies.now }
-    ensures same_slices { SameSlices memory.old memory.new }
+    ensures { (vs : List Variable) → Running rows.now limits.now (lent cells.now states.old bodies.now) vs → n < length vs
+        → Assigns (number_of result) rows.now limits.now (lent cells.now states.old bodies.now) (lent cells.now states.new bodies.now) (yoke_changed vs n (yoke_tree rows.now y)) }
 {
-    yoke_holds(rows, &memory.seen(), n, usize::from(y), stack)?;
-    set_yoke(memory.states, n, y);
+    let seen = Seen {
+        bodies,
+        cells,
+        states: &*states,
+    };
+    yoke_holds(rows, &seen, n, usize::from(y), stack)?;
+    set_yoke(states, n, y);
     Ok(())
 }

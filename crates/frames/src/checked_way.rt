@@ -33,7 +33,20 @@ impl Way for Checked {
         y: u16,
         stack: &mut [i64],
     ) -> Result<(), Error> {
-        checked_store::change::change_yoke(context.rows, context.limits, memory, n, y, stack)
+        // What is read and what is written are lent apart.
+        let bodies = &mut *memory.bodies;
+        let cells = &mut *memory.cells;
+        let states = &mut *memory.states;
+        checked_store::change::change_yoke(
+            context.rows,
+            context.limits,
+            bodies,
+            cells,
+            states,
+            n,
+            y,
+            stack,
+        )
     }
 
     fn test(context: &Context, memory: &Seen, e: usize, stack: &mut [i64]) -> Result<bool, Error> {

@@ -38,11 +38,15 @@ impl Way for Erased {
         y: u16,
         stack: &mut [i64],
     ) -> Result<(), Error> {
+        // What is read and what is written are lent apart.
+        let cells = &mut *memory.cells;
+        let states = &mut *memory.states;
         erased_store::change::change_yoke(
             context.rows,
             context.layout,
             context.limits,
-            memory,
+            cells,
+            states,
             n,
             y,
             stack,

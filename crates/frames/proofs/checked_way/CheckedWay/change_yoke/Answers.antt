@@ -8,4 +8,4 @@ pub change_yoke-requires-clause-has_running : goal.change_yoke-requires-clause-h
 change_yoke-requires-clause-has_running c = (record { store = c.requires.standing.store; running = checked_running c.requires.standing.holds; there = omega (arith, c.requires.standing.of_scope.declared, c.requires.standing.holds.count) })
 
 pub returns-clause-stores : goal.returns-clause-stores
-returns-clause-stores c = checked_stores _ _ (λ vs. changed_long vs _ _) (λ a vs q r k. c.change_yoke.ensures.assigns vs r (omega (arith, q.declared, k)))
+returns-clause-stores c = checked_stores _ _ (λ vs. changed_long vs _ _) (λ a vs q r k. c.change_yoke.ensures vs r (omega (arith, q.declared, k)))
